@@ -1,7 +1,7 @@
 //! An actor of the user's own.
 
 ghost use Rattle.std.specs.Prelude.{◌≡◌, ◌+◌, ◌-◌, ◌^◌, min};
-ghost use Rattle.rs_core.specs.Choosing.{draws-well};
+ghost use Rattle.rs_core.specs.Choosing.{draws_well};
 ghost use Rattle.rs_core.specs.Draws.{by_draws};
 
 use rs_core::{Actor, SeededActor};
@@ -43,7 +43,7 @@ impl Actor for CountingActor {
         Ok(())
     }
 
-    ghost chooses_well = { λ x arms some. draws-well x.draws arms some };
+    ghost chooses_well = { λ x arms some. draws_well x.draws arms some };
 }
 
 /// An actor for each of two roles.

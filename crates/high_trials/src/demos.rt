@@ -4,7 +4,7 @@ ghost use Rattle.std.specs.Prelude.{◌≡◌, true};
 ghost use Rattle.rs_demos.specs.Sessions.{has_session};
 ghost use Rattle.rs_model.specs.declared.demos.Demo.TheVariants as demo;
 
-use crate::runs::{Queues, session_run};
+use crate::runs::{QueueKind, session_run};
 use rs_core::{Outcome, Run};
 use rs_demos::{demo_actors, demo_document, demo_output};
 use rs_model::{Demo, NoMemory};
@@ -27,7 +27,7 @@ fn printed(alloc: Global, kind: Demo, count: u8, bytes: &[u8]) -> Option<Text>
         alloc,
         text.as_slice(),
         actors,
-        Queues::RingsOfTheRoom,
+        QueueKind::RingsOfTheRoom,
         4_096,
     ) {
         Some(

@@ -1,5 +1,22 @@
 //! The documents whose sessions are tried.
 
+use rs_answers::{AcceptedDocument, accept_document};
+use rs_documents::read_document;
+use rs_model::Bound;
+use rs_safety::Accepted;
+use std::alloc::Global;
+
+/// The session of a text: none where it is refused, or memory was.
+pub(crate) fn accepted_of(alloc: Global, text: &[u8]) -> Option<Accepted> {
+    let Ok(document) = read_document(alloc, text) else {
+        return None;
+    };
+    match accept_document(alloc, document, Bound::standard()) {
+        Ok(AcceptedDocument { session, .. }) => Some(session),
+        Err(_refused) => None,
+    }
+}
+
 /// Double buffering, one ready ahead.
 pub(crate) const BUFFERING: &[u8] =
     b"roles K, S, T\nprotocol rec X. K->S:ready(). T->K:ready(). S->K{copy(bytes). K->T:copy(bytes). X, stop(). K->S:ready(). K->T:stop(). end}\nmachine K: S!ready(). rec X. S!ready(). T?ready(). S?{copy(bytes). T!copy(bytes). X, stop(). T!stop(). end}\n";

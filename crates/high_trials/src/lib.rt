@@ -13,6 +13,8 @@ mod documents;
 #[cfg(test)]
 mod gates;
 #[cfg(test)]
+mod pipelines;
+#[cfg(test)]
 mod played;
 #[cfg(test)]
 mod rings;

@@ -2,10 +2,9 @@
 
 use crate::counting::{CountingActor, counting};
 use crate::documents::{BUFFERING, ENDLESS_BUFFERING, LISTS, SWAPPED, TWICE};
-use crate::runs::{Queues, seeded, session_run};
+use crate::runs::{QueueKind, seeded, session_run};
 use crate::transcripts::{Words, text_of};
-use rs_core::Run;
-use rs_exec::ExecFault;
+use rs_core::{Run, RunFault};
 use rs_model::{NoMemory, Role};
 use rs_text::Text;
 use std::alloc::Global;
@@ -24,7 +23,7 @@ fn taken_by(actors: &[CountingActor]) -> u64 {
 }
 
 /// How many messages came, and the transcripts.
-fn told(alloc: Global, text: &[u8], queues: Queues) -> Result<Text, NoMemory> {
+fn told(alloc: Global, text: &[u8], queues: QueueKind) -> Result<Text, NoMemory> {
     let mut told = Text::new(alloc);
     if let Some(Ok(run)) = session_run(alloc, text, counting(alloc)?, queues, 1_000_000) {
         told.push_number(taken_by(run.actors.as_slice()))?;
@@ -38,13 +37,13 @@ fn told(alloc: Global, text: &[u8], queues: Queues) -> Result<Text, NoMemory> {
 fn sessions_end(rt: HostRuntime) -> Result<(), Fail> {
     let alloc = rt.alloc();
     let swapped = b"2\nB!x.B?y.\nA!y.A?x.\n".as_slice();
-    assert!(rt; told(alloc, SWAPPED, Queues::Rings(11))?.as_slice() == swapped);
-    assert!(rt; told(alloc, SWAPPED, Queues::Unbounded)?.as_slice() == swapped);
+    assert!(rt; told(alloc, SWAPPED, QueueKind::Rings(11))?.as_slice() == swapped);
+    assert!(rt; told(alloc, SWAPPED, QueueKind::Unbounded)?.as_slice() == swapped);
     let twice = b"4\nB!x.B!x.B?y.B?y.\nA!y.A!y.A?x.A?x.\n".as_slice();
-    assert!(rt; told(alloc, TWICE, Queues::Rings(11))?.as_slice() == twice);
-    assert!(rt; told(alloc, TWICE, Queues::Unbounded)?.as_slice() == twice);
+    assert!(rt; told(alloc, TWICE, QueueKind::Rings(11))?.as_slice() == twice);
+    assert!(rt; told(alloc, TWICE, QueueKind::Unbounded)?.as_slice() == twice);
     let lists = b"1\nB!x.\nA?x.\n".as_slice();
-    assert!(rt; told(alloc, LISTS, Queues::Unbounded)?.as_slice() == lists);
+    assert!(rt; told(alloc, LISTS, QueueKind::Unbounded)?.as_slice() == lists);
     Ok(())
 }
 
@@ -53,16 +52,16 @@ fn fault_of(
     alloc: Global,
     text: &[u8],
     roles: u8,
-    queues: Queues,
-) -> Result<Option<ExecFault>, NoMemory> {
+    queues: QueueKind,
+) -> Result<Option<RunFault>, NoMemory> {
     match session_run(alloc, text, seeded(alloc, roles, 0)?, queues, 1_000_000) {
         Some(Err(fault)) => Ok(Some(fault)),
         _ => Ok(None),
     }
 }
 
-fn full(sent: u64) -> ExecFault {
-    ExecFault::Full {
+fn full(sent: u64) -> RunFault {
+    RunFault::Full {
         sender: Role(0),
         receiver: Role(1),
         sent,
@@ -73,9 +72,9 @@ fn full(sent: u64) -> ExecFault {
 #[test]
 fn full_queues_are_told(rt: HostRuntime) -> Result<(), Fail> {
     let alloc = rt.alloc();
-    assert!(rt; fault_of(alloc, TWICE, 2, Queues::Rings(1))? == Some(full(1)));
+    assert!(rt; fault_of(alloc, TWICE, 2, QueueKind::Rings(1))? == Some(full(1)));
     // K's first act finds its queue full, T's too, and S waits
-    assert!(rt; fault_of(alloc, BUFFERING, 3, Queues::Bounded(0))? == Some(full(0)));
+    assert!(rt; fault_of(alloc, BUFFERING, 3, QueueKind::Bounded(0))? == Some(full(0)));
     Ok(())
 }
 
@@ -84,7 +83,7 @@ const BUFFERING_ROLES: Words = ["K", "S", "T"];
 const BUFFERING_LABELS: Words = ["ready", "copy", "stop"];
 
 /// How a seeded run of double buffering ends, with how many actors.
-fn buffered(alloc: Global, text: &[u8], queues: Queues, limit: u32) -> Result<Text, NoMemory> {
+fn buffered(alloc: Global, text: &[u8], queues: QueueKind, limit: u32) -> Result<Text, NoMemory> {
     match session_run(alloc, text, seeded(alloc, 3, 0)?, queues, limit) {
         Some(Ok(run)) => {
             let mut told = text_of(alloc, &run, &BUFFERING_ROLES, &BUFFERING_LABELS)?;
@@ -101,10 +100,10 @@ fn double_buffering_ends(rt: HostRuntime) -> Result<(), Fail> {
     let alloc = rt.alloc();
     let wanted =
         b"S!ready.S!ready.T?ready.S?copy 129 107 75.T!copy.S!ready.T?ready.S?stop.T!stop.\nK?ready.K!copy.K?ready.K!stop.K?ready.\nK!ready.K?copy 170 31.K!ready.K?stop.\n by 3".as_slice();
-    assert!(rt; buffered(alloc, BUFFERING, Queues::Unbounded, 100)?.as_slice() == wanted);
-    assert!(rt; buffered(alloc, BUFFERING, Queues::Bounded(1), 100)?.as_slice() == wanted);
-    assert!(rt; buffered(alloc, BUFFERING, Queues::Bounded(2), 100)?.as_slice() == wanted);
-    assert!(rt; buffered(alloc, BUFFERING, Queues::Bounded(16), 100)?.as_slice() == wanted);
+    assert!(rt; buffered(alloc, BUFFERING, QueueKind::Unbounded, 100)?.as_slice() == wanted);
+    assert!(rt; buffered(alloc, BUFFERING, QueueKind::Bounded(1), 100)?.as_slice() == wanted);
+    assert!(rt; buffered(alloc, BUFFERING, QueueKind::Bounded(2), 100)?.as_slice() == wanted);
+    assert!(rt; buffered(alloc, BUFFERING, QueueKind::Bounded(16), 100)?.as_slice() == wanted);
     Ok(())
 }
 
@@ -112,8 +111,8 @@ fn double_buffering_ends(rt: HostRuntime) -> Result<(), Fail> {
 fn limits_stop(rt: HostRuntime) -> Result<(), Fail> {
     let alloc = rt.alloc();
     let wanted = b"stopped 0 by 3".as_slice();
-    assert!(rt; buffered(alloc, BUFFERING, Queues::Unbounded, 3)?.as_slice() == wanted);
-    assert!(rt; buffered(alloc, ENDLESS_BUFFERING, Queues::Rings(16), 3)?.as_slice() == wanted);
-    assert!(rt; buffered(alloc, ENDLESS_BUFFERING, Queues::Unbounded, 3)?.as_slice() == wanted);
+    assert!(rt; buffered(alloc, BUFFERING, QueueKind::Unbounded, 3)?.as_slice() == wanted);
+    assert!(rt; buffered(alloc, ENDLESS_BUFFERING, QueueKind::Rings(16), 3)?.as_slice() == wanted);
+    assert!(rt; buffered(alloc, ENDLESS_BUFFERING, QueueKind::Unbounded, 3)?.as_slice() == wanted);
     Ok(())
 }

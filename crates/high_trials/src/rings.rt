@@ -3,16 +3,12 @@
 ghost use Rattle.std.specs.Prelude.{◌≡◌, length};
 ghost use Rattle.rs_model.specs.Limits.{IsCapacity};
 ghost use Rattle.rs_core.specs.Configurations.{role_of};
-ghost use Rattle.rs_documents.specs.Reading.{DocumentIsReady};
 
-use crate::documents::TWICE;
-use rs_answers::{DerivedSession, accept_derived, derived_session};
+use crate::documents::{TWICE, accepted_of};
 use rs_core::Event;
-use rs_documents::{Document, read_document};
 use rs_model::{Role, Value};
 use rs_room::{Bounded, BoundedFault};
 use rs_safety::Accepted;
-use rs_words::DEFAULT_BOUND;
 use std::alloc::Global;
 
 /// The room, who can go on after both roles have sent once by their first arms, and why the first one can't send again.
@@ -61,36 +57,14 @@ fn told_of(alloc: Global, accepted: &Accepted, capacity: u16) -> Option<RingsTol
     })
 }
 
-fn document_told(alloc: Global, document: &Document, capacity: u16) -> Option<RingsTold>
-    requires ready { DocumentIsReady document.now }
-    requires roles { length document.now.names.roles ≡ document.now.protocol.roles }
-    requires capacity { IsCapacity capacity }
-{
-    let DerivedSession {
-        projections,
-        machines,
-        derivations,
-    } = match derived_session(alloc, document, DEFAULT_BOUND) {
-        Ok(session) => session,
-        Err(_refusal) => return None,
-    };
-    let accepted = accept_derived(
-        &document.protocol,
-        projections.as_slice(),
-        machines,
-        derivations.as_slice(),
-    );
-    told_of(alloc, &accepted, capacity)
-}
-
 /// What is told of the text's session over rings of that capacity: none where it isn't accepted, the two roles can't send,
 /// or memory was refused.
 fn rings_of(alloc: Global, text: &[u8], capacity: u16) -> Option<RingsTold>
     requires { IsCapacity capacity }
 {
-    match read_document(alloc, text) {
-        Ok(document) => document_told(alloc, &document, capacity),
-        Err(_fault) => None,
+    match accepted_of(alloc, text) {
+        Some(accepted) => told_of(alloc, &accepted, capacity),
+        None => None,
     }
 }
 

@@ -1,17 +1,14 @@
 //! How a text's session runs.
 
-ghost use Rattle.std.specs.Prelude.{◌≡◌, ◌≤◌, length, IfOk};
+ghost use Rattle.std.specs.Prelude.{◌≤◌};
 ghost use Rattle.rs_model.specs.declared.limits.TheConstants.{MOST_WORKERS};
-ghost use Rattle.rs_documents.specs.Reading.{DocumentIsReady};
 
-use rs_answers::{DerivedSession, accept_derived, derived_session};
+use crate::documents::accepted_of;
 use rs_core::{Actor, Run, RunFault, SeededActor, run_bounded, run_plain};
-use rs_documents::{Document, read_document};
-use rs_exec::{ExecFault, Ran, run_inline};
-use rs_model::{MOST_CAPACITY, Machine, NoMemory, Role};
+use rs_exec::{Ran, run_inline};
+use rs_model::{MOST_CAPACITY, NoMemory, Role, copies_of};
 use rs_pool::{Gate, run_pool};
 use rs_safety::Accepted;
-use rs_words::DEFAULT_BOUND;
 use std::alloc::Global;
 use std::sync::Wait;
 use std::thread::Threads;
@@ -55,19 +52,9 @@ fn pooled<R: Threads + Wait + Sync, A: Actor + Send, G: Gate + Sync>(
     }
 }
 
-pub(crate) fn copies_of(alloc: Global, machines: &[Machine]) -> Result<Vec<Machine>, NoMemory>
-    ensures { IfOk result (λ copies. copies.items ≡ machines.now) }
-{
-    let mut copies = Vec::with_capacity(alloc, machines.len())?;
-    for machine in machines {
-        copies.push(machine.copy(alloc)?)?;
-    }
-    Ok(copies)
-}
-
 /// The queues of a run on one thread: without a bound, bounded ones, or rings, of a capacity or of the room that the session needs.
 #[derive(Clone, Copy)]
-pub(crate) enum Queues {
+pub(crate) enum QueueKind {
     Unbounded,
     Bounded(usize),
     Rings(u16),
@@ -80,7 +67,7 @@ fn plainly<A: Actor>(
     accepted: &Accepted,
     actors: Vec<A>,
     limit: u32,
-) -> Option<Result<Run<A>, ExecFault>> {
+) -> Option<Result<Run<A>, RunFault>> {
     if actors.len() != accepted.machines().len() {
         return None;
     }
@@ -100,34 +87,16 @@ fn boundedly<A: Actor>(
     actors: Vec<A>,
     capacity: usize,
     limit: u32,
-) -> Option<Result<Run<A>, ExecFault>> {
+) -> Option<Result<Run<A>, RunFault>> {
     if actors.len() != accepted.machines().len() {
         return None;
     }
     match copies_of(alloc, accepted.machines()) {
         Ok(machines) => match run_bounded(alloc, machines, actors, capacity, limit) {
             Ok(run) => Some(Ok(run)),
-            Err(fault) => Some(Err(with_rings(fault))),
+            Err(fault) => Some(Err(fault)),
         },
         Err(_) => None,
-    }
-}
-
-/// The same fault of a run over rings.
-fn with_rings(fault: RunFault) -> ExecFault {
-    match fault {
-        RunFault::Full {
-            sender,
-            receiver,
-            sent,
-            taken,
-        } => ExecFault::Full {
-            sender,
-            receiver,
-            sent,
-            taken,
-        },
-        RunFault::NoMemory => ExecFault::NoMemory,
     }
 }
 
@@ -138,7 +107,7 @@ fn inlined<A: Actor>(
     actors: Vec<A>,
     capacity: u64,
     limit: u32,
-) -> Option<Result<Run<A>, ExecFault>> {
+) -> Option<Result<Run<A>, RunFault>> {
     if actors.len() != accepted.machines().len()
         || capacity < 1
         || capacity > u64::from(MOST_CAPACITY)
@@ -155,73 +124,15 @@ fn run_over<A: Actor>(
     alloc: Global,
     accepted: &Accepted,
     actors: Vec<A>,
-    queues: Queues,
+    queues: QueueKind,
     limit: u32,
-) -> Option<Result<Run<A>, ExecFault>> {
+) -> Option<Result<Run<A>, RunFault>> {
     match queues {
-        Queues::Unbounded => plainly(alloc, accepted, actors, limit),
-        Queues::Bounded(capacity) => boundedly(alloc, accepted, actors, capacity, limit),
-        Queues::Rings(capacity) => inlined(alloc, accepted, actors, u64::from(capacity), limit),
-        Queues::RingsOfTheRoom => inlined(alloc, accepted, actors, accepted.room(), limit),
+        QueueKind::Unbounded => plainly(alloc, accepted, actors, limit),
+        QueueKind::Bounded(capacity) => boundedly(alloc, accepted, actors, capacity, limit),
+        QueueKind::Rings(capacity) => inlined(alloc, accepted, actors, u64::from(capacity), limit),
+        QueueKind::RingsOfTheRoom => inlined(alloc, accepted, actors, accepted.room(), limit),
     }
-}
-
-/// The run of the document's session by workers.
-fn document_by<R: Threads + Wait + Sync, A: Actor + Send, G: Gate + Sync>(
-    rt: &R,
-    alloc: Global,
-    document: &Document,
-    actors: Vec<A>,
-    how: HowToRun,
-    gate: &G,
-) -> Option<Run<A>>
-    requires ready { DocumentIsReady document.now }
-    requires roles { length document.now.names.roles ≡ document.now.protocol.roles }
-    requires workers { (1 ≤ how.workers) × (how.workers ≤ MOST_WORKERS) }
-{
-    let DerivedSession {
-        projections,
-        machines,
-        derivations,
-    } = match derived_session(alloc, document, DEFAULT_BOUND) {
-        Ok(session) => session,
-        Err(_refusal) => return None,
-    };
-    let accepted = accept_derived(
-        &document.protocol,
-        projections.as_slice(),
-        machines,
-        derivations.as_slice(),
-    );
-    pooled(rt, alloc, &accepted, actors, how, gate)
-}
-
-/// The run of the document's session on this thread.
-fn document_run<A: Actor>(
-    alloc: Global,
-    document: &Document,
-    actors: Vec<A>,
-    queues: Queues,
-    limit: u32,
-) -> Option<Result<Run<A>, ExecFault>>
-    requires ready { DocumentIsReady document.now }
-    requires roles { length document.now.names.roles ≡ document.now.protocol.roles }
-{
-    let DerivedSession {
-        projections,
-        machines,
-        derivations,
-    } = match derived_session(alloc, document, DEFAULT_BOUND) {
-        Ok(session) => session,
-        Err(_refusal) => return None,
-    };
-    let accepted = accept_derived(
-        &document.protocol,
-        projections.as_slice(),
-        machines,
-        derivations.as_slice(),
-    );
-    run_over(alloc, &accepted, actors, queues, limit)
 }
 
 /// The run of the text's session by workers: none where the text is refused, there isn't an actor for each role, or memory was
@@ -236,9 +147,9 @@ pub(crate) fn pool_run<R: Threads + Wait + Sync, A: Actor + Send, G: Gate + Sync
 ) -> Option<Run<A>>
     requires { (1 ≤ how.workers) × (how.workers ≤ MOST_WORKERS) }
 {
-    match read_document(alloc, text) {
-        Ok(document) => document_by(rt, alloc, &document, actors, how, gate),
-        Err(_) => None,
+    match accepted_of(alloc, text) {
+        Some(accepted) => pooled(rt, alloc, &accepted, actors, how, gate),
+        None => None,
     }
 }
 
@@ -248,12 +159,12 @@ pub(crate) fn session_run<A: Actor>(
     alloc: Global,
     text: &[u8],
     actors: Vec<A>,
-    queues: Queues,
+    queues: QueueKind,
     limit: u32,
-) -> Option<Result<Run<A>, ExecFault>> {
-    match read_document(alloc, text) {
-        Ok(document) => document_run(alloc, &document, actors, queues, limit),
-        Err(_) => None,
+) -> Option<Result<Run<A>, RunFault>> {
+    match accepted_of(alloc, text) {
+        Some(accepted) => run_over(alloc, &accepted, actors, queues, limit),
+        None => None,
     }
 }
 

@@ -1,25 +1,22 @@
-// Stages and tasks on documents.
+//! Stages and tasks on documents.
+
 ghost use Rattle.std.specs.Prelude.{◌≡◌, ◌++◌, ◌∷◌, [], None, IfOk, IfSome, length};
 ghost use Rattle.rs_model.specs.Limits.{IsCapacity};
-ghost use Rattle.rs_documents.specs.Reading.{DocumentIsReady};
 ghost use Rattle.rs_exec.specs.Polling.{HasStopped};
 ghost use Rattle.rs_exec.specs.Tasks.{IsTaskOf};
 ghost use Rattle.rs_session.specs.Stages.{AreFirst, IsEnded, sight_of_stage};
 ghost use Rattle.rs_session.specs.declared.stages.Stage.TheVariants as kind;
 
-use crate::documents::{ONCE, TWICE};
+use crate::documents::{ONCE, TWICE, accepted_of};
 use crate::transcripts::push_entries;
 use futures::executor::block_on;
-use rs_answers::{DerivedSession, accept_derived, derived_session};
 use rs_core::{Entry, SeededActor};
-use rs_documents::{Document, read_document};
 use rs_exec::{RoleFuture, RoleTask, SessionName, SessionTask, Turn, Why};
 use rs_model::{Label, NoMemory, Role, Value};
 use rs_rings::{Closed, Loose};
 use rs_safety::Accepted;
 use rs_session::{CloseFault, Ended, Left, LeftFault, LeftOver, Session, Stage};
 use rs_text::Text;
-use rs_words::DEFAULT_BOUND;
 use std::alloc::{AllocGlobal, Global};
 use std::io;
 use std::marker::Brand;
@@ -39,41 +36,14 @@ fn begun(alloc: Global, accepted: &Accepted, capacity: u16) -> Option<(Session, 
     }
 }
 
-fn document_begun(
-    alloc: Global,
-    document: &Document,
-    capacity: u16,
-) -> Option<(Session, Vec<Stage>)>
-    requires ready { DocumentIsReady document.now }
-    requires roles { length document.now.names.roles ≡ document.now.protocol.roles }
-    requires capacity { IsCapacity capacity }
-    ensures { IfSome result (λ begun. AreFirst begun.0 begun.1.items) }
-{
-    let DerivedSession {
-        projections,
-        machines,
-        derivations,
-    } = match derived_session(alloc, document, DEFAULT_BOUND) {
-        Ok(session) => session,
-        Err(_refusal) => return None,
-    };
-    let accepted = accept_derived(
-        &document.protocol,
-        projections.as_slice(),
-        machines,
-        derivations.as_slice(),
-    );
-    begun(alloc, &accepted, capacity)
-}
-
 /// The session of a text, and its first stages.
 fn begun_of(alloc: Global, text: &[u8], capacity: u16) -> Option<(Session, Vec<Stage>)>
     requires { IsCapacity capacity }
     ensures { IfSome result (λ begun. AreFirst begun.0 begun.1.items) }
 {
-    match read_document(alloc, text) {
-        Ok(document) => document_begun(alloc, &document, capacity),
-        Err(_fault) => None,
+    match accepted_of(alloc, text) {
+        Some(accepted) => begun(alloc, &accepted, capacity),
+        None => None,
     }
 }
 

@@ -2,17 +2,13 @@
 
 ghost use Rattle.std.specs.Prelude.{◌≡◌, ◌<◌, ◌≤◌, length};
 ghost use Rattle.rs_core.specs.Configurations.{role_of};
-ghost use Rattle.rs_documents.specs.Reading.{DocumentIsReady};
 
-use crate::documents::BUFFERING;
+use crate::documents::{BUFFERING, accepted_of};
 use crate::taken::after;
-use rs_answers::{DerivedSession, accept_derived, derived_session};
 use rs_core::{Core, Event, StepFault, Stepped};
-use rs_documents::{Document, read_document};
 use rs_model::{Label, NoMemory, Role, Value};
 use rs_safety::Accepted;
 use rs_text::Text;
-use rs_words::DEFAULT_BOUND;
 use std::alloc::Global;
 
 fn word_of(fault: StepFault) -> &'static str {
@@ -100,31 +96,10 @@ fn told_of(alloc: Global, accepted: &Accepted) -> Option<Text> {
     }
 }
 
-fn document_steps(alloc: Global, document: &Document) -> Option<Text>
-    requires ready { DocumentIsReady document.now }
-    requires roles { length document.now.names.roles ≡ document.now.protocol.roles }
-{
-    let DerivedSession {
-        projections,
-        machines,
-        derivations,
-    } = match derived_session(alloc, document, DEFAULT_BOUND) {
-        Ok(session) => session,
-        Err(_refusal) => return None,
-    };
-    let accepted = accept_derived(
-        &document.protocol,
-        projections.as_slice(),
-        machines,
-        derivations.as_slice(),
-    );
-    told_of(alloc, &accepted)
-}
-
 fn steps_of(alloc: Global, text: &[u8]) -> Option<Text> {
-    match read_document(alloc, text) {
-        Ok(document) => document_steps(alloc, &document),
-        Err(_fault) => None,
+    match accepted_of(alloc, text) {
+        Some(accepted) => told_of(alloc, &accepted),
+        None => None,
     }
 }
 

@@ -2,17 +2,12 @@
 
 ghost use Rattle.std.specs.Prelude.{◌≡◌, ◌≢◌, ◌<◌, ◌^◌, IfOk, IfSome, length};
 ghost use Rattle.rs_core.specs.Configurations.{role_of};
-ghost use Rattle.rs_documents.specs.Reading.{DocumentIsReady};
 
-use crate::documents::{BUFFERING, ENDLESS_SENDS, SWAPPED};
-use crate::runs::copies_of;
+use crate::documents::{BUFFERING, ENDLESS_SENDS, SWAPPED, accepted_of};
 use rs_alive::{AliveFault, taken_within};
-use rs_answers::{DerivedSession, accept_derived, derived_session};
 use rs_core::{Core, Event};
-use rs_documents::{Document, read_document};
-use rs_model::{NoMemory, Octets, Role, Value};
+use rs_model::{NoMemory, Octets, Role, Value, copies_of};
 use rs_safety::Accepted;
-use rs_words::DEFAULT_BOUND;
 use std::alloc::Global;
 use std::test::Fail;
 
@@ -113,7 +108,7 @@ fn is_taken(
     requires sender { sender.0 < length accepted.now.machines }
     requires receiver { receiver.0 < length accepted.now.machines }
     requires apart { sender.0 ≢ receiver.0 }
-    requires few { length past.now < 2 ^ 32 }
+    requires bounded { length past.now < 2 ^ 32 }
 {
     let Some(mut core) = after(alloc, accepted, past) else {
         return false;
@@ -145,7 +140,7 @@ fn all_taken(
 ) -> bool
     requires sender { sender.0 < length accepted.now.machines }
     requires receiver { receiver.0 < length accepted.now.machines }
-    requires few { length past.now < 2 ^ 32 }
+    requires bounded { length past.now < 2 ^ 32 }
 {
     if sender.0 == receiver.0 {
         return true;
@@ -189,36 +184,14 @@ fn each_taken(alloc: Global, accepted: &Accepted, past: &[Event]) -> bool
     true
 }
 
-fn is_document_taken(alloc: Global, document: &Document, past: &[Event]) -> bool
-    requires ready { DocumentIsReady document.now }
-    requires roles { length document.now.names.roles ≡ document.now.protocol.roles }
-    requires short { length past.now < 2 ^ 32 }
-{
-    let DerivedSession {
-        projections,
-        machines,
-        derivations,
-    } = match derived_session(alloc, document, DEFAULT_BOUND) {
-        Ok(session) => session,
-        Err(_refusal) => return false,
-    };
-    let accepted = accept_derived(
-        &document.protocol,
-        projections.as_slice(),
-        machines,
-        derivations.as_slice(),
-    );
-    each_taken(alloc, &accepted, past)
-}
-
 /// Whether the text's session is accepted, and after each of the first events of the past every message in a queue is
 /// taken by what is answered.
 fn are_taken(alloc: Global, text: &[u8], past: &[Event]) -> bool
     requires { length past.now < 2 ^ 32 }
 {
-    match read_document(alloc, text) {
-        Ok(document) => is_document_taken(alloc, &document, past),
-        Err(_fault) => false,
+    match accepted_of(alloc, text) {
+        Some(accepted) => each_taken(alloc, &accepted, past),
+        None => false,
     }
 }
 
@@ -242,35 +215,6 @@ fn answer_of(
     }
 }
 
-fn document_answer(
-    alloc: Global,
-    document: &Document,
-    past: &[Event],
-    sender: Role,
-    receiver: Role,
-    place: u32,
-) -> Option<Result<Vec<Event>, AliveFault>>
-    requires ready { DocumentIsReady document.now }
-    requires roles { length document.now.names.roles ≡ document.now.protocol.roles }
-    requires short { length past.now < 2 ^ 32 }
-{
-    let DerivedSession {
-        projections,
-        machines,
-        derivations,
-    } = match derived_session(alloc, document, DEFAULT_BOUND) {
-        Ok(session) => session,
-        Err(_refusal) => return None,
-    };
-    let accepted = accept_derived(
-        &document.protocol,
-        projections.as_slice(),
-        machines,
-        derivations.as_slice(),
-    );
-    answer_of(alloc, &accepted, past, sender, receiver, place)
-}
-
 /// What is answered for the message at the place, after the past, of the text's session: none where it isn't accepted.
 fn taken_of(
     alloc: Global,
@@ -282,9 +226,9 @@ fn taken_of(
 ) -> Option<Result<Vec<Event>, AliveFault>>
     requires { length past.now < 2 ^ 32 }
 {
-    match read_document(alloc, text) {
-        Ok(document) => document_answer(alloc, &document, past, sender, receiver, place),
-        Err(_fault) => None,
+    match accepted_of(alloc, text) {
+        Some(accepted) => answer_of(alloc, &accepted, past, sender, receiver, place),
+        None => None,
     }
 }
 

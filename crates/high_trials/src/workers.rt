@@ -4,7 +4,7 @@ ghost use Rattle.std.specs.Prelude.{◌≡◌, ◌≤◌, true};
 ghost use Rattle.rs_demos.specs.Sessions.{has_session};
 
 use crate::documents::{BUFFERING, ENDLESS};
-use crate::runs::{HowToRun, Queues, pool_run, seeded, session_run};
+use crate::runs::{HowToRun, QueueKind, pool_run, seeded, session_run};
 use rs_core::{Actor, Outcome, Run};
 use rs_demos::{demo_actors, demo_document, demo_output};
 use rs_model::Demo;
@@ -31,7 +31,7 @@ fn plain_text(alloc: Global, seed: u32) -> Result<Option<String>, Fail> {
         alloc,
         BUFFERING,
         seeded(alloc, 3, seed)?,
-        Queues::Unbounded,
+        QueueKind::Unbounded,
         1000,
     ) {
         Some(Ok(run)) => text_of(alloc, &run),

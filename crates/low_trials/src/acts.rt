@@ -1,7 +1,7 @@
 //! The earliest of pending acts.
 
 use rs_model::{Act, Label, NoMemory, Role, Sort};
-use rs_prefix::{Found, Kind, Pending};
+use rs_prefix::{ActKind, Found, Pending};
 use std::alloc::Global;
 use std::test::Fail;
 
@@ -26,23 +26,23 @@ fn pending(alloc: Global, signs: &str) -> Result<Pending, NoMemory> {
     Ok(acts)
 }
 
-fn earliest(alloc: Global, signs: &str, kind: Kind) -> Result<Found, NoMemory> {
+fn earliest(alloc: Global, signs: &str, kind: ActKind) -> Result<Found, NoMemory> {
     Ok(pending(alloc, signs)?.find(kind, Role(1)))
 }
 
 #[test]
 fn the_earliest_act(rt: HostRuntime) -> Result<(), Fail> {
     let alloc = rt.alloc();
-    assert!(rt; earliest(alloc, "", Kind::Send)? == Found::Absent);
-    assert!(rt; earliest(alloc, "", Kind::Receive)? == Found::Absent);
+    assert!(rt; earliest(alloc, "", ActKind::Send)? == Found::Absent);
+    assert!(rt; earliest(alloc, "", ActKind::Receive)? == Found::Absent);
     // a send passes receives, and sends to others
-    assert!(rt; earliest(alloc, "?1 !2 !1 !1", Kind::Send)? == Found::At(2));
-    assert!(rt; earliest(alloc, "?1 !2", Kind::Send)? == Found::Absent);
+    assert!(rt; earliest(alloc, "?1 !2 !1 !1", ActKind::Send)? == Found::At(2));
+    assert!(rt; earliest(alloc, "?1 !2", ActKind::Send)? == Found::Absent);
     // a receive passes receives from others, and no send
-    assert!(rt; earliest(alloc, "?2 ?1 !1 ?1", Kind::Receive)? == Found::At(1));
-    assert!(rt; earliest(alloc, "?2 ?3", Kind::Receive)? == Found::Absent);
-    assert!(rt; earliest(alloc, "!2 ?1", Kind::Receive)? == Found::Blocked(0));
-    assert!(rt; earliest(alloc, "?2 !1 !3", Kind::Receive)? == Found::Blocked(1));
+    assert!(rt; earliest(alloc, "?2 ?1 !1 ?1", ActKind::Receive)? == Found::At(1));
+    assert!(rt; earliest(alloc, "?2 ?3", ActKind::Receive)? == Found::Absent);
+    assert!(rt; earliest(alloc, "!2 ?1", ActKind::Receive)? == Found::Blocked(0));
+    assert!(rt; earliest(alloc, "?2 !1 !3", ActKind::Receive)? == Found::Blocked(1));
     Ok(())
 }
 
@@ -57,6 +57,6 @@ fn acts_are_taken(rt: HostRuntime) -> Result<(), Fail> {
         sort: Sort::Unit,
     };
     assert!(rt; taken == wanted);
-    assert!(rt; acts.find(Kind::Send, Role(3)) == Found::At(1));
+    assert!(rt; acts.find(ActKind::Send, Role(3)) == Found::At(1));
     Ok(())
 }

@@ -1,11 +1,10 @@
-//! Derivations that no document spells, and the texts of pipelines.
+//! Derivations that no document spells.
 
 use crate::shapes::three_roles;
 use rs_derivations::read_derivation;
 use rs_derive::{DNode, Derivation, DeriveFault, check, longest, top_rank};
-use rs_graph::Row;
+use rs_graph::NodeRow;
 use rs_model::{Act, Label, Machine, NoMemory, Role, Sort, State};
-use rs_pipeline::{pipeline_of, pipeline_text};
 use rs_prefix::Pending;
 use rs_text::{Text, TextFault, TextKind, sound};
 use std::alloc::Global;
@@ -65,7 +64,7 @@ fn node(alloc: Global, pending: u16, state: u32, rank: u32, above: u32) -> Resul
         pending: acts,
         above,
         rank,
-        next: Row::new(alloc),
+        next: NodeRow::new(alloc),
     })
 }
 
@@ -118,20 +117,5 @@ fn derivations_have_figures(rt: HostRuntime) -> Result<(), Fail> {
         nodes,
     };
     assert!(rt; figures(&three) == Some((2, 3)));
-    Ok(())
-}
-
-const NONE_AHEAD: &str = "roles R0, R1\nprotocol rec X0. R0->R1:v(nat). R1->R0:ack(). X0\n";
-
-const ONE_AHEAD: &str =
-    "roles R0, R1, R2\nprotocol rec X0. R0->R1:v(nat). R1->R2:v(nat). R2->R0:ack(). R0->R1:v(nat). R1->R2:v(nat). R2->R0:ack(). X0\nmachine R0: R1!v(nat). rec X1. R1!v(nat). R2?ack(). X1\n";
-
-#[test]
-fn small_pipelines(rt: HostRuntime) -> Result<(), Fail> {
-    let alloc = rt.alloc();
-    let none_ahead = pipeline_text(alloc, pipeline_of(0))?;
-    assert!(rt; none_ahead.as_slice() == NONE_AHEAD.as_bytes());
-    let one_ahead = pipeline_text(alloc, pipeline_of(1))?;
-    assert!(rt; one_ahead.as_slice() == ONE_AHEAD.as_bytes());
     Ok(())
 }

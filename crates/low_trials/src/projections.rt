@@ -91,7 +91,7 @@ const DOUBLE_BUFFER: &str = "0>1:0u1 2>0:0u2 1>0:1b3,2u4 0>2:1b0 0>1:0u5 0>2:2u6
 const BACK_INTO_A_RUN: &str =
     "0>1:0u1 0>1:0u2,1u3 0>1:0u4 1>0:0u4 0>2:0u0,1u1,2u2,3u3,4u5 0>2:0u0,1u2,2u6 end";
 
-/// .. into one that ends at a choice of others, behind which role 2 meets one of two talks.
+/// Talks that lead back into a run that ends at a choice of others, behind which role 2 meets one of two talks.
 const BACK_BEFORE_A_CHOICE: &str =
     "0>1:0u1 0>1:0u2,1u3 0>2:0u4 0>2:1u5 0>2:0u0,1u1,2u6 0>2:0u1,1u6 end";
 

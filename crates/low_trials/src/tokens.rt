@@ -4,8 +4,8 @@ ghost use Rattle.std.specs.Prelude.{◌≤◌, length};
 
 use rs_model::NoMemory;
 use rs_text::{
-    FaultKind, Kind, Lexer, Stop, Text, TextFault, TextKind, Wanted, expected, fault, next_token,
-    number, place,
+    FaultKind, Lexer, Stop, Text, TextFault, TextKind, TokenKind, Wanted, expected, fault,
+    next_token, number, place,
 };
 use std::alloc::Global;
 use std::test::Fail;
@@ -13,23 +13,23 @@ use std::test::Fail;
 /// 65 bytes that could be a word, were they not one too many.
 const LONG: &[u8] = b"ab34567890b234567890c234567890d234567890e234567890f234567890g2345";
 
-fn letter_of(kind: Kind) -> &'static str {
+fn letter_of(kind: TokenKind) -> &'static str {
     match kind {
-        Kind::Word => "w",
-        Kind::Number => "n",
-        Kind::Arrow => "->",
-        Kind::Bang => "!",
-        Kind::Question => "?",
-        Kind::Colon => ":",
-        Kind::Dot => ".",
-        Kind::Comma => ",",
-        Kind::OpenBrace => "{",
-        Kind::CloseBrace => "}",
-        Kind::OpenParen => "(",
-        Kind::CloseParen => ")",
-        Kind::OpenBracket => "[",
-        Kind::CloseBracket => "]",
-        Kind::Finish => "end",
+        TokenKind::Word => "w",
+        TokenKind::Number => "n",
+        TokenKind::Arrow => "->",
+        TokenKind::Bang => "!",
+        TokenKind::Question => "?",
+        TokenKind::Colon => ":",
+        TokenKind::Dot => ".",
+        TokenKind::Comma => ",",
+        TokenKind::OpenBrace => "{",
+        TokenKind::CloseBrace => "}",
+        TokenKind::OpenParen => "(",
+        TokenKind::CloseParen => ")",
+        TokenKind::OpenBracket => "[",
+        TokenKind::CloseBracket => "]",
+        TokenKind::Finish => "end",
     }
 }
 
@@ -49,7 +49,7 @@ fn show_next(text: &mut Text, lexer: &mut Lexer) -> Result<bool, NoMemory> {
             text.push_number(token.from as u64)?;
             text.push(b"-")?;
             text.push_number(token.until as u64)?;
-            Ok(token.kind == Kind::Finish)
+            Ok(token.kind == TokenKind::Finish)
         }
         Err(fault) => {
             text.push(word_of(fault.kind).as_bytes())?;
@@ -186,7 +186,7 @@ fn tells_why_a_reading_stops(rt: HostRuntime) {
 fn tokens_say_what_they_are(rt: HostRuntime) {
     let text = b" rec a1 # no\n ;".as_slice();
     let binder = next_token(text, 0);
-    assert!(rt; binder.kind() == Ok(Kind::Word));
+    assert!(rt; binder.kind() == Ok(TokenKind::Word));
     assert!(rt; binder.word() == Some(b"rec".as_slice()));
     assert!(rt; binder.plain().is_none());
     assert!(rt; binder.from() == 1);

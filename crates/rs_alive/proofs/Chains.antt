@@ -10,15 +10,15 @@ use Rattle.rs_model.specs.declared.machines.State.TheVariants.{Done, Puts, Takes
 use Rattle.rs_core.specs.declared.messages.Message.{Message}
 use Rattle.rs_core.specs.Choices.{AreWellFormed}
 use Rattle.rs_core.specs.Configurations.{Configuration, state_at}
-use Rattle.rs_core.proofs.Stands.{here-is}
+use Rattle.rs_core.proofs.Stands.{here_is}
 use Rattle.rs_alive.specs.Schedule.{CanLeadOn, Chain, WaitsLeadOn, waits_by, waits_for}
 
--- who stands at a receive from an empty queue waits for its peer ..
+-- who stands at a receive from an empty queue waits for its peer
 pub waits : (ms : List Machine_data) (c : Configuration) (p : ℕ) (peer : Role) (arms : List Arm) → state_at ms c p ≡ Some (Takes peer arms) → c.queue peer.0 p ≡ []
     → waits_for ms c p ≡ Some peer
 waits ms c p peer arms h none = rw h (rw none refl)
 
--- .. and whoever stands elsewhere doesn't wait
+-- whoever doesn't stand at a receive from an empty queue doesn't wait
 pub goes : (ms : List Machine_data) (c : Configuration) (p : ℕ) (peer : Role) (arms : List Arm) → state_at ms c p ≡ Some (Puts peer arms) → waits_for ms c p ≡ None
 goes ms c p peer arms h = rw h refl
 
@@ -30,32 +30,32 @@ gets ms c p peer arms m later h some = elim (leb_tells 1 (length (c.queue peer.0
 ]
 
 -- for whom a role waits is one of the roles
-known-by : (ms : List Machine_data) (c : Configuration) → AreWellFormed ms → (p : ℕ) (peer : Role) (o : Option State) → state_at ms c p ≡ o → waits_by o (λ q. c.queue q p) ≡ Some peer
+known_by : (ms : List Machine_data) (c : Configuration) → AreWellFormed ms → (p : ℕ) (peer : Role) (o : Option State) → state_at ms c p ≡ o → waits_by o (λ q. c.queue q p) ≡ Some peer
     → peer.0 < length ms
-known-by ms c wf p peer None h w = absurd (cc (w))
-known-by ms c wf p peer (Some Done) h w = absurd (cc (w))
-known-by ms c wf p peer (Some (Puts q arms)) h w = absurd (cc (w))
-known-by ms c wf p peer (Some (Takes q arms)) h w = elim (leb_tells 1 (length (c.queue q.0 p))) [
+known_by ms c wf p peer None h w = absurd (cc (w))
+known_by ms c wf p peer (Some Done) h w = absurd (cc (w))
+known_by ms c wf p peer (Some (Puts q arms)) h w = absurd (cc (w))
+known_by ms c wf p peer (Some (Takes q arms)) h w = elim (leb_tells 1 (length (c.queue q.0 p))) [
   | inl t ↦ (let e : waits_by (Some (Takes q arms)) (λ r. c.queue r p) ≡ None = rw t.0 refl in absurd (cc (e, w)))
   | inr t ↦ (let e : waits_by (Some (Takes q arms)) (λ r. c.queue r p) ≡ Some q = rw t.0 refl in
       let same : q ≡ peer = same_Some q peer (sym e ∙ w) in
-      let at = here-is (slice_get ms p) (c.at p) (Takes q arms) h in
+      let at = here_is (slice_get ms p) (c.at p) (Takes q arms) h in
       let P : Role → Type 0 = λ z. z.0 < length ms in
       subst P same ((wf.fits p at.0 at.1).takes (c.at p) q arms at.2).known)
 ]
 
 pub known : (ms : List Machine_data) (c : Configuration) → AreWellFormed ms → (p : ℕ) (peer : Role) → waits_for ms c p ≡ Some peer → peer.0 < length ms
-known ms c wf p peer w = known-by ms c wf p peer (state_at ms c p) refl w
+known ms c wf p peer w = known_by ms c wf p peer (state_at ms c p) refl w
 
 -- a chain has one length and one end
-pub one-chain : (ms : List Machine_data) (c : Configuration) (n m p x y : ℕ) → Chain ms c n p x → Chain ms c m p y → (n ≡ m) × (x ≡ y)
-one-chain ms c zero zero p x y g h = (refl, sym g.1 ∙ h.1)
-one-chain ms c zero (suc m) p x y g h = absurd (let a = g.0 in let b = h.1 in cc (a, b))
-one-chain ms c (suc n) zero p x y g h = absurd (let a = g.1 in let b = h.0 in cc (a, b))
-one-chain ms c (suc n) (suc m) p x y g h =
+pub one_chain : (ms : List Machine_data) (c : Configuration) (n m p x y : ℕ) → Chain ms c n p x → Chain ms c m p y → (n ≡ m) × (x ≡ y)
+one_chain ms c zero zero p x y g h = (refl, sym g.1 ∙ h.1)
+one_chain ms c zero (suc m) p x y g h = absurd (let a = g.0 in let b = h.1 in cc (a, b))
+one_chain ms c (suc n) zero p x y g h = absurd (let a = g.1 in let b = h.0 in cc (a, b))
+one_chain ms c (suc n) (suc m) p x y g h =
     let same : g.0 ≡ h.0 = same_Some g.0 h.0 (sym g.1 ∙ h.1) in
     let P : Role → Type 0 = λ z. Chain ms c n z.0 x in
-    let ih = one-chain ms c n m h.0.0 x y (subst P same g.2) h.2 in
+    let ih = one_chain ms c n m h.0.0 x y (subst P same g.2) h.2 in
     (ap suc ih.0, ih.1)
 
 -- where so many waits lead
@@ -68,22 +68,22 @@ hop ms c zero p = p
 hop ms c (suc k) p = hop_by (waits_for ms c p) (hop ms c k) p
 
 -- from there on the chain is as long as is left
-left-of : (ms : List Machine_data) (c : Configuration) (k m n p last : ℕ) → n ≡ k + m → Chain ms c n p last → Chain ms c m (hop ms c k p) last
+left_of : (ms : List Machine_data) (c : Configuration) (k m n p last : ℕ) → n ≡ k + m → Chain ms c n p last → Chain ms c m (hop ms c k p) last
 unfolding hop hop_by
-left-of ms c zero m n p last e g = let P : ℕ → Type 0 = λ z. Chain ms c z p last in let same : n ≡ m = omega (arith, e) in subst P same g
-left-of ms c (suc k) m zero p last e g = absurd (omega (arith, e))
-left-of ms c (suc k) m (suc n) p last e g = rw g.1 (left-of ms c k m n g.0.0 last (omega (arith, e)) g.2)
+left_of ms c zero m n p last e g = let P : ℕ → Type 0 = λ z. Chain ms c z p last in let same : n ≡ m = omega (arith, e) in subst P same g
+left_of ms c (suc k) m zero p last e g = absurd (omega (arith, e))
+left_of ms c (suc k) m (suc n) p last e g = rw g.1 (left_of ms c k m n g.0.0 last (omega (arith, e)) g.2)
 
-hop-known-by : (ms : List Machine_data) (c : Configuration) → AreWellFormed ms → (k p : ℕ) → p < length ms → (o : Option Role) → waits_for ms c p ≡ o
+hop_known_by : (ms : List Machine_data) (c : Configuration) → AreWellFormed ms → (k p : ℕ) → p < length ms → (o : Option Role) → waits_for ms c p ≡ o
     → ((q : ℕ) → q < length ms → hop ms c k q < length ms) → hop_by o (hop ms c k) p < length ms
 unfolding hop_by
-hop-known-by ms c wf k p hp None e ih = hp
-hop-known-by ms c wf k p hp (Some peer) e ih = ih peer.0 (known ms c wf p peer e)
+hop_known_by ms c wf k p hp None e ih = hp
+hop_known_by ms c wf k p hp (Some peer) e ih = ih peer.0 (known ms c wf p peer e)
 
-hop-known : (ms : List Machine_data) (c : Configuration) → AreWellFormed ms → (k p : ℕ) → p < length ms → hop ms c k p < length ms
+hop_known : (ms : List Machine_data) (c : Configuration) → AreWellFormed ms → (k p : ℕ) → p < length ms → hop ms c k p < length ms
 unfolding hop
-hop-known ms c wf zero p hp = hp
-hop-known ms c wf (suc k) p hp = hop-known-by ms c wf k p hp (waits_for ms c p) refl (λ q hq. hop-known ms c wf k q hq)
+hop_known ms c wf zero p hp = hp
+hop_known ms c wf (suc k) p hp = hop_known_by ms c wf k p hp (waits_for ms c p) refl (λ q hq. hop_known ms c wf k q hq)
 
 -- numbers below m with values below n that all differ: there are no more than n
 
@@ -124,16 +124,16 @@ pigeons (suc n) (suc m) f low differ = let rest = pigeons n m (without f m n) lo
     ]
 
 -- a chain comes to no role twice, so it has fewer waits than there are roles
-pub few-waits : (ms : List Machine_data) (c : Configuration) → AreWellFormed ms → (n p last : ℕ) → p < length ms → Chain ms c n p last → n < length ms
-few-waits ms c wf n p last hp g = pigeons (length ms) (suc n) (λ k. hop ms c k p) (λ k hk. hop-known ms c wf k p hp) differ
+pub few_waits : (ms : List Machine_data) (c : Configuration) → AreWellFormed ms → (n p last : ℕ) → p < length ms → Chain ms c n p last → n < length ms
+few_waits ms c wf n p last hp g = pigeons (length ms) (suc n) (λ k. hop ms c k p) (λ k hk. hop_known ms c wf k p hp) differ
   where
     rest : (i m : ℕ) → i + m ≡ n → Chain ms c m (hop ms c i p) last
-    rest i m e = left-of ms c i m n p last (sym e) g
+    rest i m e = left_of ms c i m n p last (sym e) g
 
     differ : (i j : ℕ) → i < suc n → j < suc n → hop ms c i p ≡ hop ms c j p → i ≡ j
     differ i j hi hj e =
         let P : ℕ → Type 0 = λ z. Chain ms c (n - i) z last in
-        let one = one-chain ms c (n - i) (n - j) (hop ms c j p) last last (subst P e (rest i (n - i) (omega arith))) (rest j (n - j) (omega arith)) in
+        let one = one_chain ms c (n - i) (n - j) (hop ms c j p) last last (subst P e (rest i (n - i) (omega arith))) (rest j (n - j) (omega arith)) in
         let same = one.0 in
         omega arith
 
@@ -145,21 +145,21 @@ pub record Sought (ms : List Machine_data) (c : Configuration) (from at hops : �
   pub whole : Chain ms c many from last
   pub ahead : Chain ms c rest at last
   pub all : hops + rest ≡ many
-  pub there : at < length ms
+  pub present : at < length ms
 
 pub seek : (ms : List Machine_data) (c : Configuration) (from : ℕ) → from < length ms → CanLeadOn ms c from → Sought ms c from from 0
-seek ms c from there can = record { last = can.0; many = can.1.0; rest = can.1.0; whole = can.1.1; ahead = can.1.1; all = omega arith; there = there }
+seek ms c from there can = record { last = can.0; many = can.1.0; rest = can.1.0; whole = can.1.1; ahead = can.1.1; all = omega arith; present = there }
 
-pub seek-on : (ms : List Machine_data) (c : Configuration) (from at hops : ℕ) (peer : Role) → Sought ms c from at hops → waits_for ms c at ≡ Some peer → peer.0 < length ms
+pub seek_on : (ms : List Machine_data) (c : Configuration) (from at hops : ℕ) (peer : Role) → Sought ms c from at hops → waits_for ms c at ≡ Some peer → peer.0 < length ms
     → Sought ms c from peer.0 (hops + 1)
-seek-on ms c from at hops peer s w there = by s.rest s.ahead s.all
+seek_on ms c from at hops peer s w there = by s.rest s.ahead s.all
   where
     by : (rest : ℕ) → Chain ms c rest at s.last → hops + rest ≡ s.many → Sought ms c from peer.0 (hops + 1)
     by zero ahead all = absurd (let a = ahead.0 in cc (a, w))
     by (suc rest) ahead all =
         let same : ahead.0 ≡ peer = same_Some ahead.0 peer (sym ahead.1 ∙ w) in
         let P : Role → Type 0 = λ z. Chain ms c rest z.0 s.last in
-        record { last = s.last; many = s.many; rest = rest; whole = s.whole; ahead = subst P same ahead.2; all = omega (arith, all); there = there }
+        record { last = s.last; many = s.many; rest = rest; whole = s.whole; ahead = subst P same ahead.2; all = omega (arith, all); present = there }
 
 pub sought : (ms : List Machine_data) (c : Configuration) (from at hops : ℕ) → Sought ms c from at hops → waits_for ms c at ≡ None → WaitsLeadOn ms c from at
 sought ms c from at hops s w = by s.rest s.ahead
@@ -168,5 +168,5 @@ sought ms c from at hops s w = by s.rest s.ahead
     by zero ahead = let P : ℕ → Type 0 = λ z. Chain ms c s.many from z in (s.many, subst P (sym ahead.1) s.whole)
     by (suc rest) ahead = absurd (let a = ahead.1 in cc (a, w))
 
-pub not-lost : (ms : List Machine_data) (c : Configuration) → AreWellFormed ms → (from at hops : ℕ) → from < length ms → Sought ms c from at hops → length ms ≤ hops → ⊥
-not-lost ms c wf from at hops hf s far = let few = few-waits ms c wf s.many from s.last hf s.whole in let all = s.all in absurd (omega arith)
+pub not_lost : (ms : List Machine_data) (c : Configuration) → AreWellFormed ms → (from at hops : ℕ) → from < length ms → Sought ms c from at hops → length ms ≤ hops → ⊥
+not_lost ms c wf from at hops hf s far = let few = few_waits ms c wf s.many from s.last hf s.whole in let all = s.all in absurd (omega arith)

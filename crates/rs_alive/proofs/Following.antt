@@ -1,5 +1,6 @@
 -- The schedule, followed event by event: what holds after so many of them.
-use Rattle.std.proofs.Common.{◌≡◌, ◌≢◌, ◌⊎◌, inl, inr, ℕ, zero, suc, ◌+◌, ◌-◌, ◌*◌, ◌<◌, ◌≤◌, Bool, true, false, List, [], ◌∷◌, ◌++◌, Some, length, refl, sym, ap, ◌∙◌, subst, subst₂, arith, append_assoc, length-append}
+use Rattle.std.proofs.Common.{◌≡◌, ◌≢◌, ◌⊎◌, inl, inr, ℕ, zero, suc, ◌+◌, ◌-◌, ◌*◌, ◌<◌, ◌≤◌, Bool, true, false, List, [], ◌∷◌, ◌++◌, Some, length, refl, sym, ap, ◌∙◌, subst, subst₂, arith}
+use Rattle.std.proofs.Common.{append_assoc, length-append}
 use Rattle.std.proofs.lemmas.Bool.Decides.{eqb_tells}
 use Rattle.rs_model.specs.Data.{Machine_data}
 use Rattle.rs_model.specs.declared.graph.Arm.{Arm}
@@ -13,15 +14,15 @@ use Rattle.rs_core.specs.Safety.{CanMove, MaySend, MayReceive}
 use Rattle.rs_core.proofs.Stands.{Stands, done_after, one_more}
 use Rattle.rs_safety.specs.Accepting.{Accepted_data, IsAcceptedSession}
 use Rattle.rs_safety.specs.Room.{room_of}
-use Rattle.rs_safety.proofs.Walks.{same-role}
-use Rattle.rs_walks.proofs.Walked.{WalksOf, good, of-accepted}
+use Rattle.rs_safety.proofs.Walks.{same_role}
+use Rattle.rs_safety.proofs.Walked.{WalksOf, good, of_accepted}
 use Rattle.rs_alive.specs.Pasts.{PastLeadsTo}
-use Rattle.rs_alive.specs.Schedule.{Advances, CanLeadOn, act_of, takes_from}
+use Rattle.rs_alive.specs.Schedule.{Advances, CanLeadOn, event_of, takes_from}
 use Rattle.rs_alive.specs.Taken.{Else, IsTaken, Older, Oldest, acts_by}
-use Rattle.rs_alive.proofs.Acting.{receives, sends-first}
+use Rattle.rs_alive.proofs.Acting.{receives, sends_first}
 use Rattle.rs_alive.proofs.Bound.{counts, long_of, most_lag, most_owed, setting, top_of}
-use Rattle.rs_alive.proofs.Chains.{one-chain}
-use Rattle.rs_alive.proofs.Scheduled.{MessageAt, Still, Turn, nearer, starts-low, still-receive, still-send, total, total-bound, total-falls, turn, within-bound, zeros}
+use Rattle.rs_alive.proofs.Chains.{one_chain}
+use Rattle.rs_alive.proofs.Scheduled.{MessageAt, Still, Turn, nearer, starts_low, still_receive, still_send, total, total_bound, total_falls, turn, within_bound, zeros}
 
 -- how many acts each role has made in the past
 abbrev pub done_in : List Event → ℕ → ℕ
@@ -54,16 +55,18 @@ pub record Following (a : Accepted_data) (past : List Event) (p u : Role) (place
 pub start : (a : Accepted_data) (past : List Event) (p u : Role) (place : ℕ) (c : Configuration) → IsAcceptedSession a → PastLeadsTo a.machines past c
     → p.0 < length a.machines → u.0 < length a.machines → p.0 ≢ u.0 → place < length (c.queue p.0 u.0) → Following a past p u place c c place []
 start a past p u place c s l hp hu ne there =
-    let ds = of-accepted a s in
+    let ds = of_accepted a s in
     let r : IsReachable a.machines c = record { first = l.first; events = past; starts = l.starts; steps = l.steps } in
     let n : ℕ = length a.machines * most_of a past p in
-    let st : Stands a.machines (WalksOf a.protocol a.projections a.machines a.derivations) (done_in past) zeros (suc n) c = good a.protocol a.projections a.machines a.derivations ds c r zeros (suc n) in
-    let b = total-bound (length a.machines) (most_of a past p) (done_in past) in
+    let st : Stands a.machines (WalksOf a.protocol a.projections a.machines a.derivations) (done_in past) zeros (suc n) c
+    = good a.protocol a.projections a.machines a.derivations ds c r zeros (suc n) in
+    let b = total_bound (length a.machines) (most_of a past p) (done_in past) in
     record {
       ahead = n;
       standing = (
         st,
-        starts-low a.machines (WalksOf a.protocol a.projections a.machines a.derivations) (length a.protocol.nodes) (most_owed a.derivations) (most_lag a.derivations) (long_of a.derivations) (top_of a.derivations)
+        starts_low a.machines (WalksOf a.protocol a.projections a.machines a.derivations) (length a.protocol.nodes) (most_owed a.derivations) (most_lag a.derivations) (long_of a.derivations)
+            (top_of a.derivations)
             (setting a.protocol a.projections a.machines a.derivations ds) (done_in past) (suc n) c st p u.0 place hp hu ne there,
       );
       enough = b;
@@ -72,24 +75,25 @@ start a past p u place c s l hp hu ne there =
     }
 
 -- who acts next
-turn-of : (a : Accepted_data) (past : List Event) (p u : Role) (place : ℕ) (c0 c : Configuration) (before : ℕ) (events : List Event) → IsAcceptedSession a → u.0 < length a.machines
+turn_of : (a : Accepted_data) (past : List Event) (p u : Role) (place : ℕ) (c0 c : Configuration) (before : ℕ) (events : List Event) → IsAcceptedSession a → u.0 < length a.machines
     → Following a past p u place c0 c before events → Turn a.machines (done_after (done_in past) events) c (most_of a past p) u.0
-turn-of a past p u place c0 c before events s hu f =
-    turn a.machines (WalksOf a.protocol a.projections a.machines a.derivations) (done_after (done_in past) events) f.ahead c f.standing.0 (length a.protocol.nodes) (most_owed a.derivations) (most_lag a.derivations) (far_of a past p)
-    (long_of a.derivations) (top_of a.derivations) (setting a.protocol a.projections a.machines a.derivations (of-accepted a s)) p u.0 before (low_of a past p) hu (omega arith) f.standing.1
+turn_of a past p u place c0 c before events s hu f =
+    turn a.machines (WalksOf a.protocol a.projections a.machines a.derivations) (done_after (done_in past) events) f.ahead c f.standing.0 (length a.protocol.nodes) (most_owed a.derivations)
+    (most_lag a.derivations) (far_of a past p)
+    (long_of a.derivations) (top_of a.derivations) (setting a.protocol a.projections a.machines a.derivations (of_accepted a s)) p u.0 before (low_of a past p) hu (omega arith) f.standing.1
 
 pub leads : (a : Accepted_data) (past : List Event) (p u : Role) (place : ℕ) (c0 c : Configuration) (before : ℕ) (events : List Event) → IsAcceptedSession a → u.0 < length a.machines
     → Following a past p u place c0 c before events → CanLeadOn a.machines c u.0
-leads a past p u place c0 c before events s hu f = let t = turn-of a past p u place c0 c before events s hu f in (t.role, t.leads, t.known, t.can)
+leads a past p u place c0 c before events s hu f = let t = turn_of a past p u place c0 c before events s hu f in (t.role, t.leads, t.known, t.can)
 
 -- what the act is: a send by the first arm, or a receive
 data How (ms : List Machine_data) (c d : Configuration) (role : Role) (event : Event) : Type 0 where
   Sending : (peer : Role) (arms : List Arm) (v : Value) → state_at ms c role.0 ≡ Some (Puts peer arms) → event ≡ Send role 0 v → Sends ms c role.0 0 v d → How ms c d role event
   Receiving : (peer : Role) (arms : List Arm) → state_at ms c role.0 ≡ Some (Takes peer arms) → event ≡ Receive role → (st : Receives ms c role.0 d) → st.peer ≡ peer → How ms c d role event
 
-how : (ms : List Machine_data) (c d : Configuration) (role : Role) (event : Event) → CanMove ms c role.0 → act_of ms c role ≡ Some event → Step ms c event d → How ms c d role event
+how : (ms : List Machine_data) (c d : Configuration) (role : Role) (event : Event) → CanMove ms c role.0 → event_of ms c role ≡ Some event → Step ms c event d → How ms c d role event
 how ms c d role event (MaySend peer arms h) act st =
-    let e = sends-first ms c role peer arms event h act in
+    let e = sends_first ms c role peer arms event h act in
     let P : Event → Type 0 = λ z. Step ms c z d in
     Sending peer arms _ h e.2 (subst P e.2 st)
 how ms c d role event (MayReceive peer arms m later h q) act st =
@@ -101,42 +105,43 @@ how ms c d role event (MayReceive peer arms m later h q) act st =
 
 -- it is the act of the role that is next, which has made few
 record Acted (a : Accepted_data) (past : List Event) (p : Role) (c d : Configuration) (events : List Event) (role : Role) (event : Event) : Type 0 where
-  there : role.0 < length a.machines
-  few : done_after (done_in past) events role.0 < most_of a past p
+  present : role.0 < length a.machines
+  bounded : done_after (done_in past) events role.0 < most_of a past p
   is : How a.machines c d role event
 
-acted : (a : Accepted_data) (past : List Event) (p u : Role) (place : ℕ) (c0 c d : Configuration) (before : ℕ) (events : List Event) (event : Event) (takes : Bool) → IsAcceptedSession a → u.0 < length a.machines
+acted : (a : Accepted_data) (past : List Event) (p u : Role) (place : ℕ) (c0 c d : Configuration) (before : ℕ) (events : List Event) (event : Event) (takes : Bool) → IsAcceptedSession a
+    → u.0 < length a.machines
     → Following a past p u place c0 c before events → (ad : Advances a.machines p u c d event takes) → Acted a past p c d events ad.role event
 acted a past p u place c0 c d before events event takes s hu f ad =
-    let t = turn-of a past p u place c0 c before events s hu f in
-    let one = one-chain a.machines c t.leads.0 ad.leads.0 u.0 t.role ad.role.0 t.leads.1 ad.leads.1 in
+    let t = turn_of a past p u place c0 c before events s hu f in
+    let one = one_chain a.machines c t.leads.0 ad.leads.0 u.0 t.role ad.role.0 t.leads.1 ad.leads.1 in
     let T : ℕ → Type 0 = λ z. z < length a.machines in
     let F : ℕ → Type 0 = λ z. done_after (done_in past) events z < most_of a past p in
-    record { there = subst T one.1 t.known; few = subst F one.1 t.few; is = how a.machines c d ad.role event (subst (CanMove a.machines c) one.1 t.can) ad.acts ad.step }
+    record { present = subst T one.1 t.known; bounded = subst F one.1 t.bounded; is = how a.machines c d ad.role event (subst (CanMove a.machines c) one.1 t.can) ad.acts ad.step }
 
-done-snoc : (done : ℕ → ℕ) (es : List Event) (e : Event) → done_after done (es ++ (e ∷ [])) ≡ one_more (done_after done es) (role_of e)
-done-snoc done [] e = refl
-done-snoc done (x ∷ es) e = done-snoc (one_more done (role_of x)) es e
+done_snoc : (done : ℕ → ℕ) (es : List Event) (e : Event) → done_after done (es ++ (e ∷ [])) ≡ one_more (done_after done es) (role_of e)
+done_snoc done [] e = refl
+done_snoc done (x ∷ es) e = done_snoc (one_more done (role_of x)) es e
 
-role-by : (ms : List Machine_data) (c d : Configuration) (role : Role) (event : Event) → How ms c d role event → role_of event ≡ role.0
-role-by ms c d role event (Sending peer arms v h e st) = ap (λ (z : Event). role_of z) e
-role-by ms c d role event (Receiving peer arms h e st ep) = ap (λ (z : Event). role_of z) e
+role_by : (ms : List Machine_data) (c d : Configuration) (role : Role) (event : Event) → How ms c d role event → role_of event ≡ role.0
+role_by ms c d role event (Sending peer arms v h e st) = ap (λ (z : Event). role_of z) e
+role_by ms c d role event (Receiving peer arms h e st ep) = ap (λ (z : Event). role_of z) e
 
 -- after the act of the role the message stands at the place k
-goes-to : (a : Accepted_data) (past : List Event) (p u : Role) (place : ℕ) (c0 c d : Configuration) (k : ℕ) (events : List Event) (role : Role) (event : Event) (ahead : ℕ)
+goes_to : (a : Accepted_data) (past : List Event) (p u : Role) (place : ℕ) (c0 c d : Configuration) (k : ℕ) (events : List Event) (role : Role) (event : Event) (ahead : ℕ)
     → total (length a.machines) (most_of a past p) (done_after (done_in past) events) ≤ ahead
     → length events + total (length a.machines) (most_of a past p) (done_after (done_in past) events) ≤ length a.machines * most_of a past p
     → Acted a past p c d events role event
     → Still a.machines (WalksOf a.protocol a.projections a.machines a.derivations) (done_after (done_in past) events) ahead d p u.0 k (low_of a past p) role.0
     → ((rest : List Event) → IsTaken a.machines p u d k rest → IsTaken a.machines p u c0 place ((events ++ (event ∷ [])) ++ rest))
     → Following a past p u place c0 d k (events ++ (event ∷ []))
-goes-to a past p u place c0 c d k events role event zero enough count act still so =
-    let f = total-falls (length a.machines) (most_of a past p) role.0 (done_after (done_in past) events) act.there act.few in
+goes_to a past p u place c0 c d k events role event zero enough count act still so =
+    let f = total_falls (length a.machines) (most_of a past p) role.0 (done_after (done_in past) events) act.present act.bounded in
     absurd (omega arith)
-goes-to a past p u place c0 c d k events role event (suc ahead) enough count act still so =
-    let f = total-falls (length a.machines) (most_of a past p) role.0 (done_after (done_in past) events) act.there act.few in
+goes_to a past p u place c0 c d k events role event (suc ahead) enough count act still so =
+    let f = total_falls (length a.machines) (most_of a past p) role.0 (done_after (done_in past) events) act.present act.bounded in
     let e : done_after (done_in past) (events ++ (event ∷ [])) ≡ one_more (done_after (done_in past) events) role.0 =
-    done-snoc (done_in past) events event ∙ ap (λ (z : ℕ). one_more (done_after (done_in past) events) z) (role-by a.machines c d role event act.is) in
+    done_snoc (done_in past) events event ∙ ap (λ (z : ℕ). one_more (done_after (done_in past) events) z) (role_by a.machines c d role event act.is) in
     let S : (ℕ → ℕ) → Type 0 = λ z. Standing a (low_of a past p) z (suc ahead) d p u.0 k in
     let N : (ℕ → ℕ) → Type 0 = λ z. total (length a.machines) (most_of a past p) z ≤ ahead in
     let C : (ℕ → ℕ) → Type 0 = λ z. length (events ++ (event ∷ [])) + total (length a.machines) (most_of a past p) z ≤ length a.machines * most_of a past p in
@@ -158,15 +163,15 @@ more ms p u c0 c d place before k events event so one rest t =
     subst P (sym (append_assoc events (event ∷ []) rest)) (so (event ∷ rest) (one rest t))
 
 -- whether an act takes a message of the sender
-send-takes : (ms : List Machine_data) (c : Configuration) (role p u peer : Role) (arms : List Arm) → state_at ms c role.0 ≡ Some (Puts peer arms) → takes_from ms c role p u ≡ false
-send-takes ms c role p u peer arms h = elim (eqb_tells role.0 u.0) [
+send_takes : (ms : List Machine_data) (c : Configuration) (role p u peer : Role) (arms : List Arm) → state_at ms c role.0 ≡ Some (Puts peer arms) → takes_from ms c role p u ≡ false
+send_takes ms c role p u peer arms h = elim (eqb_tells role.0 u.0) [
   | inl t ↦ rw (h, t.0) refl
   | inr t ↦ rw (h, t.0) refl
 ]
 
-receive-takes : (ms : List Machine_data) (c : Configuration) (role p u peer : Role) (arms : List Arm) → state_at ms c role.0 ≡ Some (Takes peer arms)
+receive_takes : (ms : List Machine_data) (c : Configuration) (role p u peer : Role) (arms : List Arm) → state_at ms c role.0 ≡ Some (Takes peer arms)
     → ((takes_from ms c role p u ≡ true) × (role.0 ≡ u.0) × (peer.0 ≡ p.0)) ⊎ ((takes_from ms c role p u ≡ false) × ((role.0 ≢ u.0) ⊎ (peer.0 ≢ p.0)))
-receive-takes ms c role p u peer arms h = elim (eqb_tells role.0 u.0) [
+receive_takes ms c role p u peer arms h = elim (eqb_tells role.0 u.0) [
   | inr t ↦ inr (rw (h, t.0) refl, inl t.1)
   | inl t ↦ elim (eqb_tells peer.0 p.0) [
     | inr w ↦ inr (rw (h, t.0, w.0) refl, inr w.1)
@@ -175,21 +180,24 @@ receive-takes ms c role p u peer arms h = elim (eqb_tells role.0 u.0) [
 ]
 
 -- no message of the sender is taken: the message stays where it stands
-pub goes-on : (a : Accepted_data) (past : List Event) (p u : Role) (place : ℕ) (c0 c d : Configuration) (before : ℕ) (events : List Event) (event : Event) → IsAcceptedSession a → u.0 < length a.machines
+pub goes_on : (a : Accepted_data) (past : List Event) (p u : Role) (place : ℕ) (c0 c d : Configuration) (before : ℕ) (events : List Event) (event : Event) → IsAcceptedSession a
+    → u.0 < length a.machines
     → Following a past p u place c0 c before events → Advances a.machines p u c d event false → Following a past p u place c0 d before (events ++ (event ∷ []))
-goes-on a past p u place c0 c d before events event s hu f ad =
+goes_on a past p u place c0 c d before events event s hu f ad =
     let act = acted a past p u place c0 c d before events event false s hu f ad in
     by act act.is
   where
     by : Acted a past p c d events ad.role event → How a.machines c d ad.role event → Following a past p u place c0 d before (events ++ (event ∷ []))
     by act (Sending peer arms v h e st) =
-        goes-to a past p u place c0 c d before events ad.role event f.ahead f.enough f.count act
-        (still-send a.machines (WalksOf a.protocol a.projections a.machines a.derivations) (done_after (done_in past) events) f.ahead c f.standing.0 p u.0 before (low_of a past p) ad.role.0 v d st f.standing.1)
+        goes_to a past p u place c0 c d before events ad.role event f.ahead f.enough f.count act
+        (still_send a.machines (WalksOf a.protocol a.projections a.machines a.derivations) (done_after (done_in past) events) f.ahead c f.standing.0 p u.0 before
+        (low_of a past p) ad.role.0 v d st f.standing.1)
         (more a.machines p u c0 c d place before before events event f.so_far (λ rest t. Else c d event before rest (λ arms' h' e'. cc (e, e')) ad.step t))
-    by act (Receiving peer arms h e st ep) = elim (receive-takes a.machines c ad.role p u peer arms h) [
+    by act (Receiving peer arms h e st ep) = elim (receive_takes a.machines c ad.role p u peer arms h) [
       | inl t ↦ absurd (let no = ad.tells in let good = t.0 in cc (no, good))
-      | inr t ↦ goes-to a past p u place c0 c d before events ad.role event f.ahead f.enough f.count act
-          (still-receive a.machines (WalksOf a.protocol a.projections a.machines a.derivations) (done_after (done_in past) events) f.ahead c f.standing.0 (setting a.protocol a.projections a.machines a.derivations (of-accepted a s)).peered p u.0 before (low_of a past p) ad.role.0 d st (elsewhere t.1) f.standing.1)
+      | inr t ↦ goes_to a past p u place c0 c d before events ad.role event f.ahead f.enough f.count act
+          (still_receive a.machines (WalksOf a.protocol a.projections a.machines a.derivations) (done_after (done_in past) events) f.ahead c f.standing.0
+          (setting a.protocol a.projections a.machines a.derivations (of_accepted a s)).peered p u.0 before (low_of a past p) ad.role.0 d st (elsewhere t.1) f.standing.1)
           (more a.machines p u c0 c d place before before events event f.so_far (λ rest t'. Else c d event before rest (other t.1) ad.step t'))
     ]
       where
@@ -215,22 +223,22 @@ record TakesOne (a : Accepted_data) (past : List Event) (p u : Role) (c d : Conf
   here : role.0 ≡ u.0
   from : step.peer.0 ≡ p.0
 
-takes-one : (a : Accepted_data) (past : List Event) (p u : Role) (place : ℕ) (c0 c d : Configuration) (before : ℕ) (events : List Event) (event : Event) → IsAcceptedSession a → u.0 < length a.machines
+takes_one : (a : Accepted_data) (past : List Event) (p u : Role) (place : ℕ) (c0 c d : Configuration) (before : ℕ) (events : List Event) (event : Event) → IsAcceptedSession a → u.0 < length a.machines
     → Following a past p u place c0 c before events → (ad : Advances a.machines p u c d event true) → TakesOne a past p u c d events ad.role event
-takes-one a past p u place c0 c d before events event s hu f ad =
+takes_one a past p u place c0 c d before events event s hu f ad =
     let act = acted a past p u place c0 c d before events event true s hu f ad in
     by act act.is
   where
     by : Acted a past p c d events ad.role event → How a.machines c d ad.role event → TakesOne a past p u c d events ad.role event
-    by act (Sending peer arms v h e st) = absurd (let no = send-takes a.machines c ad.role p u peer arms h in let good = ad.tells in cc (no, good))
-    by act (Receiving peer arms h e st ep) = elim (receive-takes a.machines c ad.role p u peer arms h) [
+    by act (Sending peer arms v h e st) = absurd (let no = send_takes a.machines c ad.role p u peer arms h in let good = ad.tells in cc (no, good))
+    by act (Receiving peer arms h e st ep) = elim (receive_takes a.machines c ad.role p u peer arms h) [
       | inr t ↦ absurd (let no = t.0 in let good = ad.tells in cc (no, good))
       | inl t ↦ (let Q : ℕ → Role → Type 0 = λ z y. state_at a.machines c z ≡ Some (Takes y arms) in
           record {
             acts = act;
             arms = arms;
-            takes = subst₂ Q t.1 (same-role peer p t.2) h;
-            is = e ∙ ap (λ (z : Role). Receive z) (same-role ad.role u t.1);
+            takes = subst₂ Q t.1 (same_role peer p t.2) h;
+            is = e ∙ ap (λ (z : Role). Receive z) (same_role ad.role u t.1);
             step = st;
             here = t.1;
             from = ap (λ (z : Role). z.0) ep ∙ t.2;
@@ -238,59 +246,65 @@ takes-one a past p u place c0 c d before events event s hu f ad =
     ]
 
 -- an older message is taken: the message comes one place nearer
-pub comes-nearer : (a : Accepted_data) (past : List Event) (p u : Role) (place : ℕ) (c0 c d : Configuration) (before : ℕ) (events : List Event) (event : Event) → IsAcceptedSession a → u.0 < length a.machines
+pub comes_nearer : (a : Accepted_data) (past : List Event) (p u : Role) (place : ℕ) (c0 c d : Configuration) (before : ℕ) (events : List Event) (event : Event) → IsAcceptedSession a
+    → u.0 < length a.machines
     → Following a past p u place c0 c (suc before) events → Advances a.machines p u c d event true → Following a past p u place c0 d before (events ++ (event ∷ []))
-comes-nearer a past p u place c0 c d before events event s hu f ad =
-    let o = takes-one a past p u place c0 c d (suc before) events event s hu f ad in
+comes_nearer a past p u place c0 c d before events event s hu f ad =
+    let o = takes_one a past p u place c0 c d (suc before) events event s hu f ad in
     let R : ℕ → Type 0 = λ z. Receives a.machines c z d in
     let T : Event → List Event → Type 0 = λ y z. IsTaken a.machines p u c (suc before) (y ∷ z) in
-    goes-to a past p u place c0 c d before events ad.role event f.ahead f.enough f.count o.acts
-    (nearer a.machines (WalksOf a.protocol a.projections a.machines a.derivations) (done_after (done_in past) events) f.ahead c f.standing.0 (setting a.protocol a.projections a.machines a.derivations (of-accepted a s)).peered p u.0 before (low_of a past p) ad.role.0 d o.step o.here o.from f.standing.1)
-    (more a.machines p u c0 c d place (suc before) before events event f.so_far (λ rest t. (let Q : Event → Type 0 = λ y. T y rest in subst Q (sym o.is) (Older c d o.arms before rest o.takes (subst R o.here o.step) t))))
+    goes_to a past p u place c0 c d before events ad.role event f.ahead f.enough f.count o.acts
+    (nearer a.machines (WalksOf a.protocol a.projections a.machines a.derivations) (done_after (done_in past) events) f.ahead c f.standing.0
+    (setting a.protocol a.projections a.machines a.derivations (of_accepted a s)).peered p u.0 before (low_of a past p) ad.role.0 d o.step o.here o.from f.standing.1)
+    (more a.machines p u c0 c d place (suc before) before events event f.so_far
+    (λ rest t. (let Q : Event → Type 0 = λ y. T y rest in subst Q (sym o.is) (Older c d o.arms before rest o.takes (subst R o.here o.step) t))))
 
--- .. or it is taken itself
+-- the message itself is taken
 pub arrives : (a : Accepted_data) (past : List Event) (p u : Role) (place : ℕ) (c0 c d : Configuration) (events : List Event) (event : Event) → IsAcceptedSession a → u.0 < length a.machines
     → Following a past p u place c0 c 0 events → Advances a.machines p u c d event true → IsTaken a.machines p u c0 place (events ++ (event ∷ []))
 arrives a past p u place c0 c d events event s hu f ad =
-    let o = takes-one a past p u place c0 c d 0 events event s hu f ad in
+    let o = takes_one a past p u place c0 c d 0 events event s hu f ad in
     let R : ℕ → Type 0 = λ z. Receives a.machines c z d in
     let T : Event → Type 0 = λ y. IsTaken a.machines p u c 0 (y ∷ []) in
     f.so_far (event ∷ []) (subst T (sym o.is) (Oldest c d o.arms o.takes (subst R o.here o.step)))
 
 -- there are few events
-pub few-events : (a : Accepted_data) (past : List Event) (p u : Role) (place : ℕ) (c0 c d : Configuration) (before : ℕ) (events : List Event) (event : Event) (takes : Bool) → IsAcceptedSession a → u.0 < length a.machines
+pub few_events : (a : Accepted_data) (past : List Event) (p u : Role) (place : ℕ) (c0 c d : Configuration) (before : ℕ) (events : List Event) (event : Event) (takes : Bool) → IsAcceptedSession a
+    → u.0 < length a.machines
     → Following a past p u place c0 c before events → Advances a.machines p u c d event takes
     → length (events ++ (event ∷ [])) ≤ 2 * length a.machines * length a.protocol.nodes * (acts_by p.0 past + 3 * room_of a.derivations)
-few-events a past p u place c0 c d before events event takes s hu f ad =
+few_events a past p u place c0 c d before events event takes s hu f ad =
     let act = acted a past p u place c0 c d before events event takes s hu f ad in
-    let t = total-falls (length a.machines) (most_of a past p) ad.role.0 (done_after (done_in past) events) act.there act.few in
+    let t = total_falls (length a.machines) (most_of a past p) ad.role.0 (done_after (done_in past) events) act.present act.bounded in
     let n = f.count in
     let most : length (events ++ (event ∷ [])) ≤ length a.machines * most_of a past p = omega (arith, length-append events (event ∷ [])) in
-    let b = within-bound (length a.machines) (length a.protocol.nodes) (done_in past p.0) (most_owed a.derivations) (most_lag a.derivations) (let h = s.is.well_formed.root in omega arith) in
+    let b = within_bound (length a.machines) (length a.protocol.nodes) (done_in past p.0) (most_owed a.derivations) (most_lag a.derivations) (let h = s.is_session.well_formed.root in omega arith) in
     let e : done_in past p.0 ≡ acts_by p.0 past = counts (λ z. 0) past p.0 ∙ omega arith in
     rw (← e) (omega arith)
 
 -- each act leaves fewer
-pub falls : (a : Accepted_data) (past : List Event) (p u : Role) (place : ℕ) (c0 c d : Configuration) (before : ℕ) (events : List Event) (event : Event) (takes : Bool) → IsAcceptedSession a → u.0 < length a.machines
+pub falls : (a : Accepted_data) (past : List Event) (p u : Role) (place : ℕ) (c0 c d : Configuration) (before : ℕ) (events : List Event) (event : Event) (takes : Bool) → IsAcceptedSession a
+    → u.0 < length a.machines
     → Following a past p u place c0 c before events → Advances a.machines p u c d event takes
     → total (length a.machines) (most_of a past p) (done_after (done_in past) (events ++ (event ∷ []))) < total (length a.machines) (most_of a past p) (done_after (done_in past) events)
 falls a past p u place c0 c d before events event takes s hu f ad =
     let act = acted a past p u place c0 c d before events event takes s hu f ad in
-    let t = total-falls (length a.machines) (most_of a past p) ad.role.0 (done_after (done_in past) events) act.there act.few in
+    let t = total_falls (length a.machines) (most_of a past p) ad.role.0 (done_after (done_in past) events) act.present act.bounded in
     let e : done_after (done_in past) (events ++ (event ∷ [])) ≡ one_more (done_after (done_in past) events) ad.role.0 =
-    done-snoc (done_in past) events event ∙ ap (λ (z : ℕ). one_more (done_after (done_in past) events) z) (role-by a.machines c d ad.role event act.is) in
+    done_snoc (done_in past) events event ∙ ap (λ (z : ℕ). one_more (done_after (done_in past) events) z) (role_by a.machines c d ad.role event act.is) in
     let N : (ℕ → ℕ) → Type 0 = λ z. total (length a.machines) (most_of a past p) z < total (length a.machines) (most_of a past p) (done_after (done_in past) events) in
     subst N (sym e) (omega arith)
 
--- .. as it is counted down
-pub counts-down : (a : Accepted_data) (past : List Event) (p u : Role) (place : ℕ) (c0 c d : Configuration) (before : ℕ) (events : List Event) (event : Event) → IsAcceptedSession a → u.0 < length a.machines
+-- each act leaves fewer, as they are counted down
+pub counts_down : (a : Accepted_data) (past : List Event) (p u : Role) (place : ℕ) (c0 c d : Configuration) (before : ℕ) (events : List Event) (event : Event) → IsAcceptedSession a
+    → u.0 < length a.machines
     → Following a past p u place c0 c before events → Advances a.machines p u c d event true → before ≢ 0 → Following a past p u place c0 d (before - 1) (events ++ (event ∷ []))
-counts-down a past p u place c0 c d zero events event s hu f ad some = absurd (some refl)
-counts-down a past p u place c0 c d (suc k) events event s hu f ad some =
+counts_down a past p u place c0 c d zero events event s hu f ad some = absurd (some refl)
+counts_down a past p u place c0 c d (suc k) events event s hu f ad some =
     let e : k ≡ suc k - 1 = omega arith in
     let P : ℕ → Type 0 = λ z. Following a past p u place c0 d z (events ++ (event ∷ [])) in
-    subst P e (comes-nearer a past p u place c0 c d k events event s hu f ad)
+    subst P e (comes_nearer a past p u place c0 c d k events event s hu f ad)
 
 -- the same advance, of an equal event
-pub advances-as : (ms : List Machine_data) (p u : Role) (c d : Configuration) (e e' : Event) (t t' : Bool) → Advances ms p u c d e t → e ≡ e' → t ≡ t' → Advances ms p u c d e' t'
-advances-as ms p u c d e e' t t' ad se st = let P : Event → Bool → Type 0 = λ x y. Advances ms p u c d x y in subst₂ P se st ad
+pub advances_as : (ms : List Machine_data) (p u : Role) (c d : Configuration) (e e' : Event) (t t' : Bool) → Advances ms p u c d e t → e ≡ e' → t ≡ t' → Advances ms p u c d e' t'
+advances_as ms p u c d e e' t t' ad se st = let P : Event → Bool → Type 0 = λ x y. Advances ms p u c d x y in subst₂ P se st ad

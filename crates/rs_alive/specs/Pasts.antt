@@ -25,7 +25,7 @@ pub record IsContinued (machines : List Machine_data) (past : List Event) (sende
 -- there it leads nowhere
 pub record IsNoPast (machines : List Machine_data) (past : List Event) (place : ℕ) : Type 0 where
   pub event : Event
-  pub is : slice_get past place ≡ Some event
+  pub stands : slice_get past place ≡ Some event
   pub at : Configuration
   pub leads : PastLeadsTo machines (take place past) at
   pub no_step : (d : Configuration) → Step machines at event d → ⊥
@@ -36,7 +36,7 @@ pub record HasNoMessage (machines : List Machine_data) (past : List Event) (send
   pub at : Configuration
   pub leads : PastLeadsTo machines past at
   pub has : length (at.queue sender.0 receiver.0) ≡ many
-  pub few : many ≤ place
+  pub bounded : many ≤ place
 
 -- what a fault says; of refused memory nothing is said
 abbrev pub PastTells : List Machine_data → List Event → Role → Role → ℕ → AliveFault → Type 0

@@ -1,13 +1,11 @@
 -- Steps: who acts next so that a receiver comes to its message: the receiver itself where it can, or else the role for
 -- which it waits, or the role for which that one waits, and so on.
-use Rattle.std.specs.Prelude.{◌≡◌, ℕ, zero, suc, ◌<◌, Bool, false, nat_eq, nat_lt, ◌&&◌, List, [], ◌∷◌, Option, Some, None, length, if◌then◌else◌, pos}
+use Rattle.std.specs.Prelude.{◌≡◌, ℕ, zero, suc, ◌<◌, Bool, false, nat_eq, nat_lt, ◌&&◌, List, [], ◌∷◌, Option, Some, None, length, if◌then◌else◌}
 use Rattle.rs_model.specs.Data.{Machine_data}
 use Rattle.rs_model.specs.declared.graph.Role.{Role}
 use Rattle.rs_model.specs.declared.machines.State.{State}
 use Rattle.rs_model.specs.declared.machines.State.TheVariants.{Done, Puts, Takes}
-use Rattle.rs_model.specs.declared.values.Sort.{Sort}
 use Rattle.rs_model.specs.declared.values.Sort.TheVariants as sort
-use Rattle.rs_model.specs.declared.values.Value.{Value}
 use Rattle.rs_model.specs.declared.values.Value.TheVariants as value
 use Rattle.rs_model.specs.Values.{empty_value}
 use Rattle.rs_core.specs.declared.messages.Event.{Event}
@@ -36,21 +34,21 @@ Chain machines c (suc many) p last = (peer : Role) × (waits_for machines c p �
 abbrev pub WaitsLeadOn : List Machine_data → Configuration → ℕ → ℕ → Type 0
 WaitsLeadOn machines c p last = (many : ℕ) × Chain machines c many p last
 
--- .. which is one of the roles and can go on
+-- the waits lead to a role that is one of these and can go on
 abbrev pub CanLeadOn : List Machine_data → Configuration → ℕ → Type 0
 CanLeadOn machines c p = (last : ℕ) × WaitsLeadOn machines c p last × (last < length machines) × CanMove machines c last
 
 -- what a role in that state does: it sends by its first arm, or it receives
-abbrev pub act_by : Option State → Role → Option Event
-act_by None role = None
-act_by (Some Done) role = None
-act_by (Some (Puts peer [])) role = None
-act_by (Some (Puts peer (arm ∷ arms))) role = Some (Send role 0 (empty_value arm.sort))
-act_by (Some (Takes peer arms)) role = Some (Receive role)
+abbrev pub event_by : Option State → Role → Option Event
+event_by None role = None
+event_by (Some Done) role = None
+event_by (Some (Puts peer [])) role = None
+event_by (Some (Puts peer (arm ∷ arms))) role = Some (Send role 0 (empty_value arm.sort))
+event_by (Some (Takes peer arms)) role = Some (Receive role)
 
 -- what the role does
-abbrev pub act_of : List Machine_data → Configuration → Role → Option Event
-act_of machines c role = act_by (state_at machines c role.0) role
+abbrev pub event_of : List Machine_data → Configuration → Role → Option Event
+event_of machines c role = event_by (state_at machines c role.0) role
 
 -- whether a receive in that state takes from the sender
 abbrev pub takes_by : Option State → Role → Bool
@@ -68,6 +66,6 @@ takes_from machines c role sender receiver = nat_eq role.0 receiver.0 && takes_b
 pub record Advances (machines : List Machine_data) (sender receiver : Role) (c d : Configuration) (event : Event) (takes : Bool) : Type 0 where
   pub role : Role
   pub leads : WaitsLeadOn machines c receiver.0 role.0
-  pub acts : act_of machines c role ≡ Some event
+  pub acts : event_of machines c role ≡ Some event
   pub step : Step machines c event d
   pub tells : takes ≡ takes_from machines c role sender receiver

@@ -7,11 +7,9 @@ ghost use Rattle.rs_core.specs.declared.messages.Message.{Message};
 ghost use Rattle.rs_model.specs.declared.graph.Role.{Role};
 ghost use Rattle.rs_model.specs.Data.{Machine_data, Protocol_data};
 ghost use Rattle.rs_project.specs.Data.{Projection_data};
-ghost use Rattle.rs_project.specs.Projection.{AreProjections};
-ghost use Rattle.rs_wellformed.specs.WellFormed.{IsWellFormed};
 ghost use Rattle.rs_derive.specs.Data.{Derivation_data};
-ghost use Rattle.rs_core.specs.Choices.{AreWellFormed, HaveLabelsOnce};
-ghost use Rattle.rs_safety.specs.Sessions.{AreDerivations};
+ghost use Rattle.rs_core.specs.Choices.{HaveLabelsOnce};
+ghost use Rattle.rs_safety.specs.Sessions.{IsDerivedSession};
 ghost use Rattle.rs_safety.specs.Room.{room_of};
 ghost use Rattle.rs_alive.specs.Pasts.{AgreeFor, IsNoPast, PastLeadsTo};
 ghost use Rattle.rs_alive.specs.Taken.{EndsWithReceive, IsTaken, acts_by};
@@ -20,7 +18,7 @@ ghost use Rattle.rs_alive.specs.Taken.{EndsWithReceive, IsTaken, acts_by};
 /// of roles times the number of nodes times the sum of the sender's own events and three times the room.
 pub fn every_message_can_be_taken()
     ensures { (protocol : Protocol_data) (projections : List Projection_data) (machines : List Machine_data) (derivations : List Derivation_data)
-        → IsWellFormed protocol → AreProjections protocol projections → length machines ≡ protocol.roles → AreWellFormed machines → AreDerivations machines projections derivations
+        → IsDerivedSession protocol projections machines derivations
         → (c : Configuration) (reached : IsReachable machines c) (sender receiver : Role) (place : ℕ)
         → sender.0 < length machines → receiver.0 < length machines → sender.0 ≢ receiver.0 → place < length (c.queue sender.0 receiver.0)
         → (events : List Event) × IsTaken machines sender receiver c place events

@@ -1,3 +1,4 @@
+//! The schedule by which a message comes to be taken: from its receiver along the waits, to the role that can go on.
 ghost use Rattle.std.specs.Prelude.{◌≡◌, ◌<◌, IfOk, List, MatchOption, None, Some, length};
 ghost use Rattle.rs_core.specs.Configurations.{state_at};
 ghost use Rattle.rs_core.specs.Core.{configuration_of};
@@ -7,7 +8,7 @@ ghost use Rattle.rs_model.specs.declared.graph.Arm.{Arm};
 ghost use Rattle.rs_model.specs.declared.graph.Role.{Role};
 ghost use Rattle.rs_model.specs.declared.machines.State.TheVariants.{Takes};
 ghost use Rattle.rs_core.specs.Choices.{AreWellFormed};
-ghost use Rattle.rs_alive.specs.Schedule.{Advances, CanLeadOn, WaitsLeadOn, act_of, takes_from, waits_for};
+ghost use Rattle.rs_alive.specs.Schedule.{Advances, CanLeadOn, WaitsLeadOn, event_of, takes_from, waits_for};
 
 use rs_core::{Core, Event, StepFault};
 use rs_model::{Machine, NoMemory, Numbers, Octets, Role, Sort, State, Value};
@@ -48,10 +49,10 @@ pub(crate) fn advance(
 fn last_of(machines: &[Machine], core: &Core, role: Role) -> Role
     requires machines { machines.now ≡ core.now.machines }
     requires well_formed { AreWellFormed machines.now }
-    requires there { role.0 < length machines.now }
+    requires present { role.0 < length machines.now }
     requires leads { CanLeadOn core.now.machines (configuration_of core.now) role.0 }
     ensures leads { WaitsLeadOn core.now.machines (configuration_of core.now) role.0 result.0 }
-    ensures there { result.0 < length machines.now }
+    ensures present { result.0 < length machines.now }
 {
     let mut last = role;
     for _ in 0..machines.len() {
@@ -67,9 +68,9 @@ fn last_of(machines: &[Machine], core: &Core, role: Role) -> Role
 fn waits_for(machines: &[Machine], core: &Core, role: Role) -> Option<Role>
     requires machines { machines.now ≡ core.now.machines }
     requires well_formed { AreWellFormed machines.now }
-    requires there { role.0 < length machines.now }
+    requires present { role.0 < length machines.now }
     ensures waits { result ≡ waits_for core.now.machines (configuration_of core.now) role.0 }
-    ensures there { MatchOption result (Unit {0}) (λ r. r.0 < length machines.now) }
+    ensures present { MatchOption result (Unit {0}) (λ r. r.0 < length machines.now) }
 {
     match here(machines, core, role) {
         Some(State::Takes { peer, .. }) => {
@@ -87,7 +88,7 @@ fn waits_for(machines: &[Machine], core: &Core, role: Role) -> Option<Role>
 fn here<'a>(machines: &'a [Machine], core: &Core, role: Role) -> Option<&'a State>
     requires machines { machines.now ≡ core.now.machines }
     requires well_formed { AreWellFormed machines.now }
-    requires there { role.0 < length machines.now }
+    requires present { role.0 < length machines.now }
     ensures state { MatchOption result (state_at core.now.machines (configuration_of core.now) role.0 ≡ None) (λ s. state_at core.now.machines (configuration_of core.now) role.0 ≡ Some s.now) }
     ensures takes { (peer : Role) (arms : List Arm) → state_at core.now.machines (configuration_of core.now) role.0 ≡ Some (Takes peer arms) → peer.0 < length core.now.machines }
 {
@@ -100,9 +101,9 @@ fn here<'a>(machines: &'a [Machine], core: &Core, role: Role) -> Option<&'a Stat
 fn act_of(alloc: Global, machines: &[Machine], core: &Core, role: Role) -> Result<Event, NoMemory>
     requires machines { machines.now ≡ core.now.machines }
     requires well_formed { AreWellFormed machines.now }
-    requires there { role.0 < length machines.now }
-    requires acts { (event : Event) × (act_of core.now.machines (configuration_of core.now) role ≡ Some event) }
-    ensures { IfOk result (λ e. act_of core.now.machines (configuration_of core.now) role ≡ Some e) }
+    requires present { role.0 < length machines.now }
+    requires acts { (event : Event) × (event_of core.now.machines (configuration_of core.now) role ≡ Some event) }
+    ensures { IfOk result (λ e. event_of core.now.machines (configuration_of core.now) role ≡ Some e) }
 {
     match here(machines, core, role) {
         Some(State::Puts { arms, .. }) => match arms.as_slice().first() {
@@ -122,7 +123,7 @@ fn act_of(alloc: Global, machines: &[Machine], core: &Core, role: Role) -> Resul
 fn takes_from(machines: &[Machine], core: &Core, role: Role, sender: Role, receiver: Role) -> bool
     requires machines { machines.now ≡ core.now.machines }
     requires well_formed { AreWellFormed machines.now }
-    requires there { role.0 < length machines.now }
+    requires present { role.0 < length machines.now }
     ensures { result ≡ takes_from core.now.machines (configuration_of core.now) role sender receiver }
 {
     match here(machines, core, role) {

@@ -1,3 +1,4 @@
+//! The events that lead to the receive of a stated message, behind a stated past.
 ghost use Rattle.std.specs.Prelude.{◌≡◌, ◌≢◌, ◌<◌, ◌≤◌, ◌^◌, ◌*◌, ◌+◌, ◌++◌, ◌∷◌, [], IfOk, IfErr, OnOk, length};
 ghost use Rattle.rs_alive.specs.Pasts.{IsContinued, PastLeadsTo, PastTells};
 ghost use Rattle.rs_alive.specs.Replays.{IsReplayFault, IsStepFault};
@@ -8,7 +9,7 @@ ghost use Rattle.rs_safety.specs.Room.{room_of};
 
 use crate::schedule::{Advanced, advance, copy_of};
 use rs_core::{Core, Event, StepFault};
-use rs_model::{Machine, NoMemory, Role};
+use rs_model::{NoMemory, Role, copies_of};
 use rs_safety::Accepted;
 use std::alloc::Global;
 
@@ -50,7 +51,7 @@ pub fn taken_within(
     requires sender { sender.0 < length accepted.now.machines }
     requires receiver { receiver.0 < length accepted.now.machines }
     requires apart { sender.0 ≢ receiver.0 }
-    requires few { length past.now < 2 ^ 32 }
+    requires bounded { length past.now < 2 ^ 32 }
     ensures continued { IfOk result (λ v. IsContinued accepted.now.machines past.now sender receiver place v.items) }
     ensures bounded { IfOk result (λ v. length v.items ≤ 2 * length accepted.now.machines * length accepted.now.protocol.nodes * (acts_by sender.0 past.now + 3 * room_of accepted.now.derivations)) }
     ensures fault { IfErr result (λ e. PastTells accepted.now.machines past.now sender receiver place e) }
@@ -84,7 +85,7 @@ fn push(events: &mut Vec<Event>, event: Event) -> Result<(), NoMemory>
 
 /// The session after the events of the past.
 fn replayed(alloc: Global, accepted: &Accepted, past: &[Event]) -> Result<Core, AliveFault>
-    requires few { length past.now < 2 ^ 32 }
+    requires bounded { length past.now < 2 ^ 32 }
     ensures machines { IfOk result (λ c. c.machines ≡ accepted.now.machines) }
     ensures leads { IfOk result (λ c. PastLeadsTo accepted.now.machines past.now (configuration_of c)) }
     ensures fault { IfErr result (λ e. IsReplayFault accepted.now.machines past.now e) }
@@ -129,14 +130,4 @@ fn role_of(event: &Event) -> Role
     match event {
         Event::Send { role, .. } | Event::Receive { role } => *role,
     }
-}
-
-fn copies_of(alloc: Global, machines: &[Machine]) -> Result<Vec<Machine>, NoMemory>
-    ensures { IfOk result (λ v. v.items ≡ machines.now) }
-{
-    let mut copies = Vec::with_capacity(alloc, machines.len())?;
-    for machine in machines {
-        copies.push(machine.copy(alloc)?)?;
-    }
-    Ok(copies)
 }

@@ -16,22 +16,16 @@ use Rattle.rs_answers.specs.Derivations.{AreCanonical, IsUnderivable}
 use Rattle.rs_wellformed.specs.Faults.{first_fault}
 use Rattle.rs_wellformed.specs.declared.checks.WfFault.{WfFault}
 use Rattle.rs_answers.specs.declared.verdicts.Verdict.TheVariants as verdict
-use Rattle.rs_answers.proofs.CheckParts.{refused_row}
 use Rattle.rs_answers.specs.Checks as checks
 use Rattle.rs_answers.specs.Checks.{Checks, with_derivations}
 use Rattle.rs_documents.specs.Data.{Document_data}
 use Rattle.rs_answers.specs.Data.{Answer_data}
-use Rattle.rs_answers.specs.Pools as pools
-use Rattle.rs_answers.specs.Pools.{RunsByWorkers}
 use Rattle.rs_answers.specs.RefusalTexts.{wf_answer, proj_answer}
 use Rattle.rs_answers.specs.Refusals.{HasNoDerivations, HasNoSession, IsIllFormed, HasNoProjection, HasIllMachine, IsWithoutSession, HasNoDerivation, of_projecting, of_searching, refusal_answer}
 use Rattle.rs_answers.specs.declared.derivations.Underivable.{Underivable}
 use Rattle.rs_answers.specs.declared.refusals.Refusal.{Refusal}
 use Rattle.rs_answers.specs.declared.refusals.Refusal.TheVariants as refusal
 use Rattle.rs_answers.specs.Report.{report}
-use Rattle.rs_answers.specs.Runs as runs
-use Rattle.rs_answers.specs.Runs.{Runs}
-use Rattle.rs_answers.specs.declared.runs.RunOptions.{RunOptions}
 use Rattle.rs_answers.specs.Sessions.{HasMachines, Refuses, first_refusal, machines_of}
 use Rattle.rs_answers.specs.Shown.{Shows}
 use Rattle.rs_answers.specs.Tables as tables
@@ -48,37 +42,27 @@ made P Q (Ok m) p h = h m p
 made P Q (Err e) p h = tt
 
 -- the document is refused
-pub refused : (bound : ℕ) (asked : Bool) (d : Document_data) (why : Refusal) (r : Result Answer_data NoMemory) → (why ≡ refusal.NoMemory) ⊎ HasNoDerivations bound d why → IfOk r (λ a. a ≡ refusal_answer d.names why)
+pub refused : (bound : ℕ) (asked : Bool) (d : Document_data) (why : Refusal) (r : Result Answer_data NoMemory) → (why ≡ refusal.NoMemory) ⊎ HasNoDerivations bound d why
+    → IfOk r (λ a. a ≡ refusal_answer d.names why)
     → IfOk r (λ a. why ≡ refusal.NoMemory → ⊥) → IfOk r (Checks bound asked d)
 refused bound asked d why (Err e) h is never = tt
 refused bound asked d why (Ok m) (inl memory) is never = absurd (never memory)
-refused bound asked d why (Ok m) (inr h) is never = refused_row bound asked d m why h is
+refused bound asked d why (Ok m) (inr h) is never = checks.IsRefused why h is
 
-pub accepted : (bound : ℕ) (d : Document_data) (ps : List Projection_data) (ms : List Machine_data) (ds : List Derivation_data) (r : Result Answer_data NoMemory) → HasMachines d ps ms → AreCanonical bound ms ps ds
+pub accepted : (bound : ℕ) (d : Document_data) (ps : List Projection_data) (ms : List Machine_data) (ds : List Derivation_data) (r : Result Answer_data NoMemory) → HasMachines d ps ms
+    → AreCanonical bound ms ps ds
     → IfOk r (λ a. a ≡ report d.names.roles ds) → IfOk r (Checks bound false d)
 accepted bound d ps ms ds r h found is = meant (Checks bound false d) r (report d.names.roles ds) is (λ m x. checks.IsAccepted ps ms ds h found x)
 
--- .. and its derivations are shown
-pub shown : (bound : ℕ) (d : Document_data) (ps : List Projection_data) (ms : List Machine_data) (ds : List Derivation_data) (r : Result Answer_data NoMemory) → HasMachines d ps ms → AreCanonical bound ms ps ds
+-- the session is accepted, and its derivations are shown
+pub shown : (bound : ℕ) (d : Document_data) (ps : List Projection_data) (ms : List Machine_data) (ds : List Derivation_data) (r : Result Answer_data NoMemory) → HasMachines d ps ms
+    → AreCanonical bound ms ps ds
     → IfOk r (Shows (with_derivations d ds)) → IfOk r (Checks bound true d)
 shown bound d ps ms ds r h found is = made (Shows (with_derivations d ds)) (Checks bound true d) r is (λ m x. checks.IsAccepted ps ms ds h found x)
 
--- the document is refused, and so isn't run
-pub refused_run : (options : RunOptions) (d : Document_data) (why : Refusal) (r : Result Answer_data NoMemory) → (why ≡ refusal.NoMemory) ⊎ HasNoDerivations options.bound d why → IfOk r (λ a. a ≡ refusal_answer d.names why)
-    → IfOk r (λ a. why ≡ refusal.NoMemory → ⊥) → IfOk r (Runs options d)
-refused_run options d why (Err e) h is never = tt
-refused_run options d why (Ok m) (inl memory) is never = absurd (never memory)
-refused_run options d why (Ok m) (inr h) is never = runs.IsRefused why h is
-
--- .. by several workers either
-pub refused_by_workers : (options : RunOptions) (d : Document_data) (why : Refusal) (r : Result Answer_data NoMemory) → (why ≡ refusal.NoMemory) ⊎ HasNoDerivations options.bound d why → IfOk r (λ a. a ≡ refusal_answer d.names why)
-    → IfOk r (λ a. why ≡ refusal.NoMemory → ⊥) → IfOk r (RunsByWorkers options d)
-refused_by_workers options d why (Err e) h is never = tt
-refused_by_workers options d why (Ok m) (inl memory) is never = absurd (never memory)
-refused_by_workers options d why (Ok m) (inr h) is never = pools.IsRefused why h is
-
 -- why there is no session, or no derivation
-pub no_projection : (d : Document_data) (f : ProjFault) → first_fault d.protocol ≡ None → (f ≡ proj.NoMemory) ⊎ Refuses d.protocol f → (of_projecting f ≡ refusal.NoMemory) ⊎ HasNoSession d (of_projecting f)
+pub no_projection : (d : Document_data) (f : ProjFault) → first_fault d.protocol ≡ None → (f ≡ proj.NoMemory) ⊎ Refuses d.protocol f
+    → (of_projecting f ≡ refusal.NoMemory) ⊎ HasNoSession d (of_projecting f)
 no_projection d proj.NoMemory none why = inl refl
 no_projection d (proj.Unmergeable role a b) none (inl memory) = absurd cc
 no_projection d (proj.Unmergeable role a b) none (inr u) = inr (HasNoProjection none u.0 (proj.Unmergeable role a b) u.1)
@@ -92,10 +76,12 @@ pub ill_machine : (d : Document_data) (ps : List Projection_data) (ms : List Mac
 ill_machine d ps ms role f none h e s =
     HasIllMachine ps (record { well_formed = none; projected = h }) (record { role = role; fault = f }) (subst (λ z. first_refusal d.protocol.roles z ≡ Some (record { role = role; fault = f })) e s)
 
-pub has_machines : (d : Document_data) (ps : List Projection_data) (ms : List Machine_data) → first_fault d.protocol ≡ None → AreNumberedProjections d.protocol ps → ms ≡ machines_of d.machines ps → first_refusal d.protocol.roles ms ≡ None → HasMachines d ps ms
+pub has_machines : (d : Document_data) (ps : List Projection_data) (ms : List Machine_data) → first_fault d.protocol ≡ None → AreNumberedProjections d.protocol ps → ms ≡ machines_of d.machines ps
+    → first_refusal d.protocol.roles ms ≡ None → HasMachines d ps ms
 has_machines d ps ms none h e s = record { projections_are = record { well_formed = none; projected = h }; machines_are = e; well_formed = s }
 
-pub no_derivation : (bound : ℕ) (d : Document_data) (ps : List Projection_data) (ms : List Machine_data) (u : Underivable) → HasMachines d ps ms → (u.fault ≡ search.NoMemory) ⊎ IsUnderivable bound ms ps u.role u.fault
+pub no_derivation : (bound : ℕ) (d : Document_data) (ps : List Projection_data) (ms : List Machine_data) (u : Underivable) → HasMachines d ps ms
+    → (u.fault ≡ search.NoMemory) ⊎ IsUnderivable bound ms ps u.role u.fault
     → (of_searching u.role u.fault ≡ refusal.NoMemory) ⊎ HasNoDerivations bound d (of_searching u.role u.fault)
 no_derivation bound d ps ms u h why = go u.fault why
   where
@@ -113,18 +99,22 @@ of_err : {A : Type 0} (r : Result A Refusal) (why : Refusal) (P : Refusal → Ty
 of_err (Ok a) why P is h = tt
 of_err (Err e) why P is h = subst P (sym is) h
 
-pub tells_ill_formed : {A : Type 0} (d : Document_data) (f : WfFault) (r : Result A Refusal) → IsErrAnd r (λ e. e ≡ refusal.IllFormed f) → first_fault d.protocol ≡ Some f → IfErr r (λ why. (why ≡ refusal.NoMemory) ⊎ HasNoSession d why)
+pub tells_ill_formed : {A : Type 0} (d : Document_data) (f : WfFault) (r : Result A Refusal) → IsErrAnd r (λ e. e ≡ refusal.IllFormed f) → first_fault d.protocol ≡ Some f
+    → IfErr r (λ why. (why ≡ refusal.NoMemory) ⊎ HasNoSession d why)
 tells_ill_formed d f r is e = of_err r (refusal.IllFormed f) (λ why. (why ≡ refusal.NoMemory) ⊎ HasNoSession d why) is (inr (IsIllFormed f e))
 
-pub tells_no_projection : {A : Type 0} (d : Document_data) (f : ProjFault) (r : Result A Refusal) → IsErrAnd r (λ e. e ≡ of_projecting f) → first_fault d.protocol ≡ None → (f ≡ proj.NoMemory) ⊎ Refuses d.protocol f
+pub tells_no_projection : {A : Type 0} (d : Document_data) (f : ProjFault) (r : Result A Refusal) → IsErrAnd r (λ e. e ≡ of_projecting f) → first_fault d.protocol ≡ None
+    → (f ≡ proj.NoMemory) ⊎ Refuses d.protocol f
     → IfErr r (λ why. (why ≡ refusal.NoMemory) ⊎ HasNoSession d why)
 tells_no_projection d f r is none why = of_err r (of_projecting f) (λ w. (w ≡ refusal.NoMemory) ⊎ HasNoSession d w) is (no_projection d f none why)
 
-pub tells_no_session : {A : Type 0} (bound : ℕ) (d : Document_data) (f : Refusal) (r : Result A Refusal) → IsErrAnd r (λ e. e ≡ f) → (f ≡ refusal.NoMemory) ⊎ HasNoSession d f → IfErr r (λ why. (why ≡ refusal.NoMemory) ⊎ HasNoDerivations bound d why)
+pub tells_no_session : {A : Type 0} (bound : ℕ) (d : Document_data) (f : Refusal) (r : Result A Refusal) → IsErrAnd r (λ e. e ≡ f) → (f ≡ refusal.NoMemory) ⊎ HasNoSession d f
+    → IfErr r (λ why. (why ≡ refusal.NoMemory) ⊎ HasNoDerivations bound d why)
 tells_no_session bound d f r is (inl memory) = of_err r f (λ w. (w ≡ refusal.NoMemory) ⊎ HasNoDerivations bound d w) is (inl memory)
 tells_no_session bound d f r is (inr h) = of_err r f (λ w. (w ≡ refusal.NoMemory) ⊎ HasNoDerivations bound d w) is (inr (IsWithoutSession f h))
 
-pub tells_no_derivation : {A : Type 0} (bound : ℕ) (d : Document_data) (ps : List Projection_data) (ms : List Machine_data) (u : Underivable) (r : Result A Refusal) → IsErrAnd r (λ e. e ≡ of_searching u.role u.fault) → HasMachines d ps ms
+pub tells_no_derivation : {A : Type 0} (bound : ℕ) (d : Document_data) (ps : List Projection_data) (ms : List Machine_data) (u : Underivable) (r : Result A Refusal)
+    → IsErrAnd r (λ e. e ≡ of_searching u.role u.fault) → HasMachines d ps ms
     → (u.fault ≡ search.NoMemory) ⊎ IsUnderivable bound ms ps u.role u.fault → IfErr r (λ why. (why ≡ refusal.NoMemory) ⊎ HasNoDerivations bound d why)
 tells_no_derivation bound d ps ms u r is h why = of_err r (of_searching u.role u.fault) (λ w. (w ≡ refusal.NoMemory) ⊎ HasNoDerivations bound d w) is (no_derivation bound d ps ms u h why)
 

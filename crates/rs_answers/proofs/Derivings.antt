@@ -16,8 +16,8 @@ use Rattle.rs_project.specs.Numbered.{AreNumberedProjections}
 use Rattle.rs_safety.specs.Accepting.{FirstRefused}
 use Rattle.rs_safety.specs.Sessions.{AreDerivations, AreOneEach, IsSession}
 use Rattle.rs_safety.specs.Figures.{OwesFew}
-use Rattle.rs_safety.proofs.Accepts.{accepted-safe, accepted-session, all-owe-few, gets, machine-proper, projection-proper}
-use Rattle.rs_safety.proofs.Sessions.{no-machine, no-projection}
+use Rattle.rs_safety.proofs.Accepts.{accepted_safe, accepted_session, all_owe_few_shown, gets, machine_proper, projection_proper}
+use Rattle.rs_safety.proofs.Sessions.{no_machine, no_projection}
 use Rattle.rs_search.proofs.Accepted.{accepted, derives, remembers}
 use Rattle.rs_search.proofs.Determined.{few_nodes}
 use Rattle.rs_search.specs.Canonical.{IsCanonical, SearchRefuses}
@@ -26,7 +26,8 @@ use Rattle.rs_search.specs.declared.faults.SearchFault.TheVariants as search
 use Rattle.rs_wellformed.specs.Faults as of_protocols
 use Rattle.rs_wellformed.proofs.Faults as well_formed_protocols
 use Rattle.rs_documents.specs.Data.{Document_data}
-use Rattle.rs_answers.specs.Derivations.{AreCanonical, AreFirstCanonical, IsSearchBound, IsUnderivable}
+use Rattle.rs_answers.specs.Derivations.{AreCanonical, AreFirstCanonical, IsUnderivable}
+use Rattle.rs_model.specs.Limits.{IsBound}
 use Rattle.rs_documents.specs.Reading.{AreInPlace, DocumentIsReady}
 use Rattle.rs_answers.specs.Sessions.{HasMachines, MachineRefusal, first_refusal, refusal_or}
 use Rattle.rs_answers.specs.Machines.{machine_or, machines_of}
@@ -60,11 +61,12 @@ chosen (x ∷ xs) [] p m h = absurd (cc (h))
 chosen (x ∷ xs) (j ∷ js) zero m h = record { own' = x; projection = j; has = refl; projects = refl; is = sym (same_Some (machine_or x j) m h) }
 chosen (x ∷ xs) (j ∷ js) (suc p) m h = let c = chosen xs js p m h in record { own' = c.own'; projection = c.projection; has = c.has; projects = c.projects; is = c.is }
 
-in_place : (d : Document_data) (ps : List Projection_data) → AreInPlace d.machines → AreNumberedProjections d.protocol ps → (p : ℕ) (m : Machine_data) → slice_get (machines_of d.machines ps) p ≡ Some m → m.role.0 ≡ p
+in_place : (d : Document_data) (ps : List Projection_data) → AreInPlace d.machines → AreNumberedProjections d.protocol ps → (p : ℕ) (m : Machine_data)
+    → slice_get (machines_of d.machines ps) p ≡ Some m → m.role.0 ≡ p
 in_place d ps placed h p m e = go (chosen d.machines ps p m e)
   where
     by : (o : Option Machine_data) (j : Projection_data) → slice_get d.machines p ≡ Some o → slice_get ps p ≡ Some j → m ≡ machine_or o j → m.role.0 ≡ p
-    by None j has projects is = ap (λ (z : Machine_data). z.role.0) is ∙ ap (λ (z : Role). z.0) (h.each p j projects).is.onto
+    by None j has projects is = ap (λ (z : Machine_data). z.role.0) is ∙ ap (λ (z : Role). z.0) (h.each p j projects).is_projection.onto
     by (Some x) j has projects is = ap (λ (z : Machine_data). z.role.0) is ∙ placed p x has
 
     go : IsChosen d.machines ps p m → m.role.0 ≡ p
@@ -83,7 +85,7 @@ session_of d ps ms spelt none h e fine =
     let size : length ms ≡ d.protocol.roles = ap length e ∙ chosen_many d.machines ps (spelt.one_each ∙ spelt.roles ∙ sym h.many) ∙ h.many in
     record {
       well_formed = well_formed_protocols.no_fault d.protocol none;
-      roles = ((let t = spelt.two in let r = spelt.roles in omega (arith, t, r)), (let f = spelt.few in let r = spelt.roles in omega (arith, f, r)));
+      roles = ((let t = spelt.two in let r = spelt.roles in omega (arith, t, r)), (let f = spelt.bounded in let r = spelt.roles in omega (arith, f, r)));
       projected = h;
       a_machine_each = size;
       machines_fit = record {
@@ -93,19 +95,28 @@ session_of d ps ms spelt none h e fine =
     }
 
 -- what is ready gives the same
-pub ready_session : (d : Document_data) → DocumentIsReady d → length d.names.roles ≡ d.protocol.roles → IsSpeltSession d
-ready_session d ready roles = record { two = ready.two; few = ready.roles; roles = roles; one_each = ready.one_each; in_place = ready.in_place; a_derivation_each = ready.derivations.one_each; derivations_in_place = ready.derivations.in_place }
+pub ready_session : (d : Document_data) → DocumentIsReady d → IsSpeltSession d
+ready_session d ready = record {
+  two = ready.two;
+  bounded = ready.roles;
+  roles = ready.a_name_each;
+  one_each = ready.one_each;
+  in_place = ready.in_place;
+  a_derivation_each = ready.derivations.one_each;
+  derivations_in_place = ready.derivations.in_place;
+}
 
--- .. of machines that the document has
-pub session_has : (d : Document_data) (ps : List Projection_data) (ms : List Machine_data) → DocumentIsReady d → length d.names.roles ≡ d.protocol.roles → HasMachines d ps ms → IsSession d.protocol ps ms
-session_has d ps ms ready roles h = session_of d ps ms (ready_session d ready roles) h.projections_are.well_formed h.projections_are.projected h.machines_are h.well_formed
+-- the machines that it has are a session
+pub session_has : (d : Document_data) (ps : List Projection_data) (ms : List Machine_data) → DocumentIsReady d → HasMachines d ps ms → IsSession d.protocol ps ms
+session_has d ps ms ready h = session_of d ps ms (ready_session d ready) h.projections_are.well_formed h.projections_are.projected h.machines_are h.well_formed
 
 -- no role is there yet
 pub none_canonical : (bound : ℕ) (ms : List Machine_data) (ps : List Projection_data) → AreFirstCanonical bound ms ps 0 []
 none_canonical bound ms ps = record { many = refl; each = λ p m j d hm hj hd. absurd (cc (hd)) }
 
 -- one role more
-pub next_canonical : (bound : ℕ) (ms : List Machine_data) (ps : List Projection_data) (count : ℕ) (ds : List Derivation_data) (m : Machine_data) (j : Projection_data) (d : Derivation_data) → AreFirstCanonical bound ms ps count ds
+pub next_canonical : (bound : ℕ) (ms : List Machine_data) (ps : List Projection_data) (count : ℕ) (ds : List Derivation_data) (m : Machine_data) (j : Projection_data) (d : Derivation_data)
+    → AreFirstCanonical bound ms ps count ds
     → slice_get ms count ≡ Some m → slice_get ps count ≡ Some j → IsCanonical m j.machine bound d → AreFirstCanonical bound ms ps (count + 1) (ds ++ d ∷ [])
 next_canonical bound ms ps count ds m j d h am aj found =
     let size = length-append ds (d ∷ []) in
@@ -125,8 +136,9 @@ next_canonical bound ms ps count ds m j d h am aj found =
       ];
     }
 
--- .. or none for it
-pub underivable : (bound : ℕ) (ms : List Machine_data) (ps : List Projection_data) (role : Role) (ds : List Derivation_data) (m : Machine_data) (j : Projection_data) (fault : SearchFault) → AreFirstCanonical bound ms ps role.0 ds
+-- one role more, for which there is no derivation
+pub underivable : (bound : ℕ) (ms : List Machine_data) (ps : List Projection_data) (role : Role) (ds : List Derivation_data) (m : Machine_data) (j : Projection_data) (fault : SearchFault)
+    → AreFirstCanonical bound ms ps role.0 ds
     → slice_get ms role.0 ≡ Some m → slice_get ps role.0 ≡ Some j → SearchRefuses m j.machine bound fault → (fault ≡ search.NoMemory) ⊎ IsUnderivable bound ms ps role fault
 underivable bound ms ps role ds m j search.NoMemory h am aj r = inl refl
 underivable bound ms ps role ds m j (search.NotFound cut) h am aj r = inr record { machine = m; projection = j; runs = am; projects = aj; earlier = ds; derived = h; refused = r; cause = λ e. cc (e) }
@@ -141,55 +153,62 @@ pub record FoundAt (bound : ℕ) (ms : List Machine_data) (ps : List Projection_
   pub projects : slice_get ps p ≡ Some projection
   pub found : IsCanonical machine projection.machine bound d
 
-pub found_at : (bound : ℕ) (pr : Protocol_data) (ps : List Projection_data) (ms : List Machine_data) (ds : List Derivation_data) → IsSession pr ps ms → AreCanonical bound ms ps ds → (p : ℕ) (d : Derivation_data) → slice_get ds p ≡ Some d → FoundAt bound ms ps p d
+pub found_at : (bound : ℕ) (pr : Protocol_data) (ps : List Projection_data) (ms : List Machine_data) (ds : List Derivation_data) → IsSession pr ps ms → AreCanonical bound ms ps ds
+    → (p : ℕ) (d : Derivation_data) → slice_get ds p ≡ Some d → FoundAt bound ms ps p d
 found_at bound pr ps ms ds s h p d at =
     let w = slice_get_within ds p d at in
-    let hm = slice_get-get_or ms p no-machine (omega (arith, w, h.many)) in
-    let hj = slice_get-get_or ps p no-projection (omega (arith, w, h.many, s.a_machine_each, s.projected.many)) in
-    record { machine = get_or ms p no-machine; projection = get_or ps p no-projection; runs = hm; projects = hj; found = h.each p (get_or ms p no-machine) (get_or ps p no-projection) d hm hj at }
+    let hm = slice_get-get_or ms p no_machine (omega (arith, w, h.many)) in
+    let hj = slice_get-get_or ps p no_projection (omega (arith, w, h.many, s.a_machine_each, s.projected.many)) in
+    record { machine = get_or ms p no_machine; projection = get_or ps p no_projection; runs = hm; projects = hj; found = h.each p (get_or ms p no_machine) (get_or ps p no_projection) d hm hj at }
 
 -- each of them is a derivation that remembers
-pub derivations_are : (bound : ℕ) (pr : Protocol_data) (ps : List Projection_data) (ms : List Machine_data) (ds : List Derivation_data) → IsSession pr ps ms → AreCanonical bound ms ps ds → AreDerivations ms ps ds
+pub derivations_are : (bound : ℕ) (pr : Protocol_data) (ps : List Projection_data) (ms : List Machine_data) (ds : List Derivation_data) → IsSession pr ps ms → AreCanonical bound ms ps ds
+    → AreDerivations ms ps ds
 derivations_are bound pr ps ms ds s h = record {
   many = h.many;
-  is = λ p m j d hm hj hd. (
+  each = λ p m j d hm hj hd. (
       let f = h.each p m j d hm hj hd in
-      let ours = machine-proper pr ps ms s p m hm in
-      let theirs = projection-proper pr ps ms s p j hj in
+      let ours = machine_proper pr ps ms s p m hm in
+      let theirs = projection_proper pr ps ms s p j hj in
       (derives m j.machine bound d ours theirs f.canonical, remembers m j.machine bound d f));
 }
 
 -- what was found for the roles can be tested
-pub one_each : (bound : ℕ) → IsSearchBound bound → (pr : Protocol_data) (ps : List Projection_data) (ms : List Machine_data) (ds : List Derivation_data) → IsSession pr ps ms → AreCanonical bound ms ps ds → AreOneEach pr.roles ds
+pub one_each : (bound : ℕ) → IsBound bound → (pr : Protocol_data) (ps : List Projection_data) (ms : List Machine_data) (ds : List Derivation_data) → IsSession pr ps ms → AreCanonical bound ms ps ds
+    → AreOneEach pr.roles ds
 one_each bound within pr ps ms ds s h = record {
   many = h.many ∙ s.a_machine_each;
   role = λ p d at. (let f = found_at bound pr ps ms ds s h p d at in ap (λ (z : Role). z.0) f.found.canonical.role ∙ s.machines_fit.role p f.machine f.runs);
   bound = λ p d at. (let f = found_at bound pr ps ms ds s h p d at in let b = f.found.canonical.bound' in (let w = within.0 in omega (arith, b, w), let w = within.1 in omega (arith, b, w)));
-  few = λ p d at. (let f = found_at bound pr ps ms ds s h p d at in let k = few_nodes f.machine f.projection.machine bound d f.found in omega (arith, k));
+  bounded = λ p d at. (let f = found_at bound pr ps ms ds s h p d at in let k = few_nodes f.machine f.projection.machine bound d f.found in omega (arith, k));
 }
 
--- .. and no node of one owes more than a derivation may be bounded by
-pub all_owe_few : (bound : ℕ) → IsSearchBound bound → (pr : Protocol_data) (ps : List Projection_data) (ms : List Machine_data) (ds : List Derivation_data) → IsSession pr ps ms → AreCanonical bound ms ps ds → All OwesFew ds
+-- no node of what was found owes more than a derivation may be bounded by
+pub all_owe_few : (bound : ℕ) → IsBound bound → (pr : Protocol_data) (ps : List Projection_data) (ms : List Machine_data) (ds : List Derivation_data) → IsSession pr ps ms → AreCanonical bound ms ps ds
+    → All OwesFew ds
 all_owe_few bound within pr ps ms ds s h =
-    all-owe-few (record { protocol = pr; projections = ps; derivations = ds; machines = ms })
-    (accepted-session pr ps ms ds s (one_each bound within pr ps ms ds s h) (derivations_are bound pr ps ms ds s h))
+    all_owe_few_shown (record { protocol = pr; projections = ps; derivations = ds; machines = ms })
+    (accepted_session pr ps ms ds s (one_each bound within pr ps ms ds s h) (derivations_are bound pr ps ms ds s h))
 
 -- what is accepted is safe
 pub canonical_safe : (bound : ℕ) (pr : Protocol_data) (ps : List Projection_data) (ms : List Machine_data) (ds : List Derivation_data) → IsSession pr ps ms → AreCanonical bound ms ps ds → IsSafe ms
-canonical_safe bound pr ps ms ds s h = accepted-safe pr ps ms ds s (derivations_are bound pr ps ms ds s h)
+canonical_safe bound pr ps ms ds s h = accepted_safe pr ps ms ds s (derivations_are bound pr ps ms ds s h)
 
 -- and is refused nowhere
-pub never_refused : (bound : ℕ) (pr : Protocol_data) (ps : List Projection_data) (ms : List Machine_data) (ds : List Derivation_data) (place : ℕ) (cause : DeriveFault) → IsSession pr ps ms → AreCanonical bound ms ps ds → FirstRefused ms ps ds place cause → ⊥
+pub never_refused : (bound : ℕ) (pr : Protocol_data) (ps : List Projection_data) (ms : List Machine_data) (ds : List Derivation_data) (place : ℕ) (cause : DeriveFault) → IsSession pr ps ms
+    → AreCanonical bound ms ps ds → FirstRefused ms ps ds place cause → ⊥
 never_refused bound pr ps ms ds place cause s h r =
     let f = h.each place r.machine r.projection r.derivation r.runs r.projects r.derives in
-    let none = accepted r.machine r.projection.machine bound r.derivation (machine-proper pr ps ms s place r.machine r.runs) (projection-proper pr ps ms s place r.projection r.projects) f in
+    let none = accepted r.machine r.projection.machine bound r.derivation (machine_proper pr ps ms s place r.machine r.runs) (projection_proper pr ps ms s place r.projection r.projects) f in
     let fault = r.fault in
     cc (none, fault)
 
 -- the machines are as the search asks
-pub ours_proper : (pr : Protocol_data) (ps : List Projection_data) (ms : List Machine_data) → IsSession pr ps ms → (place : ℕ) (m : Machine_data) → place < length ms → m ≡ get_or ms place m → IsProper m
-ours_proper pr ps ms s place m h e = machine-proper pr ps ms s place m (gets ms place m h e)
+pub ours_proper : (pr : Protocol_data) (ps : List Projection_data) (ms : List Machine_data) → IsSession pr ps ms → (place : ℕ) (m : Machine_data) → place < length ms → m ≡ get_or ms place m
+    → IsProper m
+ours_proper pr ps ms s place m h e = machine_proper pr ps ms s place m (gets ms place m h e)
 
 -- a projection stands at each place of a machine
-pub projects_at : (pr : Protocol_data) (ps : List Projection_data) (ms : List Machine_data) → IsSession pr ps ms → (place : ℕ) (j : Projection_data) → place < length ms → j ≡ get_or ps place j → slice_get ps place ≡ Some j
+pub projects_at : (pr : Protocol_data) (ps : List Projection_data) (ms : List Machine_data) → IsSession pr ps ms → (place : ℕ) (j : Projection_data) → place < length ms → j ≡ get_or ps place j
+    → slice_get ps place ≡ Some j
 projects_at pr ps ms s place j h e = gets ps place j (omega (arith, h, s.a_machine_each, s.projected.many)) e

@@ -1,5 +1,6 @@
 -- The projections and machines of a session, as they are found one by one.
-use Rattle.std.proofs.Common.{min, drop, append-nil, slice_index_or, ◌≡◌, ◌⊎◌, ℕ, zero, suc, ◌+◌, ◌<◌, ◌≤◌, List, [], ◌∷◌, ◌++◌, length, Option, Some, None, refl, sym, ap, subst, ◌∙◌, inl, inr, arith, slice_get, length-append}
+use Rattle.std.proofs.Common.{min, drop, append-nil, slice_index_or, ◌≡◌, ◌⊎◌, ℕ, zero, suc, ◌+◌, ◌<◌, ◌≤◌, List, [], ◌∷◌, ◌++◌, length, Option, Some, None, refl, sym, ap, subst, ◌∙◌, inl, inr}
+use Rattle.std.proofs.Common.{arith, slice_get, length-append}
 use Rattle.rs_model.specs.Data.{Protocol_data, Machine_data}
 use Rattle.rs_model.specs.declared.limits.TheConstants.{MOST_ACTS, MOST_STATES}
 use Rattle.rs_project.specs.Data.{Projection_data}
@@ -21,7 +22,8 @@ last_or_before (z ∷ zs) y (suc q) x e = elim (last_or_before zs y q x e) [
   | inr last ↦ inr (ap suc last.0, last.1)
 ]
 
-get_appended : (protocol : Protocol_data) (xs : List Projection_data) (count : ℕ) (y : Projection_data) (q : ℕ) (x : Projection_data) → AreFirstProjections protocol count xs → length xs ≡ count → IsNumberedProjection protocol (record { 0 = count }) y
+get_appended : (protocol : Protocol_data) (xs : List Projection_data) (count : ℕ) (y : Projection_data) (q : ℕ) (x : Projection_data) → AreFirstProjections protocol count xs → length xs ≡ count
+    → IsNumberedProjection protocol (record { 0 = count }) y
     → slice_get (xs ++ y ∷ []) q ≡ Some x → IsNumberedProjection protocol (record { 0 = q }) x
 get_appended protocol xs count y q x h many p e = elim (last_or_before xs y q x e) [
   | inl before ↦ h.each q x before
@@ -32,7 +34,8 @@ get_appended protocol xs count y q x h many p e = elim (last_or_before xs y q x 
 ]
 
 -- one projection more
-pub next_projection : (protocol : Protocol_data) (count : ℕ) (projections : List Projection_data) (projection : Projection_data) → AreFirstProjections protocol count projections → IsNumberedProjection protocol (record { 0 = count }) projection
+pub next_projection : (protocol : Protocol_data) (count : ℕ) (projections : List Projection_data) (projection : Projection_data) → AreFirstProjections protocol count projections
+    → IsNumberedProjection protocol (record { 0 = count }) projection
     → AreFirstProjections protocol (count + 1) (projections ++ projection ∷ [])
 next_projection protocol count projections projection h p =
     let size = length-append projections (projection ∷ []) in
@@ -43,7 +46,8 @@ pub no_projections : (protocol : Protocol_data) → AreFirstProjections protocol
 no_projections protocol = record { many = refl; each = λ p x e. absurd cc }
 
 -- the role onto which there is none
-pub refused_at : (protocol : Protocol_data) (count : ℕ) (projections : List Projection_data) (e : ProjFault) → count < protocol.roles → AreFirstProjections protocol count projections → (e ≡ proj.NoMemory) ⊎ FirstRefusal protocol (record { 0 = count }) e
+pub refused_at : (protocol : Protocol_data) (count : ℕ) (projections : List Projection_data) (e : ProjFault) → count < protocol.roles → AreFirstProjections protocol count projections
+    → (e ≡ proj.NoMemory) ⊎ FirstRefusal protocol (record { 0 = count }) e
     → (e ≡ proj.NoMemory) ⊎ Refuses protocol e
 refused_at protocol count projections e lt h (inl none) = inl none
 refused_at protocol count projections e lt h (inr r) = inr (record { 0 = count }, record { known = lt; earlier = projections; projected = h; refused = r })
@@ -56,7 +60,8 @@ none_more : (own : List (Option Machine_data)) → machines_of own [] ≡ []
 none_more [] = refl
 none_more (y ∷ ys) = refl
 
-none_left : (own : List (Option Machine_data)) (projections : List Projection_data) (place : ℕ) → min (length own) (length projections) ≤ place → machines_of (drop place own) (drop place projections) ≡ []
+none_left : (own : List (Option Machine_data)) (projections : List Projection_data) (place : ℕ) → min (length own) (length projections) ≤ place
+    → machines_of (drop place own) (drop place projections) ≡ []
 none_left [] projections place le = ap (λ z. machines_of z (drop place projections)) (drop_none place)
 none_left (x ∷ xs) [] zero le = refl
 none_left (x ∷ xs) [] (suc place) le = none_more (drop place xs)
@@ -75,12 +80,14 @@ chosen_size [] (p ∷ ps) e = absurd cc
 chosen_size (x ∷ xs) [] e = absurd cc
 chosen_size (x ∷ xs) (p ∷ ps) e = ap suc (chosen_size xs ps (cc))
 
-small_one : (own : Option Machine_data) (p : Projection_data) → ((m : Machine_data) → own ≡ Some m → length m.states < 4294967296) → length p.machine.states < 4294967296 → length (machine_or own p).states < 4294967296
+small_one : (own : Option Machine_data) (p : Projection_data) → ((m : Machine_data) → own ≡ Some m → length m.states < 4294967296) → length p.machine.states < 4294967296
+    → length (machine_or own p).states < 4294967296
 small_one None p h k = k
 small_one (Some m) p h k = h m refl
 
 -- none of them has many states
-pub chosen_small : (own : List (Option Machine_data)) (projections : List Projection_data) → AreShort own → ((k : ℕ) (p : Projection_data) → slice_get projections k ≡ Some p → length p.machine.states ≤ MOST_STATES)
+pub chosen_small : (own : List (Option Machine_data)) (projections : List Projection_data) → AreShort own
+    → ((k : ℕ) (p : Projection_data) → slice_get projections k ≡ Some p → length p.machine.states ≤ MOST_STATES)
     → (k : ℕ) (d : Machine_data) → k < length (machines_of own projections) → length (slice_index_or (machines_of own projections) k d).states < 4294967296
 chosen_small [] projections short few k d lt = absurd (omega arith)
 chosen_small (x ∷ xs) [] short few k d lt = absurd (omega arith)
@@ -88,27 +95,26 @@ chosen_small (x ∷ xs) (p ∷ ps) short few zero d lt =
     small_one x p (λ m e. let a : length m.states ≤ MOST_ACTS + 1 = short 0 m (ap Some e) in omega arith) (let b : length p.machine.states ≤ MOST_STATES = few 0 p refl in omega arith)
 chosen_small (x ∷ xs) (p ∷ ps) short few (suc k) d lt = chosen_small xs ps (λ j m e. short (suc j) m e) (λ j q e. few (suc j) q e) k d (omega arith)
 
-sizes : (own : List (Option Machine_data)) (d : Document_data) (projections : List Projection_data) → own ≡ d.machines → DocumentIsReady d → length d.names.roles ≡ d.protocol.roles → AreNumberedProjections d.protocol projections → length own ≡ length projections
+sizes : (own : List (Option Machine_data)) (d : Document_data) (projections : List Projection_data) → own ≡ d.machines → DocumentIsReady d → length d.names.roles ≡ d.protocol.roles
+    → AreNumberedProjections d.protocol projections → length own ≡ length projections
 sizes own d projections e ready roles h = ap length e ∙ ready.one_each ∙ roles ∙ sym h.many
 
-pub chosen_size_by : (d : Document_data) (own : List (Option Machine_data)) (projections : List Projection_data) (machines : List Machine_data) → own ≡ d.machines → DocumentIsReady d → length d.names.roles ≡ d.protocol.roles
-    → AreNumberedProjections d.protocol projections → machines ≡ machines_of own projections → length machines ≡ length projections
-chosen_size_by d own projections machines e ready roles h is = ap length is ∙ chosen_size own projections (sizes own d projections e ready roles h)
-
-few_states : (protocol : Protocol_data) (projections : List Projection_data) → AreNumberedProjections protocol projections → (k : ℕ) (p : Projection_data) → slice_get projections k ≡ Some p → length p.machine.states ≤ MOST_STATES
+few_states : (protocol : Protocol_data) (projections : List Projection_data) → AreNumberedProjections protocol projections → (k : ℕ) (p : Projection_data) → slice_get projections k ≡ Some p
+    → length p.machine.states ≤ MOST_STATES
 few_states protocol projections h k p e =
     let x = h.each k p e in
-    let is = x.is in
+    let is = x.is_projection in
     let all = is.all in
-    let few = x.few in
+    let few = x.bounded in
     omega arith
 
 pub chosen_small_by : (d : Document_data) (own : List (Option Machine_data)) (projections : List Projection_data) (machines : List Machine_data) → own ≡ d.machines → DocumentIsReady d
-    → AreNumberedProjections d.protocol projections → machines ≡ machines_of own projections → (k : ℕ) (x : Machine_data) → k < length machines → length (slice_index_or machines k x).states < 4294967296
+    → AreNumberedProjections d.protocol projections → machines ≡ machines_of own projections → (k : ℕ) (x : Machine_data) → k < length machines
+    → length (slice_index_or machines k x).states < 4294967296
 chosen_small_by d own projections machines e ready h is =
     subst (λ (z : List Machine_data). (k : ℕ) (x : Machine_data) → k < length z → length (slice_index_or z k x).states < 4294967296) (sym is)
     (chosen_small own projections (subst AreShort (sym e) ready.short) (few_states d.protocol projections h))
 
 -- what is told of projections is what the law of equal sessions asks
-pub projections-are : (protocol : Protocol_data) (projections : List Projection_data) → AreNumberedProjections protocol projections → AreProjections protocol projections
-projections-are protocol projections h = record { many = h.many; each = λ p projection e. let x = h.each p projection e in x.is }
+pub projections_are : (protocol : Protocol_data) (projections : List Projection_data) → AreNumberedProjections protocol projections → AreProjections protocol projections
+projections_are protocol projections h = record { many = h.many; each = λ p projection e. let x = h.each p projection e in x.is_projection }

@@ -1,6 +1,5 @@
 pub mod EachRole
 pub mod Derivings
-pub mod CheckParts
 pub mod Answering
 pub mod Reporting
 pub mod Outcomes
@@ -14,3 +13,15 @@ pub mod SomeSession
 pub mod SpeltFaults
 pub mod RunSessions
 pub mod PoolAnswers
+pub mod Opening
+pub mod Performing
+pub mod DemoEndings
+pub mod OneDemo
+pub mod SomeDemo
+pub mod Computing
+pub mod Stopping
+pub mod Leading
+pub mod Drawn
+pub mod Performed
+pub mod Told
+pub mod OverRings

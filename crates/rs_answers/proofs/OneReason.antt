@@ -21,8 +21,8 @@ use Rattle.rs_answers.specs.Refusals.{HasNoDerivations, HasNoSession, IsIllForme
 use Rattle.rs_answers.specs.declared.refusals.Refusal.{Refusal}
 use Rattle.rs_answers.specs.declared.refusals.Refusal.TheVariants as refusal
 use Rattle.rs_answers.specs.Sessions.{HasMachines, HasProjections, IsUnprojectable, MachineRefusal, first_refusal, machines_of}
-use Rattle.rs_project.proofs.OneProjection.{not-both, one-projection}
-use Rattle.rs_project.proofs.OneAnswer.{one-refusal}
+use Rattle.rs_project.proofs.OneProjection.{not_both_shown, one_projection}
+use Rattle.rs_project.proofs.OneAnswer.{one_refusal_shown}
 
 -- projections
 same_list : {A : Type 0} (xs ys : List A) → length xs ≡ length ys → ((p : ℕ) (x y : A) → slice_get xs p ≡ Some x → slice_get ys p ≡ Some y → x ≡ y) → xs ≡ ys
@@ -34,14 +34,15 @@ same_list (x ∷ xs) (y ∷ ys) size h =
 
 pub one_list : (protocol : Protocol_data) (xs ys : List Projection_data) → IsWellFormed protocol → AreNumberedProjections protocol xs → AreNumberedProjections protocol ys → xs ≡ ys
 one_list protocol xs ys w h k =
-    same_list xs ys (h.many ∙ sym k.many) (λ p x y e f. one-projection protocol (record { 0 = p }) x y w (h.each p x e) (k.each p y f))
+    same_list xs ys (h.many ∙ sym k.many) (λ p x y e f. one_projection protocol (record { 0 = p }) x y w (h.each p x e) (k.each p y f))
 
 -- a role onto which there is a projection isn't one onto which there is none
-not_earlier : (protocol : Protocol_data) (role : Role) (count : ℕ) (projections : List Projection_data) (fault : ProjFault) → IsWellFormed protocol → AreFirstProjections protocol count projections → role.0 < count → IsUnprojectable protocol role fault → ⊥
+not_earlier : (protocol : Protocol_data) (role : Role) (count : ℕ) (projections : List Projection_data) (fault : ProjFault) → IsWellFormed protocol → AreFirstProjections protocol count projections
+    → role.0 < count → IsUnprojectable protocol role fault → ⊥
 not_earlier protocol role count projections fault w h lt u =
     let m = h.many in
     let x = item_at projections role.0 (omega arith) in
-    not-both protocol role x.0 fault (h.each role.0 x.0 x.1) u.refused
+    not_both_shown protocol role x.0 fault (h.each role.0 x.0 x.1) u.refused
 
 same_role : (a b : Role) → a.0 ≡ b.0 → a ≡ b
 same_role a b e = ap (λ (n : ℕ). record { 0 = n }) e
@@ -56,7 +57,7 @@ one_unprojectable protocol r s f g w h k = elim (leb_tells (suc r.0) s.0) [
         let m2 = other.1 in
         let same : s ≡ r = same_role s r (omega arith) in
         let k' : IsUnprojectable protocol r g = subst (λ (x : Role). IsUnprojectable protocol x g) same k in
-        one-refusal protocol r f g h.refused k'.refused
+        one_refusal_shown protocol r f g h.refused k'.refused
   ]
 ]
 
@@ -101,14 +102,16 @@ same_session d ps qs ms ns h k =
     (projections, h.machines_are ∙ ap (machines_of d.machines) projections ∙ sym k.machines_are)
 
 -- a role whose machine has a derivation isn't one whose machine has none
-derived_before : (bound : ℕ) (ms : List Machine_data) (ps : List Projection_data) (count : ℕ) (ds : List Derivation_data) (role : Role) (fault : SearchFault) → AreFirstCanonical bound ms ps count ds → role.0 < count → IsUnderivable bound ms ps role fault → ⊥
+derived_before : (bound : ℕ) (ms : List Machine_data) (ps : List Projection_data) (count : ℕ) (ds : List Derivation_data) (role : Role) (fault : SearchFault) → AreFirstCanonical bound ms ps count ds
+    → role.0 < count → IsUnderivable bound ms ps role fault → ⊥
 derived_before bound ms ps count ds role fault h lt u =
     let many = h.many in
     let d = item_at ds role.0 (omega (arith, many, lt)) in
     let found = h.each role.0 u.machine u.projection d.0 u.runs u.projects d.1 in
     u.cause (not_both_ways u.machine u.projection.machine bound d.0 fault found u.refused)
 
-not_derived : (bound : ℕ) (ms : List Machine_data) (ps : List Projection_data) (ds : List Derivation_data) (role : Role) (fault : SearchFault) → AreCanonical bound ms ps ds → IsUnderivable bound ms ps role fault → ⊥
+not_derived : (bound : ℕ) (ms : List Machine_data) (ps : List Projection_data) (ds : List Derivation_data) (role : Role) (fault : SearchFault) → AreCanonical bound ms ps ds
+    → IsUnderivable bound ms ps role fault → ⊥
 not_derived bound ms ps ds role fault h u = derived_before bound ms ps (length ms) ds role fault h (slice_get_within ms role.0 u.machine u.runs) u
 
 one_underivable : (bound : ℕ) (ms : List Machine_data) (ps : List Projection_data) (r s : Role) (f g : SearchFault) → IsUnderivable bound ms ps r f → IsUnderivable bound ms ps s g → (r ≡ s) × (f ≡ g)
@@ -131,7 +134,8 @@ one_underivable bound ms ps r s f g u v = elim (leb_tells (suc r.0) s.0) [
 ]
 
 -- the session's derivations are one list
-one_derived : (bound : ℕ) (ms : List Machine_data) (ps : List Projection_data) (ds es : List Derivation_data) → length ms ≤ length ps → AreCanonical bound ms ps ds → AreCanonical bound ms ps es → ds ≡ es
+one_derived : (bound : ℕ) (ms : List Machine_data) (ps : List Projection_data) (ds es : List Derivation_data) → length ms ≤ length ps → AreCanonical bound ms ps ds → AreCanonical bound ms ps es
+    → ds ≡ es
 one_derived bound ms ps ds es few h k =
     same_list ds es (h.many ∙ sym k.many) (λ p d e hd he.
     let within = slice_get_within ds p d hd in
@@ -147,7 +151,8 @@ few_machines (x ∷ xs) [] = omega arith
 few_machines (x ∷ xs) (j ∷ js) = let few = few_machines xs js in omega (arith, few)
 
 -- of a session there is one list of derivations, or one reason why there is none
-pub one_session_derived : (bound : ℕ) (d : Document_data) (ps qs : List Projection_data) (ms ns : List Machine_data) (ds es : List Derivation_data) → HasMachines d ps ms → HasMachines d qs ns → AreCanonical bound ms ps ds → AreCanonical bound ns qs es → ds ≡ es
+pub one_session_derived : (bound : ℕ) (d : Document_data) (ps qs : List Projection_data) (ms ns : List Machine_data) (ds es : List Derivation_data) → HasMachines d ps ms → HasMachines d qs ns
+    → AreCanonical bound ms ps ds → AreCanonical bound ns qs es → ds ≡ es
 one_session_derived bound d ps qs ms ns ds es h k f g =
     let same = same_session d ps qs ms ns h k in
     let P : List Projection_data → Type 0 = λ z. AreCanonical bound ms z ds in
@@ -155,7 +160,8 @@ one_session_derived bound d ps qs ms ns ds es h k f g =
     let few : length ns ≤ length qs = subst (λ (z : List Machine_data). length z ≤ length qs) (sym k.machines_are) (few_machines d.machines qs) in
     one_derived bound ns qs ds es few (subst Q same.1 (subst P same.0 f)) g
 
-not_session_derived : (bound : ℕ) (d : Document_data) (ps qs : List Projection_data) (ms ns : List Machine_data) (ds : List Derivation_data) (role : Role) (fault : SearchFault) → HasMachines d ps ms → HasMachines d qs ns → AreCanonical bound ms ps ds
+not_session_derived : (bound : ℕ) (d : Document_data) (ps qs : List Projection_data) (ms ns : List Machine_data) (ds : List Derivation_data) (role : Role) (fault : SearchFault) → HasMachines d ps ms
+    → HasMachines d qs ns → AreCanonical bound ms ps ds
     → IsUnderivable bound ns qs role fault → ⊥
 not_session_derived bound d ps qs ms ns ds role fault h k f u =
     let same = same_session d ps qs ms ns h k in
@@ -163,7 +169,8 @@ not_session_derived bound d ps qs ms ns ds role fault h k f u =
     let Q : List Machine_data → Type 0 = λ z. AreCanonical bound z qs ds in
     not_derived bound ns qs ds role fault (subst Q same.1 (subst P same.0 f)) u
 
-one_session_underivable : (bound : ℕ) (d : Document_data) (ps qs : List Projection_data) (ms ns : List Machine_data) (r s : Role) (f g : SearchFault) → HasMachines d ps ms → HasMachines d qs ns → IsUnderivable bound ms ps r f → IsUnderivable bound ns qs s g
+one_session_underivable : (bound : ℕ) (d : Document_data) (ps qs : List Projection_data) (ms ns : List Machine_data) (r s : Role) (f g : SearchFault) → HasMachines d ps ms → HasMachines d qs ns
+    → IsUnderivable bound ms ps r f → IsUnderivable bound ns qs s g
     → refusal.Underivable (record { role = r; fault = f }) ≡ refusal.Underivable (record { role = s; fault = g })
 one_session_underivable bound d ps qs ms ns r s f g h k u v =
     let same = same_session d ps qs ms ns h k in
@@ -179,6 +186,7 @@ one_refusal bound d r s (IsWithoutSession p h) (HasNoDerivation qs ns k role f u
 one_refusal bound d r s (HasNoDerivation ps ms h role f u) (IsWithoutSession q k) = absurd (has_a_session d ps ms s h k)
 one_refusal bound d r s (HasNoDerivation ps ms h role f u) (HasNoDerivation qs ns k place g v) = one_session_underivable bound d ps qs ms ns role place f g h k u v
 
-pub not_refused : (bound : ℕ) (d : Document_data) (ps : List Projection_data) (ms : List Machine_data) (ds : List Derivation_data) (r : Refusal) → HasMachines d ps ms → AreCanonical bound ms ps ds → HasNoDerivations bound d r → ⊥
+pub not_refused : (bound : ℕ) (d : Document_data) (ps : List Projection_data) (ms : List Machine_data) (ds : List Derivation_data) (r : Refusal) → HasMachines d ps ms → AreCanonical bound ms ps ds
+    → HasNoDerivations bound d r → ⊥
 not_refused bound d ps ms ds r h f (IsWithoutSession q k) = has_a_session d ps ms r h k
 not_refused bound d ps ms ds r h f (HasNoDerivation qs ns k role g u) = not_session_derived bound d ps qs ms ns ds role g h k f u

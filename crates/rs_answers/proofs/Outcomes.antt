@@ -1,13 +1,12 @@
 -- What is told of the end of a run: that it is told, that it is one thing, and that there is such an end.
-use Rattle.std.proofs.Common.{◌≡◌, inl, inr, ℕ, zero, suc, ◌+◌, ◌<◌, ◌≤◌, List, [], ◌∷◌, length, Option, Some, None, slice_get, refl, sym, ap, subst, ◌∙◌, arith}
-use Rattle.std.specs.Prelude.{IfSome}
+use Rattle.std.proofs.Common.{◌≡◌, inl, inr, ℕ, zero, suc, ◌+◌, ◌<◌, ◌≤◌, List, [], ◌∷◌, length, Option, Some, slice_get, refl, sym, ap, subst, ◌∙◌, arith}
 use Rattle.std.proofs.lemmas.Bool.Decides.{leb_tells}
 use Rattle.std.proofs.lemmas.Option.{same_Some}
 use Rattle.rs_model.specs.Data.{Names_data, Machine_data, Protocol_data}
 use Rattle.rs_model.specs.declared.graph.Role.{Role}
 use Rattle.rs_model.specs.declared.machines.State.TheVariants.{Puts}
 use Rattle.rs_core.specs.Choices.{AreWellFormed}
-use Rattle.rs_core.specs.Choosing.{draws-well}
+use Rattle.rs_core.specs.Choosing.{draws_well}
 use Rattle.rs_core.specs.Configurations.{state_at, state_of}
 use Rattle.rs_core.specs.Determined.{SameMoment, SameOutcome}
 use Rattle.rs_core.specs.Draws.{by_draws}
@@ -18,30 +17,21 @@ use Rattle.rs_core.specs.Safety.{IsSafe}
 use Rattle.rs_core.specs.declared.runs.Outcome.{Outcome}
 use Rattle.rs_core.specs.declared.runs.Outcome.TheVariants as outcome
 use Rattle.rs_core.specs.declared.transcripts.Entry.{Entry}
-use Rattle.rs_core.proofs.Full.{stuck-is-full}
-use Rattle.rs_core.proofs.Unique.{one-outcome}
-use Rattle.rs_exec.proofs.Ends.{comes-to-an-end}
-use Rattle.rs_derive.specs.Data.{Derivation_data}
+use Rattle.rs_core.proofs.Full.{stuck_is_full}
+use Rattle.rs_core.proofs.Unique.{one_outcome}
+use Rattle.rs_core.proofs.Ends.{comes_to_an_end}
 use Rattle.rs_project.specs.Data.{Projection_data}
-use Rattle.rs_safety.specs.Room.{room_of}
 use Rattle.rs_safety.specs.Sessions.{IsSession}
 use Rattle.rs_answers.specs.Data.{Answer_data}
-use Rattle.rs_answers.specs.Runs.{TellsEnd, HasEnded, IsStopped, IsFull, TellsRun, actor_of, capacity_of, ended_answer, outcome_answer, stopped_answer, full_answer}
-use Rattle.rs_answers.specs.declared.runs.RunOptions.{RunOptions}
-use Rattle.rs_words.specs.Meaning.{IsFromTo}
-use Rattle.rs_model.specs.declared.limits.TheConstants.{MOST_CAPACITY}
-
--- a capacity that is asked for, or that the room gives, is one that queues can have
-pub capacity_fits : (ring : Option ℕ) (derivations : List Derivation_data) → IfSome ring (IsFromTo 1 MOST_CAPACITY) → (1 ≤ capacity_of ring (room_of derivations)) × (capacity_of ring (room_of derivations) ≤ MOST_CAPACITY)
-capacity_fits (Some ring) ds h = h
-capacity_fits None ds h = (omega arith, omega arith)
+use Rattle.rs_answers.specs.Runs.{TellsEnd, HasEnded, IsStopped, IsFull, TellsRun, ended_answer, outcome_answer, stopped_answer, full_answer}
 
 -- as many roles as machines
 pub few_machines : (pr : Protocol_data) (ps : List Projection_data) (ms : List Machine_data) → IsSession pr ps ms → length ms ≤ 16
 few_machines pr ps ms s = let many = s.a_machine_each in let few = s.roles.1 in omega arith
 
 -- what a run shows is what is told of its end
-tells_shown : (names : Names_data) (ms : List Machine_data) (capacity : ℕ) (o : Ending ℕ) (x : Outcome) (actors : List ℕ) (a : Answer_data) → EndingShows (length ms) o x actors → a ≡ outcome_answer names x → TellsEnd names ms capacity a o
+tells_shown : (names : Names_data) (ms : List Machine_data) (capacity : ℕ) (o : Ending ℕ) (x : Outcome) (actors : List ℕ) (a : Answer_data) → EndingShows (length ms) o x actors
+    → a ≡ outcome_answer names x → TellsEnd names ms capacity a o
 tells_shown names ms capacity (Ended k) (outcome.Ended transcripts) actors a s e = HasEnded k transcripts s.0 e
 tells_shown names ms capacity (Ended k) (outcome.Stopped role) actors a s e = absurd s
 tells_shown names ms capacity (Stopped p k) (outcome.Ended transcripts) actors a s e = absurd s
@@ -49,18 +39,17 @@ tells_shown names ms capacity (Stopped p k) (outcome.Stopped role) actors a s e 
 tells_shown names ms capacity (Stuck k) (outcome.Ended transcripts) actors a s e = absurd s
 tells_shown names ms capacity (Stuck k) (outcome.Stopped role) actors a s e = absurd s
 
-pub tells_run : (options : RunOptions) (names : Names_data) (ms : List Machine_data) (ds : List Derivation_data) (x : Outcome) (actors : List ℕ) (a : Answer_data)
-    → (o : Ending ℕ) × IsPlain ms by_draws (actor_of options.seed) options.limit (Some (capacity_of options.ring (room_of ds))) o × EndingShows (length ms) o x actors
-    → a ≡ outcome_answer names x → TellsRun options names ms ds a
-tells_run options names ms ds x actors a p e = record { end = p.0; plain = p.1; tells = tells_shown names ms (capacity_of options.ring (room_of ds)) p.0 x actors a p.2 e }
+pub tells_run : (names : Names_data) (ms : List Machine_data) (given : ℕ → ℕ) (limit capacity : ℕ) (x : Outcome) (actors : List ℕ) (a : Answer_data)
+    → (o : Ending ℕ) × IsPlain ms by_draws given limit (Some capacity) o × EndingShows (length ms) o x actors → a ≡ outcome_answer names x → TellsRun names ms given limit capacity a
+tells_run names ms given limit capacity x actors a p e = record { end = p.0; plain = p.1; tells = tells_shown names ms capacity p.0 x actors a p.2 e }
 
-pub tells_run_full : (options : RunOptions) (names : Names_data) (ms : List Machine_data) (ds : List Derivation_data) (sender receiver : Role) (sent taken : ℕ) (a : Answer_data)
-    → IsFullAt ms by_draws (actor_of options.seed) options.limit (capacity_of options.ring (room_of ds)) sender receiver sent taken
-    → a ≡ full_answer names sender receiver sent taken → TellsRun options names ms ds a
-tells_run_full options names ms ds sender receiver sent taken a f e = record {
+pub tells_run_full : (names : Names_data) (ms : List Machine_data) (given : ℕ → ℕ) (limit capacity : ℕ) (sender receiver : Role) (sent taken : ℕ) (a : Answer_data)
+    → IsFullAt ms by_draws given limit capacity sender receiver sent taken → a ≡ full_answer names sender receiver sent taken → TellsRun names ms given limit capacity a
+tells_run_full names ms given limit capacity sender receiver sent taken a f e = record {
   end = Stuck f.end;
   plain = f.plain;
-  tells = IsFull f.end sender receiver f.full (e ∙ ap (λ z. full_answer names sender receiver z taken) f.is_sent ∙ ap (λ z. full_answer names sender receiver (sent_to receiver.0 (transcript_of (f.end.history sender.0))) z) f.is_taken);
+  tells = IsFull f.end sender receiver f.full (e ∙ ap (λ z. full_answer names sender receiver z taken) f.is_sent
+      ∙ ap (λ z. full_answer names sender receiver (sent_to receiver.0 (transcript_of (f.end.history sender.0))) z) f.is_taken);
 }
 
 -- lists with the same items are the same
@@ -87,17 +76,18 @@ record SameFull (s t r q : Role) : Type 0 where
   sender : s ≡ t
   receiver : r ≡ q
 
-one_full : (ms : List Machine_data) (capacity : Option ℕ) (k l : Moment ℕ) (s t r q : Role) → SameMoment (length ms) k l → FirstFull ms capacity k s.0 r → FirstFull ms capacity l t.0 q → SameFull s t r q
+one_full : (ms : List Machine_data) (capacity : Option ℕ) (k l : Moment ℕ) (s t r q : Role) → SameMoment (length ms) k l → FirstFull ms capacity k s.0 r → FirstFull ms capacity l t.0 q
+    → SameFull s t r q
 one_full ms capacity k l s t r q same f g = elim (leb_tells (suc s.0) t.0) [
-  | inl less ↦ absurd (g.first s.0 r f.arms less.1 (sym (same_state ms k l s.0 same f.there) ∙ f.puts))
+  | inl less ↦ absurd (g.first s.0 r f.arms less.1 (sym (same_state ms k l s.0 same f.present) ∙ f.puts))
   | inr more ↦ elim (leb_tells (suc t.0) s.0) [
-    | inl less ↦ absurd (f.first t.0 q g.arms less.1 (same_state ms k l t.0 same g.there ∙ g.puts))
+    | inl less ↦ absurd (f.first t.0 q g.arms less.1 (same_state ms k l t.0 same g.present ∙ g.puts))
     | inr other ↦
         let m1 = more.1 in
         let m2 = other.1 in
         let place : s.0 ≡ t.0 = omega (arith, m1, m2) in
         let P : ℕ → Type 0 = λ z. state_at ms l.at z ≡ Some (Puts r f.arms) in
-        let here : state_at ms l.at t.0 ≡ Some (Puts r f.arms) = subst P place (sym (same_state ms k l s.0 same f.there) ∙ f.puts) in
+        let here : state_at ms l.at t.0 ≡ Some (Puts r f.arms) = subst P place (sym (same_state ms k l s.0 same f.present) ∙ f.puts) in
         let puts : Some (Puts r f.arms) ≡ Some (Puts q g.arms) = sym here ∙ g.puts in
         record { sender = ap (λ (n : ℕ). record { 0 = n }) place; receiver = cc (puts) }
   ]
@@ -112,7 +102,8 @@ full_is_one names s t r q k l roles same moment =
     ∙ ap (λ z. full_answer names z r (sent_to r.0 (transcript_of (l.history z.0))) (got_from z.0 (transcript_of (l.history r.0)))) same.sender
     ∙ ap (λ z. full_answer names t z (sent_to z.0 (transcript_of (l.history t.0))) (got_from t.0 (transcript_of (l.history z.0)))) same.receiver
 
-one_end : (names : Names_data) (ms : List Machine_data) (capacity : ℕ) (a b : Answer_data) (o u : Ending ℕ) → SameOutcome (length ms) o u → TellsEnd names ms capacity a o → TellsEnd names ms capacity b u → a ≡ b
+one_end : (names : Names_data) (ms : List Machine_data) (capacity : ℕ) (a b : Answer_data) (o u : Ending ℕ) → SameOutcome (length ms) o u → TellsEnd names ms capacity a o
+    → TellsEnd names ms capacity b u → a ≡ b
 one_end names ms capacity a b o u same (HasEnded k xs h e) (HasEnded l ys g f) = e ∙ ap (ended_answer names) (one_transcripts (length ms) k l xs ys same h g) ∙ sym f
 one_end names ms capacity a b o u same (HasEnded k xs h e) (IsStopped q l f) = absurd same
 one_end names ms capacity a b o u same (HasEnded k xs h e) (IsFull l t q g f) = absurd same
@@ -124,10 +115,10 @@ one_end names ms capacity a b o u same (IsFull k s r h e) (IsStopped q l f) = ab
 one_end names ms capacity a b o u same (IsFull k s r h e) (IsFull l t q g f) = e ∙ full_is_one names s t r q k l (length ms) (one_full ms (Some capacity) k l s t r q same h g) same ∙ sym f
 
 -- a run is told in one way
-pub one_run : (options : RunOptions) (names : Names_data) (ms : List Machine_data) (ds : List Derivation_data) (a b : Answer_data) → AreWellFormed ms → TellsRun options names ms ds a → TellsRun options names ms ds b → a ≡ b
-one_run options names ms ds a b wf h k =
-    one_end names ms (capacity_of options.ring (room_of ds)) a b h.end k.end
-    (one-outcome by_draws ms (actor_of options.seed) options.limit (Some (capacity_of options.ring (room_of ds))) h.end k.end wf h.plain k.plain) h.tells k.tells
+pub one_run : (names : Names_data) (ms : List Machine_data) (given : ℕ → ℕ) (limit capacity : ℕ) (a b : Answer_data) → AreWellFormed ms → TellsRun names ms given limit capacity a
+    → TellsRun names ms given limit capacity b → a ≡ b
+one_run names ms given limit capacity a b wf h k =
+    one_end names ms capacity a b h.end k.end (one_outcome by_draws ms given limit (Some capacity) h.end k.end wf h.plain k.plain) h.tells k.tells
 
 -- what a function gives at so many places, from one on
 abbrev values_from : {A : Type 0} → (ℕ → A) → ℕ → ℕ → List A
@@ -143,7 +134,7 @@ each_one f p zero q lt = absurd (omega arith)
 each_one f p (suc many) zero lt = let is : p ≡ p + 0 = omega arith in ap (λ z. Some (f z)) is
 each_one f p (suc many) (suc q) lt = let is : suc p + q ≡ p + suc q = omega arith in each_one f (suc p) many q (omega arith) ∙ ap (λ z. Some (f z)) is
 
--- .. from the first on
+-- what a function gives at so many places, from the first on
 first_ones : {A : Type 0} (f : ℕ → A) (many q : ℕ) → q < many → slice_get (values_from f 0 many) q ≡ Some (f q)
 first_ones f many q lt = each_one f 0 many q lt ∙ (let is : 0 + q ≡ q = omega arith in ap (λ z. Some (f z)) is)
 
@@ -161,25 +152,26 @@ record SomeEnd (names : Names_data) (ms : List Machine_data) (capacity : ℕ) (o
   answer : Answer_data
   tells : TellsEnd names ms capacity answer o
 
-some_end : (names : Names_data) (ms : List Machine_data) (actors : ℕ → ℕ) (limit capacity : ℕ) (o : Ending ℕ) → IsSafe ms → AreWellFormed ms → IsPlain ms by_draws actors limit (Some capacity) o → SomeEnd names ms capacity o
+some_end : (names : Names_data) (ms : List Machine_data) (actors : ℕ → ℕ) (limit capacity : ℕ) (o : Ending ℕ) → IsSafe ms → AreWellFormed ms → IsPlain ms by_draws actors limit (Some capacity) o
+    → SomeEnd names ms capacity o
 some_end names ms actors limit capacity (Ended k) safe wf p =
     let t = transcripts_are (length ms) k.history in
     record { answer = ended_answer names t.0; tells = HasEnded k t.0 t.1 refl }
 some_end names ms actors limit capacity (Stopped q k) safe wf p = record { answer = stopped_answer names (record { 0 = q }); tells = IsStopped q k refl }
 some_end names ms actors limit capacity (Stuck k) safe wf p =
-    let f = stuck-is-full by_draws draws-well ms actors limit (Some capacity) k safe wf p in
+    let f = stuck_is_full by_draws draws_well ms actors limit (Some capacity) k safe wf p in
     record {
       answer = full_answer names (record { 0 = f.0 }) f.1 (sent_to f.1.0 (transcript_of (k.history f.0))) (got_from f.0 (transcript_of (k.history f.1.0)));
       tells = IsFull k (record { 0 = f.0 }) f.1 f.2 refl;
     }
 
--- .. and of each run
-pub record SomeRun (options : RunOptions) (names : Names_data) (ms : List Machine_data) (ds : List Derivation_data) : Type 0 where
+-- something is told of each run
+pub record SomeRun (names : Names_data) (ms : List Machine_data) (given : ℕ → ℕ) (limit capacity : ℕ) : Type 0 where
   pub answer : Answer_data
-  pub tells : TellsRun options names ms ds answer
+  pub tells : TellsRun names ms given limit capacity answer
 
-pub some_run : (options : RunOptions) (names : Names_data) (ms : List Machine_data) (ds : List Derivation_data) → IsSafe ms → AreWellFormed ms → SomeRun options names ms ds
-some_run options names ms ds safe wf =
-    let o = comes-to-an-end by_draws ms (actor_of options.seed) options.limit (Some (capacity_of options.ring (room_of ds))) record { safe = safe; wf = wf; well = draws-well } in
-    let e = some_end names ms (actor_of options.seed) options.limit (capacity_of options.ring (room_of ds)) o.0 safe wf o.1 in
+pub some_run : (names : Names_data) (ms : List Machine_data) (given : ℕ → ℕ) (limit capacity : ℕ) → IsSafe ms → AreWellFormed ms → SomeRun names ms given limit capacity
+some_run names ms given limit capacity safe wf =
+    let o = comes_to_an_end by_draws ms given limit (Some capacity) record { safe = safe; wf = wf; well = draws_well } in
+    let e = some_end names ms given limit capacity o.0 safe wf o.1 in
     record { answer = e.answer; tells = record { end = o.0; plain = o.1; tells = e.tells } }

@@ -7,7 +7,7 @@ use Rattle.std.proofs.lemmas.Map.Steps.{length-le_from_distinct_below}
 use Rattle.std.proofs.lemmas.Option.{none-some, slice_get-get_or, slice_get_within}
 use Rattle.std.specs.List.{All, AllByRecursion, IsDistinct, flat_map, list_any}
 use Rattle.std.specs.Set.{distinct_count, unique_keys}
-use Rattle.rs_derivations.specs.Printable.{IsPrintable, acts_of, label_of, peer_of}
+use Rattle.rs_derivations.specs.Printable.{IsPrintable, pending_acts, label_number, peer_of}
 use Rattle.rs_derive.specs.Data.{DNode_data, Derivation_data}
 use Rattle.rs_derive.specs.Derivations.{spot_of}
 use Rattle.rs_derive.specs.Moves.{Spot}
@@ -26,11 +26,10 @@ use Rattle.rs_model.specs.declared.limits.TheConstants.{MOST_BOUND, MOST_LABELS}
 use Rattle.rs_model.specs.declared.machines.Act.{Act}
 use Rattle.rs_model.specs.declared.machines.State.{State}
 use Rattle.rs_model.specs.declared.machines.State.TheVariants.{Puts, Takes}
-use Rattle.rs_project.proofs.Choices.{arm-choice}
-use Rattle.rs_project.proofs.Machines.{projection-machine}
-use Rattle.rs_project.proofs.Numbers.{choice-leads}
+use Rattle.rs_project.proofs.Choices.{arm_choice}
+use Rattle.rs_project.proofs.Machines.{projection_machine}
+use Rattle.rs_project.proofs.Numbers.{choice_leads}
 use Rattle.rs_project.specs.Data.{Projection_data}
-use Rattle.rs_project.specs.Marks as marks
 use Rattle.rs_project.specs.Projection.{LabelChoice, IsProjection, IsStateOf, IsDone, IsPuts, IsTakes, LeadsOn, choice_of, merged_choices}
 use Rattle.rs_safety.specs.Sessions.{IsSession}
 use Rattle.rs_search.proofs.Accepted.{nodes_are_candidates}
@@ -38,63 +37,69 @@ use Rattle.rs_search.proofs.Determined.{few_nodes}
 use Rattle.rs_search.specs.Canonical.{IsCanonical}
 use Rattle.rs_wellformed.specs.WellFormed.{IsWellFormed}
 use Rattle.rs_answers.specs.Checks.{with_derivations}
-use Rattle.rs_answers.specs.Derivations.{AreCanonical, IsSearchBound}
+use Rattle.rs_answers.specs.Derivations.{AreCanonical}
+use Rattle.rs_model.specs.Limits.{IsBound}
 use Rattle.rs_answers.specs.Sessions.{HasMachines}
 use Rattle.rs_answers.proofs.Derivings.{found_at, session_has}
-use Rattle.rs_answers.proofs.Owed.{IsActOf, in-parts, Sends, Receives, owed_acts}
+use Rattle.rs_answers.proofs.Owed.{IsActOf, in_parts, Sends, Receives, owed_acts}
 
 -- the peer and the label of the act have names
 record IsNamed (names : Names_data) (a : Act) : Type 0 where
   pub peer : peer_of a < length names.roles
-  pub label : label_of a < length names.labels
+  pub label : label_number a < length names.labels
 
 -- a label of a projection is one of its protocol
-led-named : (names : Names_data) (pr : Protocol_data) (members : List ℕ) (l : Label) (next : ℕ) → AreEnough names pr → LeadsOn pr members l next → l.0 < length names.labels
-led-named names pr members l next enough on =
+led_named : (names : Names_data) (pr : Protocol_data) (members : List ℕ) (l : Label) (next : ℕ) → AreEnough names pr → LeadsOn pr members l next → l.0 < length names.labels
+led_named names pr members l next enough on =
     subst (λ (z : Label). z.0 < length names.labels) on.its_label
     (enough.labels on.talk on.place on.step.sender on.step.receiver on.step.arms on.step.arm on.step.talks on.step.stands)
 
-arm-named : (names : Names_data) (pr : Protocol_data) (members : List ℕ) (arms : List Arm) (place : ℕ) (arm : Arm) → AreEnough names pr → map choice_of arms ≡ merged_choices pr members → slice_get arms place ≡ Some arm
+arm_named : (names : Names_data) (pr : Protocol_data) (members : List ℕ) (arms : List Arm) (place : ℕ) (arm : Arm) → AreEnough names pr → map choice_of arms ≡ merged_choices pr members
+    → slice_get arms place ≡ Some arm
     → arm.label.0 < length names.labels
-arm-named names pr members arms place arm enough same at =
-    let on = choice-leads pr members (choice_of arm) (subst (λ (z : List LabelChoice). marks.Among z (choice_of arm)) same (arm-choice arms place arm at)) in
-    led-named names pr members arm.label on.0 enough on.1
+arm_named names pr members arms place arm enough same at =
+    let on = choice_leads pr members (choice_of arm) (subst (λ (z : List LabelChoice). Among z (choice_of arm)) same (arm_choice arms place arm at)) in
+    led_named names pr members arm.label on.0 enough on.1
 
-puts-named : (names : Names_data) (pr : Protocol_data) (role : Role) (sets : List (List ℕ)) (members : List ℕ) (peer : Role) (arms : List Arm) (place : ℕ) (arm : Arm) → AreEnough names pr → IsStateOf pr role sets members (Puts peer arms)
+puts_named : (names : Names_data) (pr : Protocol_data) (role : Role) (sets : List (List ℕ)) (members : List ℕ) (peer : Role) (arms : List Arm) (place : ℕ) (arm : Arm) → AreEnough names pr
+    → IsStateOf pr role sets members (Puts peer arms)
     → slice_get arms place ≡ Some arm → arm.label.0 < length names.labels
-puts-named names pr role sets members peer arms place arm enough (IsDone n e) at = absurd (cc e)
-puts-named names pr role sets members peer arms place arm enough (IsTakes r bs n each e are) at = absurd (cc e)
-puts-named names pr role sets members peer arms place arm enough (IsPuts r bs n each e are) at =
+puts_named names pr role sets members peer arms place arm enough (IsDone n e) at = absurd (cc e)
+puts_named names pr role sets members peer arms place arm enough (IsTakes r bs n each e are) at = absurd (cc e)
+puts_named names pr role sets members peer arms place arm enough (IsPuts r bs n each e are) at =
     let same : bs ≡ arms = cc e in
-    arm-named names pr members bs place arm enough are.choices (subst (λ (z : List Arm). slice_get z place ≡ Some arm) (sym same) at)
+    arm_named names pr members bs place arm enough are.choices (subst (λ (z : List Arm). slice_get z place ≡ Some arm) (sym same) at)
 
-takes-named : (names : Names_data) (pr : Protocol_data) (role : Role) (sets : List (List ℕ)) (members : List ℕ) (peer : Role) (arms : List Arm) (place : ℕ) (arm : Arm) → AreEnough names pr → IsStateOf pr role sets members (Takes peer arms)
+takes_named : (names : Names_data) (pr : Protocol_data) (role : Role) (sets : List (List ℕ)) (members : List ℕ) (peer : Role) (arms : List Arm) (place : ℕ) (arm : Arm) → AreEnough names pr
+    → IsStateOf pr role sets members (Takes peer arms)
     → slice_get arms place ≡ Some arm → arm.label.0 < length names.labels
-takes-named names pr role sets members peer arms place arm enough (IsDone n e) at = absurd (cc e)
-takes-named names pr role sets members peer arms place arm enough (IsPuts r bs n each e are) at = absurd (cc e)
-takes-named names pr role sets members peer arms place arm enough (IsTakes r bs n each e are) at =
+takes_named names pr role sets members peer arms place arm enough (IsDone n e) at = absurd (cc e)
+takes_named names pr role sets members peer arms place arm enough (IsPuts r bs n each e are) at = absurd (cc e)
+takes_named names pr role sets members peer arms place arm enough (IsTakes r bs n each e are) at =
     let same : bs ≡ arms = cc e in
-    arm-named names pr members bs place arm enough are.choices (subst (λ (z : List Arm). slice_get z place ≡ Some arm) (sym same) at)
+    arm_named names pr members bs place arm enough are.choices (subst (λ (z : List Arm). slice_get z place ≡ Some arm) (sym same) at)
 
 -- the state is that of its set
-state-of : (pr : Protocol_data) (role : Role) (j : Projection_data) (s : ℕ) (state : State) → IsProjection pr role j → slice_get j.machine.states s ≡ Some state → (members : List ℕ) × IsStateOf pr role j.sets members state
-state-of pr role j s state is at =
+state_of : (pr : Protocol_data) (role : Role) (j : Projection_data) (s : ℕ) (state : State) → IsProjection pr role j → slice_get j.machine.states s ≡ Some state
+    → (members : List ℕ) × IsStateOf pr role j.sets members state
+state_of pr role j s state is at =
     let within = slice_get_within j.machine.states s state at in
     let all = is.all in
     (get_or j.sets s [], is.states s (get_or j.sets s []) state (slice_get-get_or j.sets s [] (omega (arith, within, all))) at)
 
 -- each act of a projection has names
-act-named : (names : Names_data) (pr : Protocol_data) (role : Role) (j : Projection_data) → AreEnough names pr → IsProjection pr role j → IsWellFormedMachine j.machine pr.roles → (a : Act) → IsActOf j.machine a → IsNamed names a
-act-named names pr role j enough is w _ (Sends s place peer arms arm there at) =
-    let of = state-of pr role j s (Puts peer arms) is there in
+act_named : (names : Names_data) (pr : Protocol_data) (role : Role) (j : Projection_data) → AreEnough names pr → IsProjection pr role j → IsWellFormedMachine j.machine pr.roles → (a : Act)
+    → IsActOf j.machine a → IsNamed names a
+act_named names pr role j enough is w _ (Sends s place peer arms arm there at) =
+    let of = state_of pr role j s (Puts peer arms) is there in
     let known = (w.puts s peer arms there).known in
     let roles = enough.roles in
-    record { peer = omega (arith, known, roles); label = puts-named names pr role j.sets of.0 peer arms place arm enough of.1 at }
-act-named names pr role j enough is w _ (Receives s place peer arms arm there at) =
-    let of = state-of pr role j s (Takes peer arms) is there in
+    record { peer = omega (arith, known, roles); label = puts_named names pr role j.sets of.0 peer arms place arm enough of.1 at }
+act_named names pr role j enough is w _ (Receives s place peer arms arm there at) =
+    let of = state_of pr role j s (Takes peer arms) is there in
     let known = (w.takes s peer arms there).known in
     let roles = enough.roles in
-    record { peer = omega (arith, known, roles); label = takes-named names pr role j.sets of.0 peer arms place arm enough of.1 at }
+    record { peer = omega (arith, known, roles); label = takes_named names pr role j.sets of.0 peer arms place arm enough of.1 at }
 
 -- what holds of each item of a list holds of all
 all_of : {X : Type 0} (P : X → Type 0) (xs : List X) → ((x : X) → Among xs x → P x) → All P xs
@@ -102,103 +107,106 @@ all_of P [] h = All-nil P
 all_of P (x ∷ xs) h = All-cons P x xs (h x (inl refl)) (all_of P xs (λ y k. h y (inr k)))
 
 -- an act of a derivation is owed at a node
-owed-at : (nodes : List DNode_data) (a : Act) → Among (flat_map (λ (n : DNode_data). n.pending) nodes) a → (n : DNode_data) × Among nodes n × Among n.pending a
-owed-at [] a h = absurd h
-owed-at (n ∷ nodes) a h = elim (in-parts n.pending (flat_map (λ (m : DNode_data). m.pending) nodes) a h) [
+owed_at : (nodes : List DNode_data) (a : Act) → Among (flat_map (λ (n : DNode_data). n.pending) nodes) a → (n : DNode_data) × Among nodes n × Among n.pending a
+owed_at [] a h = absurd h
+owed_at (n ∷ nodes) a h = elim (in_parts n.pending (flat_map (λ (m : DNode_data). m.pending) nodes) a h) [
   | inl here ↦ (n, inl refl, here)
-  | inr later ↦ (let k = owed-at nodes a later in (k.0, inr k.1, k.2))
+  | inr later ↦ (let k = owed_at nodes a later in (k.0, inr k.1, k.2))
 ]
 
-owed-named : (names : Names_data) (pr : Protocol_data) (role : Role) (m : Machine_data) (j : Projection_data) (bound : ℕ) (d : Derivation_data) → AreEnough names pr → IsProjection pr role j → IsWellFormedMachine j.machine pr.roles
-    → IsCanonical m j.machine bound d → (a : Act) → Among (acts_of d) a → IsNamed names a
-owed-named names pr role m j bound d enough is w found a h =
-    let o = owed-at d.nodes a h in
+owed_named : (names : Names_data) (pr : Protocol_data) (role : Role) (m : Machine_data) (j : Projection_data) (bound : ℕ) (d : Derivation_data) → AreEnough names pr → IsProjection pr role j
+    → IsWellFormedMachine j.machine pr.roles
+    → IsCanonical m j.machine bound d → (a : Act) → Among (pending_acts d) a → IsNamed names a
+owed_named names pr role m j bound d enough is w found a h =
+    let o = owed_at d.nodes a h in
     let at = at_in d.nodes o.0 o.1 in
-    act-named names pr role j enough is w a (owed_acts m j.machine bound (spot_of o.0) (nodes_are_candidates m j.machine bound d found.canonical at.0 o.0 at.1) a o.2)
+    act_named names pr role j enough is w a (owed_acts m j.machine bound (spot_of o.0) (nodes_are_candidates m j.machine bound d found.canonical at.0 o.0 at.1) a o.2)
 
 -- numbers below n, each counted once, are n at most
-or-both : (a b : Bool) → (a || b) ≡ false → (a ≡ false) × (b ≡ false)
-or-both true b h = absurd (cc h)
-or-both false b h = (refl, h)
+or_both : (a b : Bool) → (a || b) ≡ false → (a ≡ false) × (b ≡ false)
+or_both true b h = absurd (cc h)
+or_both false b h = (refl, h)
 
-or-first : (a b : Bool) → (a || b) ≡ true → (a ≡ true) ⊎ (b ≡ true)
-or-first true b h = inl refl
-or-first false b h = inr h
+or_first : (a b : Bool) → (a || b) ≡ true → (a ≡ true) ⊎ (b ≡ true)
+or_first true b h = inl refl
+or_first false b h = inr h
 
-same-by : (b c : Bool) (xs : List ℕ) (x q : ℕ) → list_any (eqb x) xs ≡ b → eqb q x ≡ c → list_any (eqb q) (unique_keys eqb xs) ≡ list_any (eqb q) xs
+same_by : (b c : Bool) (xs : List ℕ) (x q : ℕ) → list_any (eqb x) xs ≡ b → eqb q x ≡ c → list_any (eqb q) (unique_keys eqb xs) ≡ list_any (eqb q) xs
     → list_any (eqb q) (cond b (unique_keys eqb xs) (x ∷ unique_keys eqb xs)) ≡ (c || list_any (eqb q) xs)
-same-by true true xs x q m t r = r ∙ ap (λ z. list_any (eqb z) xs) (eqb-true q x t) ∙ m
-same-by true false xs x q m t r = r
-same-by false c xs x q m t r = ap (λ z. z || list_any (eqb q) (unique_keys eqb xs)) t ∙ ap (λ z. c || z) r
+same_by true true xs x q m t r = r ∙ ap (λ z. list_any (eqb z) xs) (eqb-true q x t) ∙ m
+same_by true false xs x q m t r = r
+same_by false c xs x q m t r = ap (λ z. z || list_any (eqb q) (unique_keys eqb xs)) t ∙ ap (λ z. c || z) r
 
-unique-same : (xs : List ℕ) (q : ℕ) → list_any (eqb q) (unique_keys eqb xs) ≡ list_any (eqb q) xs
-unique-same [] q = refl
-unique-same (x ∷ xs) q = same-by (list_any (eqb x) xs) (eqb q x) xs x q refl refl (unique-same xs q)
+unique_same : (xs : List ℕ) (q : ℕ) → list_any (eqb q) (unique_keys eqb xs) ≡ list_any (eqb q) xs
+unique_same [] q = refl
+unique_same (x ∷ xs) q = same_by (list_any (eqb x) xs) (eqb q x) xs x q refl refl (unique_same xs q)
 
-absent-apart : (x : ℕ) (ys : List ℕ) → list_any (eqb x) ys ≡ false → AllByRecursion (λ y. eqb x y ≡ false) ys
-absent-apart x [] h = tt
-absent-apart x (y ∷ ys) h = let k = or-both (eqb x y) (list_any (eqb x) ys) h in (k.0, absent-apart x ys k.1)
+absent_apart : (x : ℕ) (ys : List ℕ) → list_any (eqb x) ys ≡ false → AllByRecursion (λ y. eqb x y ≡ false) ys
+absent_apart x [] h = tt
+absent_apart x (y ∷ ys) h = let k = or_both (eqb x y) (list_any (eqb x) ys) h in (k.0, absent_apart x ys k.1)
 
-distinct-none : IsDistinct eqb []
+distinct_none : IsDistinct eqb []
 unfolding IsDistinct
-distinct-none = tt
+distinct_none = tt
 
-distinct-by : (b : Bool) (xs : List ℕ) (x : ℕ) → list_any (eqb x) xs ≡ b → IsDistinct eqb (unique_keys eqb xs) → IsDistinct eqb (cond b (unique_keys eqb xs) (x ∷ unique_keys eqb xs))
-distinct-by true xs x m h = h
-distinct-by false xs x m h = IsDistinct-cons eqb x (unique_keys eqb xs) (absent-apart x (unique_keys eqb xs) (unique-same xs x ∙ m)) h
+distinct_by : (b : Bool) (xs : List ℕ) (x : ℕ) → list_any (eqb x) xs ≡ b → IsDistinct eqb (unique_keys eqb xs) → IsDistinct eqb (cond b (unique_keys eqb xs) (x ∷ unique_keys eqb xs))
+distinct_by true xs x m h = h
+distinct_by false xs x m h = IsDistinct-cons eqb x (unique_keys eqb xs) (absent_apart x (unique_keys eqb xs) (unique_same xs x ∙ m)) h
 
-unique-distinct : (xs : List ℕ) → IsDistinct eqb (unique_keys eqb xs)
-unique-distinct [] = distinct-none
-unique-distinct (x ∷ xs) = distinct-by (list_any (eqb x) xs) xs x refl (unique-distinct xs)
+unique_distinct : (xs : List ℕ) → IsDistinct eqb (unique_keys eqb xs)
+unique_distinct [] = distinct_none
+unique_distinct (x ∷ xs) = distinct_by (list_any (eqb x) xs) xs x refl (unique_distinct xs)
 
-few-below : (xs : List ℕ) (n : ℕ) → ((q : ℕ) → list_any (eqb q) xs ≡ true → q < n) → distinct_count eqb xs ≤ n
-few-below xs n h = length-le_from_distinct_below (unique_keys eqb xs) n (unique-distinct xs) (λ q e. h q (sym (unique-same xs q) ∙ e))
+few_below : (xs : List ℕ) (n : ℕ) → ((q : ℕ) → list_any (eqb q) xs ≡ true → q < n) → distinct_count eqb xs ≤ n
+few_below xs n h = length-le_from_distinct_below (unique_keys eqb xs) n (unique_distinct xs) (λ q e. h q (sym (unique_same xs q) ∙ e))
 
-label-below : (acts : List Act) (n q : ℕ) → ((a : Act) → Among acts a → label_of a < n) → list_any (eqb q) (map label_of acts) ≡ true → q < n
-label-below [] n q h e = absurd (cc e)
-label-below (a ∷ acts) n q h e = elim (or-first (eqb q (label_of a)) (list_any (eqb q) (map label_of acts)) e) [
-  | inl k ↦ subst (λ (z : ℕ). z < n) (sym (eqb-true q (label_of a) k)) (h a (inl refl))
-  | inr k ↦ label-below acts n q (λ b m. h b (inr m)) k
+label_below : (acts : List Act) (n q : ℕ) → ((a : Act) → Among acts a → label_number a < n) → list_any (eqb q) (map label_number acts) ≡ true → q < n
+label_below [] n q h e = absurd (cc e)
+label_below (a ∷ acts) n q h e = elim (or_first (eqb q (label_number a)) (list_any (eqb q) (map label_number acts)) e) [
+  | inl k ↦ subst (λ (z : ℕ). z < n) (sym (eqb-true q (label_number a) k)) (h a (inl refl))
+  | inr k ↦ label_below acts n q (λ b m. h b (inr m)) k
 ]
 
 -- what is found for a role
-pub printable : (names : Names_data) (pr : Protocol_data) (role : Role) (m : Machine_data) (j : Projection_data) (bound : ℕ) (d : Derivation_data) → IsWellFormed pr → AreEnough names pr → length names.labels ≤ MOST_LABELS
-    → role.0 < pr.roles → IsProjection pr role j → m.role ≡ role → IsSearchBound bound → IsCanonical m j.machine bound d → IsPrintable names d
+pub printable : (names : Names_data) (pr : Protocol_data) (role : Role) (m : Machine_data) (j : Projection_data) (bound : ℕ) (d : Derivation_data) → IsWellFormed pr → AreEnough names pr
+    → length names.labels ≤ MOST_LABELS
+    → role.0 < pr.roles → IsProjection pr role j → m.role ≡ role → IsBound bound → IsCanonical m j.machine bound d → IsPrintable names d
 printable names pr role m j bound d wf enough few known is same within found =
-    let w = projection-machine pr role j wf known is in
-    let named = owed-named names pr role m j bound d enough is w found in
+    let w = projection_machine pr role j wf known is in
+    let named = owed_named names pr role m j bound d enough is w found in
     let own : d.role ≡ role = found.canonical.role ∙ same in
     let roles = enough.roles in
-    let labels = few-below (map label_of (acts_of d)) (length names.labels) (λ q e. label-below (acts_of d) (length names.labels) q (λ a h. (named a h).label) e) in
-    let first = at-first d found in
+    let labels = few_below (map label_number (pending_acts d)) (length names.labels) (λ q e. label_below (pending_acts d) (length names.labels) q (λ a h. (named a h).label) e) in
+    let first = at_first d found in
     let nodes = few_nodes m j.machine bound d found in
     record {
       roles = record {
         role = subst (λ (z : Role). z.0 < length names.roles) (sym own) (omega (arith, known, roles));
-        peers = all_of (λ a. peer_of a < length names.roles) (acts_of d) (λ a h. (named a h).peer);
+        peers = all_of (λ a. peer_of a < length names.roles) (pending_acts d) (λ a h. (named a h).peer);
       };
-      labels = all_of (λ a. label_of a < length names.labels) (acts_of d) (λ a h. (named a h).label);
+      labels = all_of (λ a. label_number a < length names.labels) (pending_acts d) (λ a h. (named a h).label);
       few_labels = omega (arith, labels, few);
       bound = subst (λ (z : ℕ). (1 ≤ z) × (z ≤ MOST_BOUND)) (sym found.canonical.bound') within;
       some = first;
       nodes = nodes;
     }
   where
-    some-nodes : (nodes : List DNode_data) (x : Spot) → slice_get (map (λ (n : DNode_data). spot_of n) nodes) 0 ≡ Some x → 1 ≤ length nodes
-    some-nodes [] x e = absurd (none-some x e)
-    some-nodes (n ∷ nodes) x e = omega arith
+    some_nodes : (nodes : List DNode_data) (x : Spot) → slice_get (map (λ (n : DNode_data). spot_of n) nodes) 0 ≡ Some x → 1 ≤ length nodes
+    some_nodes [] x e = absurd (none-some x e)
+    some_nodes (n ∷ nodes) x e = omega arith
 
-    at-first : (d : Derivation_data) → IsCanonical m j.machine bound d → 1 ≤ length d.nodes
-    at-first d f = some-nodes d.nodes _ f.canonical.first
+    at_first : (d : Derivation_data) → IsCanonical m j.machine bound d → 1 ≤ length d.nodes
+    at_first d f = some_nodes d.nodes _ f.canonical.first
 
 there : (ds : List Derivation_data) (k : ℕ) (d : Derivation_data) → slice_get (map Some ds) k ≡ Some (Some d) → slice_get ds k ≡ Some d
 there [] k d e = absurd (cc e)
 there (x ∷ ds) zero d e = cc e
 there (x ∷ ds) (suc k) d e = there ds k d e
 
--- .. for each role of a session
-all_printable : (names : Names_data) (bound : ℕ) (pr : Protocol_data) (ps : List Projection_data) (ms : List Machine_data) (ds : List Derivation_data) → IsSession pr ps ms → AreEnough names pr → length names.labels ≤ MOST_LABELS
-    → IsSearchBound bound → AreCanonical bound ms ps ds → ArePrintable names (map Some ds)
+-- what is found for each role of a session
+all_printable : (names : Names_data) (bound : ℕ) (pr : Protocol_data) (ps : List Projection_data) (ms : List Machine_data) (ds : List Derivation_data) → IsSession pr ps ms → AreEnough names pr
+    → length names.labels ≤ MOST_LABELS
+    → IsBound bound → AreCanonical bound ms ps ds → ArePrintable names (map Some ds)
 all_printable names bound pr ps ms ds s enough few within h k d at =
     let stands = there ds k d at in
     let f = found_at bound pr ps ms ds s h k d stands in
@@ -206,15 +214,16 @@ all_printable names bound pr ps ms ds s enough few within h k d at =
     let many = h.many in
     let each = s.a_machine_each in
     let role : f.machine.role ≡ record { 0 = k } = ap (λ (n : ℕ). record { 0 = n }) (s.machines_fit.role k f.machine f.runs) in
-    printable names pr (record { 0 = k }) f.machine f.projection bound d s.well_formed enough few (omega (arith, lt, many, each)) (s.projected.each k f.projection f.projects).is role within f.found
+    printable names pr (record { 0 = k }) f.machine f.projection bound d s.well_formed enough few (omega (arith, lt, many, each))
+    (s.projected.each k f.projection f.projects).is_projection role within f.found
 
 -- a document that can be shown can be shown with the derivations that are found for it
-pub can_show_found : (bound : ℕ) (d : Document_data) (ps : List Projection_data) (ms : List Machine_data) (ds : List Derivation_data) → DocumentIsReady d → length d.names.roles ≡ d.protocol.roles → CanBeShown d → IsSearchBound bound
+pub can_show_found : (bound : ℕ) (d : Document_data) (ps : List Projection_data) (ms : List Machine_data) (ds : List Derivation_data) → DocumentIsReady d → CanBeShown d → IsBound bound
     → HasMachines d ps ms → AreCanonical bound ms ps ds → CanBeShown (with_derivations d ds)
-can_show_found bound d ps ms ds ready roles shown within h found = record {
+can_show_found bound d ps ms ds ready shown within h found = record {
   sound = shown.sound;
   shaped = shown.shaped;
   enough = shown.enough;
   machines = shown.machines;
-  derivations = all_printable d.names bound d.protocol ps ms ds (session_has d ps ms ready roles h) shown.enough ready.labels within found;
+  derivations = all_printable d.names bound d.protocol ps ms ds (session_has d ps ms ready h) shown.enough ready.labels within found;
 }

@@ -10,8 +10,8 @@ use Rattle.rs_project.specs.declared.projecting.ProjFault.{ProjFault}
 use Rattle.rs_project.proofs.Deciding.{decided}
 use Rattle.rs_derive.specs.Data.{Derivation_data}
 use Rattle.rs_safety.specs.Sessions.{IsSession}
-use Rattle.rs_safety.proofs.Accepts.{machine-proper, projection-proper}
-use Rattle.rs_safety.proofs.Sessions.{no-machine, no-projection}
+use Rattle.rs_safety.proofs.Accepts.{machine_proper, projection_proper}
+use Rattle.rs_safety.proofs.Sessions.{no_machine, no_projection}
 use Rattle.rs_search.proofs.Deciding as searching
 use Rattle.rs_search.specs.Canonical.{IsCanonical, SearchRefuses}
 use Rattle.rs_search.specs.declared.faults.SearchFault.{SearchFault}
@@ -39,7 +39,8 @@ pub first_ones : (protocol : Protocol_data) → IsWellFormed protocol → (count
 first_ones protocol wf zero le = AllProject [] (no_projections protocol)
 first_ones protocol wf (suc count) le = go (first_ones protocol wf count (omega arith)) (decided protocol (record { 0 = count }) wf)
   where
-    go : Decision protocol count → ((projection : Projection_data) × IsNumberedProjection protocol (record { 0 = count }) projection) ⊎ ((fault : ProjFault) × FirstRefusal protocol (record { 0 = count }) fault) → Decision protocol (suc count)
+    go : Decision protocol count → ((projection : Projection_data) × IsNumberedProjection protocol (record { 0 = count }) projection)
+        ⊎ ((fault : ProjFault) × FirstRefusal protocol (record { 0 = count }) fault) → Decision protocol (suc count)
     go (OneDoesnt role fault h) d = OneDoesnt role fault h
     go (AllProject projections h) (inl p) =
         let one : count + 1 ≡ suc count = omega arith in
@@ -51,7 +52,8 @@ pub data Searched (bound : ℕ) (ms : List Machine_data) (ps : List Projection_d
   AllFound : (derivations : List Derivation_data) → AreFirstCanonical bound ms ps count derivations → Searched bound ms ps count
   OneIsnt : (role : Role) (fault : SearchFault) → IsUnderivable bound ms ps role fault → Searched bound ms ps count
 
-found_next : (bound : ℕ) (ms : List Machine_data) (ps : List Projection_data) (count : ℕ) (m : Machine_data) (j : Projection_data) (ds : List Derivation_data) → slice_get ms count ≡ Some m → slice_get ps count ≡ Some j → AreFirstCanonical bound ms ps count ds
+found_next : (bound : ℕ) (ms : List Machine_data) (ps : List Projection_data) (count : ℕ) (m : Machine_data) (j : Projection_data) (ds : List Derivation_data) → slice_get ms count ≡ Some m
+    → slice_get ps count ≡ Some j → AreFirstCanonical bound ms ps count ds
     → ((d : Derivation_data) × IsCanonical m j.machine bound d) ⊎ ((f : SearchFault) × (f ≢ search.NoMemory) × SearchRefuses m j.machine bound f) → Searched bound ms ps (suc count)
 found_next bound ms ps count m j ds hm hj h (inl d) =
     let one : count + 1 ≡ suc count = omega arith in
@@ -62,26 +64,29 @@ found_next bound ms ps count m j ds hm hj h (inr f) =
 pub found_first : (bound : ℕ) (pr : Protocol_data) (ps : List Projection_data) (ms : List Machine_data) → IsSession pr ps ms → (count : ℕ) → count ≤ length ms → Searched bound ms ps count
 found_first bound pr ps ms s zero le = AllFound [] (none_canonical bound ms ps)
 found_first bound pr ps ms s (suc count) le =
-    let m = get_or ms count no-machine in
-    let j = get_or ps count no-projection in
-    let hm : slice_get ms count ≡ Some m = slice_get-get_or ms count no-machine (omega (arith, le)) in
-    let hj : slice_get ps count ≡ Some j = slice_get-get_or ps count no-projection (omega (arith, le, s.a_machine_each, s.projected.many)) in
+    let m = get_or ms count no_machine in
+    let j = get_or ps count no_projection in
+    let hm : slice_get ms count ≡ Some m = slice_get-get_or ms count no_machine (omega (arith, le)) in
+    let hj : slice_get ps count ≡ Some j = slice_get-get_or ps count no_projection (omega (arith, le, s.a_machine_each, s.projected.many)) in
     go m j hm hj (found_first bound pr ps ms s count (omega (arith, le)))
   where
     go : (m : Machine_data) (j : Projection_data) → slice_get ms count ≡ Some m → slice_get ps count ≡ Some j → Searched bound ms ps count → Searched bound ms ps (suc count)
     go m j hm hj (OneIsnt role fault u) = OneIsnt role fault u
-    go m j hm hj (AllFound ds h) = found_next bound ms ps count m j ds hm hj h (searching.decided m j.machine bound (machine-proper pr ps ms s count m hm) (projection-proper pr ps ms s count j hj))
+    go m j hm hj (AllFound ds h) = found_next bound ms ps count m j ds hm hj h (searching.decided m j.machine bound (machine_proper pr ps ms s count m hm) (projection_proper pr ps ms s count j hj))
 
 -- the session of a document and its derivations, or why there are none
 pub data Prepared (bound : ℕ) (d : Document_data) : Type 0 where
   NotSo : (why : Refusal) → HasNoDerivations bound d why → Prepared bound d
-  Derived : (projections : List Projection_data) (machines : List Machine_data) (derivations : List Derivation_data) → HasMachines d projections machines → AreCanonical bound machines projections derivations → Prepared bound d
+  Derived : (projections : List Projection_data) (machines : List Machine_data) (derivations : List Derivation_data) → HasMachines d projections machines
+      → AreCanonical bound machines projections derivations → Prepared bound d
 
-searched : (bound : ℕ) (d : Document_data) (projections : List Projection_data) (machines : List Machine_data) → HasMachines d projections machines → Searched bound machines projections (length machines) → Prepared bound d
+searched : (bound : ℕ) (d : Document_data) (projections : List Projection_data) (machines : List Machine_data) → HasMachines d projections machines
+    → Searched bound machines projections (length machines) → Prepared bound d
 searched bound d projections machines h (AllFound derivations found) = Derived projections machines derivations h found
 searched bound d projections machines h (OneIsnt role fault u) = NotSo (refusal.Underivable (record { role = role; fault = fault })) (HasNoDerivation projections machines h role fault u)
 
-of_machines_of : (bound : ℕ) (bytes : List ℕ) (d : Document_data) (projections : List Projection_data) → SpellsDocument bytes d → HasProjections d projections → (o : Option MachineRefusal) → first_refusal d.protocol.roles (machines_of d.machines projections) ≡ o → Prepared bound d
+of_machines_of : (bound : ℕ) (bytes : List ℕ) (d : Document_data) (projections : List Projection_data) → SpellsDocument bytes d → HasProjections d projections → (o : Option MachineRefusal)
+    → first_refusal d.protocol.roles (machines_of d.machines projections) ≡ o → Prepared bound d
 of_machines_of bound bytes d projections doc h (Some r) e = NotSo (refusal.IllMachine r.role r.fault) (IsWithoutSession _ (HasIllMachine projections h r e))
 of_machines_of bound bytes d projections doc h None e =
     let machines = machines_of d.machines projections in

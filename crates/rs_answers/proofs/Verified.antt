@@ -16,7 +16,7 @@ use Rattle.rs_model.specs.Data.{Machine_data, Protocol_data}
 use Rattle.rs_model.specs.declared.graph.Role.{Role}
 use Rattle.rs_model.specs.declared.memory.NoMemory.{NoMemory}
 use Rattle.rs_project.specs.Data.{Projection_data}
-use Rattle.rs_safety.proofs.Accepts.{accepted-safe, machine-proper, projection-proper}
+use Rattle.rs_safety.proofs.Accepts.{accepted_safe, machine_proper, projection_proper}
 use Rattle.rs_safety.specs.Accepting.{FirstRefused}
 use Rattle.rs_safety.specs.Sessions.{AreDerivations, AreOneEach, IsSession}
 use Rattle.rs_answers.specs.Data.{Answer_data}
@@ -39,7 +39,8 @@ none_blamed None e = refl
 none_blamed (Some f) e = absurd cc
 
 -- where none is blamed all are there
-none_missing : (n : ℕ) (own : List (Option Derivation_data)) (ms : List Machine_data) (js : List Projection_data) → first_blame n own ms js ≡ None → length own ≡ length ms → length ms ≡ length js → list_all is_some own ≡ true
+none_missing : (n : ℕ) (own : List (Option Derivation_data)) (ms : List Machine_data) (js : List Projection_data) → first_blame n own ms js ≡ None → length own ≡ length ms → length ms ≡ length js
+    → list_all is_some own ≡ true
 none_missing n [] ms js e f g = refl
 none_missing n (x ∷ own) [] js e f g = absurd cc
 none_missing n (x ∷ own) (m ∷ ms) [] e f g = absurd cc
@@ -53,7 +54,7 @@ there_many [] e = refl
 there_many (None ∷ own) e = absurd (cc e)
 there_many (Some x ∷ own) e = ap suc (there_many own e)
 
--- .. in their places
+-- each derivation is there in its place
 there_at : (own : List (Option Derivation_data)) → list_all is_some own ≡ true → (p : ℕ) (d : Derivation_data) → slice_get (those_there own) p ≡ Some d → slice_get own p ≡ Some (Some d)
 there_at [] e p d h = absurd (cc h)
 there_at (None ∷ own) e p d h = absurd (cc e)
@@ -63,7 +64,7 @@ there_at (Some x ∷ own) e (suc p) d h = there_at own e p d h
 abbrev Shows : Derivation_data → Machine_data → Projection_data → Type 0
 Shows d m j = IsDerivation d m j.machine × Remembers d m j.machine
 
--- .. and are derivations that remember
+-- those that are there are derivations that remember
 there_shows : (n : ℕ) (own : List (Option Derivation_data)) (ms : List Machine_data) (js : List Projection_data) → first_blame n own ms js ≡ None → length own ≡ length ms → length ms ≡ length js
     → (p : ℕ) (m : Machine_data) (j : Projection_data) (d : Derivation_data) → slice_get ms p ≡ Some m → slice_get js p ≡ Some j → slice_get (those_there own) p ≡ Some d → Shows d m j
 there_shows n [] ms js e f g p m j d hm hj h = absurd cc
@@ -77,23 +78,26 @@ there_shows n (Some x ∷ own) (y ∷ ms) (z ∷ js) e f g (suc p) m j d hm hj h
     there_shows (suc n) own ms js (none_first (blame_of (Some x) y z) (record { 0 = n }) (first_blame (suc n) own ms js) e).1 (omega (arith, f)) (omega (arith, g)) p m j d hm hj h
 
 -- the session's derivations
-are_derivations : (pr : Protocol_data) (own : List (Option Derivation_data)) (ms : List Machine_data) (js : List Projection_data) → IsSession pr js ms → length own ≡ pr.roles → first_blame 0 own ms js ≡ None → AreDerivations ms js (those_there own)
+are_derivations : (pr : Protocol_data) (own : List (Option Derivation_data)) (ms : List Machine_data) (js : List Projection_data) → IsSession pr js ms → length own ≡ pr.roles
+    → first_blame 0 own ms js ≡ None → AreDerivations ms js (those_there own)
 are_derivations pr own ms js s size e =
     let f : length own ≡ length ms = size ∙ sym s.a_machine_each in
     let g : length ms ≡ length js = s.a_machine_each ∙ sym s.projected.many in
-    record { many = there_many own (none_missing 0 own ms js e f g) ∙ f; is = there_shows 0 own ms js e f g }
+    record { many = there_many own (none_missing 0 own ms js e f g) ∙ f; each = there_shows 0 own ms js e f g }
 
-pub are_one_each : (pr : Protocol_data) (own : List (Option Derivation_data)) (roles : List (List ℕ)) → length roles ≡ pr.roles → DerivationsAreHeld roles own → list_all is_some own ≡ true → AreOneEach pr.roles (those_there own)
+pub are_one_each : (pr : Protocol_data) (own : List (Option Derivation_data)) (roles : List (List ℕ)) → length roles ≡ pr.roles → DerivationsAreHeld roles own → list_all is_some own ≡ true
+    → AreOneEach pr.roles (those_there own)
 are_one_each pr own roles size held all = record {
   many = there_many own all ∙ held.one_each ∙ size;
   role = λ p d h. held.in_place p d (there_at own all p d h);
   bound = λ p d h. (held.all p d (there_at own all p d h)).bound;
-  few = λ p d h. (let few = (held.all p d (there_at own all p d h)).few in omega (arith, few));
+  bounded = λ p d h. (let few = (held.all p d (there_at own all p d h)).bounded in omega (arith, few));
 }
 
 -- where all show that their machines may stand for their projections, none is blamed
 all_show : (n : ℕ) (own : List (Option Derivation_data)) (ms : List Machine_data) (js : List Projection_data) → list_all is_some own ≡ true
-    → ((p : ℕ) (m : Machine_data) (j : Projection_data) (d : Derivation_data) → slice_get ms p ≡ Some m → slice_get js p ≡ Some j → slice_get (those_there own) p ≡ Some d → Shows d m j) → first_blame n own ms js ≡ None
+    → ((p : ℕ) (m : Machine_data) (j : Projection_data) (d : Derivation_data) → slice_get ms p ≡ Some m → slice_get js p ≡ Some j → slice_get (those_there own) p ≡ Some d → Shows d m j)
+    → first_blame n own ms js ≡ None
 all_show n [] ms js all h = refl
 all_show n (x ∷ own) [] js all h = refl
 all_show n (x ∷ own) (m ∷ ms) [] all h = refl
@@ -102,11 +106,13 @@ all_show n (Some x ∷ own) (m ∷ ms) (j ∷ js) all h =
     let none = no_fault_back x m j.machine (h 0 m j x refl refl refl) in
     rw (none, all_show (suc n) own ms js all (λ p y z d e f g. h (suc p) y z d e f g)) refl
 
-pub none_is_blamed : (own : List (Option Derivation_data)) (ms : List Machine_data) (js : List Projection_data) → list_all is_some own ≡ true → AreDerivations ms js (those_there own) → first_blame 0 own ms js ≡ None
-none_is_blamed own ms js all h = all_show 0 own ms js all h.is
+pub none_is_blamed : (own : List (Option Derivation_data)) (ms : List Machine_data) (js : List Projection_data) → list_all is_some own ≡ true → AreDerivations ms js (those_there own)
+    → first_blame 0 own ms js ≡ None
+none_is_blamed own ms js all h = all_show 0 own ms js all h.each
 
--- .. and else the first that doesn't is
-refused_blamed : (n : ℕ) (own : List (Option Derivation_data)) (ms : List Machine_data) (js : List Projection_data) (place : ℕ) (cause : DeriveFault) → list_all is_some own ≡ true → FirstRefused ms js (those_there own) place cause
+-- where not all show that their machines may stand for their projections, the first that doesn't is blamed
+refused_blamed : (n : ℕ) (own : List (Option Derivation_data)) (ms : List Machine_data) (js : List Projection_data) (place : ℕ) (cause : DeriveFault) → list_all is_some own ≡ true
+    → FirstRefused ms js (those_there own) place cause
     → first_blame n own ms js ≡ Some (record { role = record { 0 = n + place }; blame = blame.Fault cause })
 refused_blamed n [] ms js place cause all r = let at = r.derives in absurd (cc at)
 refused_blamed n (x ∷ own) [] js place cause all r = let at = r.runs in absurd (cc at)
@@ -138,7 +144,8 @@ refused_blamed n (Some x ∷ own) (m ∷ ms) (j ∷ js) (suc place) cause all r 
     let P : ℕ → Type 0 = λ k. first_blame (suc n) own ms js ≡ Some (record { role = record { 0 = k }; blame = blame.Fault cause }) in
     rw none (subst P on (refused_blamed (suc n) own ms js place cause all later))
 
-pub refused_is_blamed : (own : List (Option Derivation_data)) (ms : List Machine_data) (js : List Projection_data) (role : Role) (cause : DeriveFault) → list_all is_some own ≡ true → FirstRefused ms js (those_there own) role.0 cause
+pub refused_is_blamed : (own : List (Option Derivation_data)) (ms : List Machine_data) (js : List Projection_data) (role : Role) (cause : DeriveFault) → list_all is_some own ≡ true
+    → FirstRefused ms js (those_there own) role.0 cause
     → first_blame 0 own ms js ≡ Some (record { role = role; blame = blame.Fault cause })
 refused_is_blamed own ms js role cause all r =
     let place : 0 + role.0 ≡ role.0 = omega arith in
@@ -146,7 +153,8 @@ refused_is_blamed own ms js role cause all r =
     subst P place (refused_blamed 0 own ms js role.0 cause all r)
 
 -- some role is blamed where one is missing
-pub missing_is_blamed : (pr : Protocol_data) (own : List (Option Derivation_data)) (ms : List Machine_data) (js : List Projection_data) → IsSession pr js ms → length own ≡ pr.roles → list_all is_some own ≡ false → first_blame 0 own ms js ≡ None → ⊥
+pub missing_is_blamed : (pr : Protocol_data) (own : List (Option Derivation_data)) (ms : List Machine_data) (js : List Projection_data) → IsSession pr js ms → length own ≡ pr.roles
+    → list_all is_some own ≡ false → first_blame 0 own ms js ≡ None → ⊥
 missing_is_blamed pr own ms js s size missing e =
     let f : length own ≡ length ms = size ∙ sym s.a_machine_each in
     let g : length ms ≡ length js = s.a_machine_each ∙ sym s.projected.many in
@@ -154,7 +162,8 @@ missing_is_blamed pr own ms js s size missing e =
     cc (missing, all)
 
 -- what the checker asks is there
-checkable_by : (own : List (Option Derivation_data)) (ms : List Machine_data) (js : List Projection_data) → ((p : ℕ) (m : Machine_data) → slice_get ms p ≡ Some m → IsProper m) → ((p : ℕ) (j : Projection_data) → slice_get js p ≡ Some j → IsProper j.machine)
+checkable_by : (own : List (Option Derivation_data)) (ms : List Machine_data) (js : List Projection_data) → ((p : ℕ) (m : Machine_data) → slice_get ms p ≡ Some m → IsProper m)
+    → ((p : ℕ) (j : Projection_data) → slice_get js p ≡ Some j → IsProper j.machine)
     → ((p : ℕ) (x : Derivation_data) → slice_get own p ≡ Some (Some x) → IsBounded x) → AreCheckable own ms js
 checkable_by [] ms js hm hj hx = tt
 checkable_by (x ∷ own) [] js hm hj hx = tt
@@ -164,25 +173,30 @@ checkable_by (x ∷ own) (m ∷ ms) (j ∷ js) hm hj hx = (
   checkable_by own ms js (λ p y e. hm (suc p) y e) (λ p y e. hj (suc p) y e) (λ p y e. hx (suc p) y e),
 )
 
-pub checkable : (pr : Protocol_data) (own : List (Option Derivation_data)) (ms : List Machine_data) (js : List Projection_data) (roles : List (List ℕ)) → IsSession pr js ms → DerivationsAreHeld roles own → AreCheckable own ms js
-checkable pr own ms js roles s held = checkable_by own ms js (λ p m e. machine-proper pr js ms s p m e) (λ p j e. projection-proper pr js ms s p j e) (λ p x e. held.all p x e)
+pub checkable : (pr : Protocol_data) (own : List (Option Derivation_data)) (ms : List Machine_data) (js : List Projection_data) (roles : List (List ℕ)) → IsSession pr js ms
+    → DerivationsAreHeld roles own → AreCheckable own ms js
+checkable pr own ms js roles s held = checkable_by own ms js (λ p m e. machine_proper pr js ms s p m e) (λ p j e. projection_proper pr js ms s p j e) (λ p x e. held.all p x e)
 
--- .. and so the machines are safe
-pub verified_safe : (pr : Protocol_data) (own : List (Option Derivation_data)) (ms : List Machine_data) (js : List Projection_data) → IsSession pr js ms → length own ≡ pr.roles → first_blame 0 own ms js ≡ None → IsSafe ms
-verified_safe pr own ms js s size e = accepted-safe pr js ms (those_there own) s (are_derivations pr own ms js s size e)
+-- where none is blamed, the machines are safe
+pub verified_safe : (pr : Protocol_data) (own : List (Option Derivation_data)) (ms : List Machine_data) (js : List Projection_data) → IsSession pr js ms → length own ≡ pr.roles
+    → first_blame 0 own ms js ≡ None → IsSafe ms
+verified_safe pr own ms js s size e = accepted_safe pr js ms (those_there own) s (are_derivations pr own ms js s size e)
 
 -- there is an answer
-pub some_verifying : (d : Document_data) (ps : List Projection_data) (ms : List Machine_data) → HasMachines d ps ms → (o : Option RoleBlame) → first_blame 0 d.derivations ms ps ≡ o → (a : Answer_data) × Verifies d a
+pub some_verifying : (d : Document_data) (ps : List Projection_data) (ms : List Machine_data) → HasMachines d ps ms → (o : Option RoleBlame) → first_blame 0 d.derivations ms ps ≡ o
+    → (a : Answer_data) × Verifies d a
 some_verifying d ps ms h (Some b) e = (blame_answer d.names b.role b.blame, IsBlamed ps ms h b e refl)
 some_verifying d ps ms h None e = (report d.names.roles (those_there d.derivations), IsVerified ps ms h e refl)
 
 -- the answers that are made
-pub verify_refused : (d : Document_data) (why : Refusal) (r : Result Answer_data NoMemory) → (why ≡ refusal.NoMemory) ⊎ HasNoSession d why → IfOk r (λ a. a ≡ refusal_answer d.names why) → OnOk r (why ≡ refusal.NoMemory → ⊥) → IfOk r (Verifies d)
+pub verify_refused : (d : Document_data) (why : Refusal) (r : Result Answer_data NoMemory) → (why ≡ refusal.NoMemory) ⊎ HasNoSession d why → IfOk r (λ a. a ≡ refusal_answer d.names why)
+    → OnOk r (why ≡ refusal.NoMemory → ⊥) → IfOk r (Verifies d)
 verify_refused d why (Err e) h is never = tt
 verify_refused d why (Ok a) (inl memory) is never = absurd (never memory)
 verify_refused d why (Ok a) (inr h) is never = IsRefused why h is
 
-pub verify_blamed : (d : Document_data) (ps : List Projection_data) (ms : List Machine_data) (role : Role) (b : Blame) (r : Result Answer_data NoMemory) → HasMachines d ps ms → first_blame 0 d.derivations ms ps ≡ Some (record { role = role; blame = b })
+pub verify_blamed : (d : Document_data) (ps : List Projection_data) (ms : List Machine_data) (role : Role) (b : Blame) (r : Result Answer_data NoMemory) → HasMachines d ps ms
+    → first_blame 0 d.derivations ms ps ≡ Some (record { role = role; blame = b })
     → IfOk r (λ a. a ≡ blame_answer d.names role b) → IfOk r (Verifies d)
 verify_blamed d ps ms role b (Err e) h f is = tt
 verify_blamed d ps ms role b (Ok a) h f is = IsBlamed ps ms h (record { role = role; blame = b }) f is

@@ -1,17 +1,12 @@
 -- Believed: the derivations of a session: those that the search finds for its machines.
-use Rattle.std.specs.Prelude.{◌≡◌, ◌≢◌, ◌≤◌, ℕ, List, Some, length, slice_get}
+use Rattle.std.specs.Prelude.{◌≡◌, ◌≢◌, ℕ, List, Some, length, slice_get}
 use Rattle.rs_derive.specs.Data.{Derivation_data}
 use Rattle.rs_model.specs.Data.{Machine_data}
 use Rattle.rs_model.specs.declared.graph.Role.{Role}
-use Rattle.rs_model.specs.declared.limits.TheConstants.{MOST_BOUND}
 use Rattle.rs_project.specs.Data.{Projection_data}
 use Rattle.rs_search.specs.Canonical.{IsCanonical, SearchRefuses}
 use Rattle.rs_search.specs.declared.faults.SearchFault.{SearchFault}
 use Rattle.rs_search.specs.declared.faults.SearchFault.TheVariants as search
-
--- what the search can be bounded by
-abbrev pub IsSearchBound : ℕ → Type 0
-IsSearchBound bound = (1 ≤ bound) × (bound ≤ MOST_BOUND)
 
 -- the canonical derivations within the bound of the first so many roles' machines from their projections, in role order
 pub record AreFirstCanonical (bound : ℕ) (machines : List Machine_data) (projections : List Projection_data) (count : ℕ) (derivations : List Derivation_data) : Type 0 where
@@ -19,7 +14,7 @@ pub record AreFirstCanonical (bound : ℕ) (machines : List Machine_data) (proje
   pub each : (p : ℕ) (m : Machine_data) (j : Projection_data) (d : Derivation_data) → slice_get machines p ≡ Some m → slice_get projections p ≡ Some j
       → slice_get derivations p ≡ Some d → IsCanonical m j.machine bound d
 
--- .. of all roles
+-- the canonical derivations within the bound of all roles' machines, in role order
 abbrev pub AreCanonical : ℕ → List Machine_data → List Projection_data → List Derivation_data → Type 0
 AreCanonical bound machines projections derivations = AreFirstCanonical bound machines projections (length machines) derivations
 

@@ -1,9 +1,13 @@
+pub mod Accepting
 pub mod Checks
 pub mod Data
+pub mod DemoSessions
+pub mod Demos
 pub mod Derivations
 pub mod Lines
 pub mod Machines
 pub mod Pools
+pub mod Ready
 pub mod RefusalTexts
 pub mod Refusals
 pub mod Report

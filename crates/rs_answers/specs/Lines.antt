@@ -12,13 +12,13 @@ abbrev pub line_text : List ℕ → Figures → List ℕ
 line_text name f =
     joined_texts (name ∷ codes ": nodes " ∷ decimal f.nodes ∷ codes " pending " ∷ decimal f.owed ∷ codes " rank " ∷ decimal f.rank ∷ codes "\n" ∷ [])
 
--- .. of each role
+-- the line of each role
 abbrev pub lines_text : List (List ℕ) → List Figures → List ℕ
 lines_text (name ∷ names) (f ∷ figures) = line_text name f ++ lines_text names figures
 lines_text (name ∷ names) [] = []
 lines_text [] figures = []
 
--- .. and the room
+-- the lines of the roles, and the room
 abbrev pub report_by : List (List ℕ) → List Figures → Answer_data
 report_by names figures = record {
   text = joined_texts (codes "accepted\n" ∷ lines_text names figures ∷ codes "room " ∷ decimal (room_by figures) ∷ codes "\n" ∷ []);

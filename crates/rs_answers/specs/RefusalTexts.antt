@@ -139,11 +139,11 @@ search_answer names role search.NoMemory = refused_answer [] []
 abbrev pub at_node : List ℕ → ℕ → List ℕ
 at_node what node = joined_texts (what ∷ codes " at node " ∷ decimal node ∷ [])
 
--- .. and at which arm of its node
+-- a fault at an arm of a node
 abbrev pub at_arm : List ℕ → ℕ → ℕ → List ℕ
 at_arm what node arm = joined_texts (what ∷ codes " at node " ∷ decimal node ∷ codes " arm " ∷ decimal arm ∷ [])
 
--- .. and why
+-- why a derivation is refused
 abbrev pub derive_text : DeriveFault → List ℕ
 derive_text derive.BadStart = codes "bad start"
 derive_text (derive.BadState node) = at_node (codes "bad state") node
@@ -152,7 +152,7 @@ derive_text (derive.NoMove node) = at_node (codes "no move") node
 derive_text (derive.WrongNext node arm) = at_arm (codes "wrong next") node arm
 derive_text (derive.Forgets node arm) = at_arm (codes "forgets") node arm
 
--- .. or that there is none
+-- why a role is blamed: its derivation is refused, or there is none
 abbrev pub blame_text : Blame → List ℕ
 blame_text blame.Missing = codes "no derivation"
 blame_text (blame.Fault fault) = derive_text fault

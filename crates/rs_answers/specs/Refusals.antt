@@ -43,7 +43,7 @@ abbrev pub of_projecting : ProjFault → Refusal
 of_projecting proj.NoMemory = refusal.NoMemory
 of_projecting fault = refusal.Unprojectable fault
 
--- .. of the search for that role
+-- a fault of the search for that role as a reason
 abbrev pub of_searching : Role → SearchFault → Refusal
 of_searching role search.NoMemory = refusal.NoMemory
 of_searching role fault = refusal.Underivable (record { role = role; fault = fault })

@@ -22,7 +22,7 @@ use Rattle.rs_answers.specs.Sessions.{HasMachines}
 use Rattle.rs_answers.specs.Texts.{joined_texts}
 use Rattle.rs_answers.specs.TranscriptTexts.{transcripts_text}
 use Rattle.rs_answers.specs.declared.refusals.Refusal.{Refusal}
-use Rattle.rs_answers.specs.declared.runs.RunOptions.{RunOptions}
+use Rattle.rs_model.specs.declared.runs.RunOptions.{RunOptions}
 use Rattle.rs_answers.specs.declared.verdicts.Verdict.TheVariants as verdict
 use Rattle.rs_model.specs.declared.limits.TheConstants.{MOST_CAPACITY}
 
@@ -68,11 +68,11 @@ pub data TellsEnd (names : Names_data) (machines : List Machine_data) (capacity 
       → answer ≡ full_answer names sender receiver (sent_to receiver.0 (transcript_of (end.history sender.0))) (got_from sender.0 (transcript_of (end.history receiver.0)))
       → TellsEnd names machines capacity answer (Stuck end)
 
--- what is told of the plain run of the machines, by the actors of the seed
-pub record TellsRun (options : RunOptions) (names : Names_data) (machines : List Machine_data) (derivations : List Derivation_data) (answer : Answer_data) : Type 0 where
+-- what is told of the plain run of the machines, by these actors, with queues of this capacity
+pub record TellsRun (names : Names_data) (machines : List Machine_data) (actors : ℕ → ℕ) (limit capacity : ℕ) (answer : Answer_data) : Type 0 where
   pub end : Ending ℕ
-  pub plain : IsPlain machines by_draws (actor_of options.seed) options.limit (Some (capacity_of options.ring (room_of derivations))) end
-  pub tells : TellsEnd names machines (capacity_of options.ring (room_of derivations)) answer end
+  pub plain : IsPlain machines by_draws actors limit (Some capacity) end
+  pub tells : TellsEnd names machines capacity answer end
 
 -- one of these applies
 pub data Runs (options : RunOptions) (d : Document_data) (answer : Answer_data) : Type 0 where
@@ -80,4 +80,5 @@ pub data Runs (options : RunOptions) (d : Document_data) (answer : Answer_data) 
   IsRefused : (refusal : Refusal) → HasNoDerivations options.bound d refusal → answer ≡ refusal_answer d.names refusal → Runs options d answer
   -- the session is accepted, and run
   IsRun : (projections : List Projection_data) (machines : List Machine_data) (derivations : List Derivation_data) → HasMachines d projections machines
-      → AreCanonical options.bound machines projections derivations → TellsRun options d.names machines derivations answer → Runs options d answer
+      → AreCanonical options.bound machines projections derivations
+      → TellsRun d.names machines (actor_of options.seed) options.limit (capacity_of options.ring (room_of derivations)) answer → Runs options d answer

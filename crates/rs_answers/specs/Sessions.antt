@@ -19,7 +19,7 @@ pub record IsUnprojectable (protocol : Protocol_data) (role : Role) (fault : Pro
   pub projected : AreFirstProjections protocol role.0 earlier
   pub refused : FirstRefusal protocol role fault
 
--- .. of any role
+-- the first role onto which the protocol has no projection, whichever it is, and the first reason
 abbrev pub Refuses : Protocol_data → ProjFault → Type 0
 Refuses protocol fault = (role : Role) × IsUnprojectable protocol role fault
 

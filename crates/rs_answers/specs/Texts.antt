@@ -6,13 +6,13 @@ use Rattle.rs_answers.specs.declared.texts.Piece.{Piece}
 use Rattle.rs_answers.specs.declared.texts.Piece.TheVariants as piece
 
 -- the bytes of a piece
-abbrev pub bytes_of : Piece → List ℕ
-bytes_of (piece.Words text) = text.now
-bytes_of (piece.Number n) = decimal n
+abbrev pub piece_bytes : Piece → List ℕ
+piece_bytes (piece.Words text) = text.now
+piece_bytes (piece.Number n) = decimal n
 
 -- the pieces, one behind the other
-abbrev pub text_of : List Piece → List ℕ
-text_of pieces = flat_map bytes_of pieces
+abbrev pub pieces_text : List Piece → List ℕ
+pieces_text pieces = flat_map piece_bytes pieces
 
 -- texts, one behind the other
 abbrev pub joined_texts : List (List ℕ) → List ℕ

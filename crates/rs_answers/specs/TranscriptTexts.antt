@@ -24,9 +24,9 @@ abbrev pub number_behind : ℤ → List ℕ
 number_behind n = codes "," ++ signed_decimal n
 
 -- numbers, with a comma between
-abbrev pub numbers_text : List ℤ → List ℕ
-numbers_text [] = []
-numbers_text (n ∷ ns) = signed_decimal n ++ flat_map number_behind ns
+abbrev pub integers_text : List ℤ → List ℕ
+integers_text [] = []
+integers_text (n ∷ ns) = signed_decimal n ++ flat_map number_behind ns
 
 -- a value in parentheses, and nothing for the only value of its sort
 abbrev pub value_text : Value → List ℕ
@@ -35,7 +35,7 @@ value_text (value.Flag flag) = joined_texts (codes "(" ∷ flag_text flag ∷ co
 value_text (value.Natural n) = joined_texts (codes "(" ∷ decimal n ∷ codes ")" ∷ [])
 value_text (value.Whole n) = joined_texts (codes "(" ∷ signed_decimal n ∷ codes ")" ∷ [])
 value_text (value.Octets bytes) = joined_texts (codes "(" ∷ flat_map hex_text bytes ∷ codes ")" ∷ [])
-value_text (value.Numbers ns) = joined_texts (codes "([" ∷ numbers_text ns ∷ codes "])" ∷ [])
+value_text (value.Numbers ns) = joined_texts (codes "([" ∷ integers_text ns ∷ codes "])" ∷ [])
 
 -- a send as ` Q!label`, and a receive as ` Q?label(value)`
 abbrev pub entry_text : Names_data → Entry → List ℕ

@@ -53,7 +53,7 @@ abbrev pub there : Option Derivation_data → List Derivation_data
 there None = []
 there (Some derivation) = derivation ∷ []
 
--- .. of all roles
+-- the derivations of all roles that are there, in role order
 abbrev pub those_there : List (Option Derivation_data) → List Derivation_data
 those_there own = flat_map there own
 
@@ -74,7 +74,7 @@ pub record IsCheckable (own : Option Derivation_data) (machine : Machine_data) (
   pub projection_is : IsProper projection.machine
   pub bounded : (derivation : Derivation_data) → own ≡ Some derivation → IsBounded derivation
 
--- .. role by role
+-- what the checker asks of its arguments, role by role
 abbrev pub AreCheckable : List (Option Derivation_data) → List Machine_data → List Projection_data → Type 0
 AreCheckable (own ∷ owns) (machine ∷ machines) (projection ∷ projections) = IsCheckable own machine projection × AreCheckable owns machines projections
 AreCheckable (own ∷ owns) (machine ∷ machines) [] = Unit {0}

@@ -2,7 +2,6 @@
 
 ghost use Rattle.std.specs.Prelude.{◌≡◌, Some, false, length, map, true, IfOk};
 ghost use Rattle.rs_answers.specs.Checks.{Checks};
-ghost use Rattle.rs_answers.specs.Derivations.{IsSearchBound};
 ghost use Rattle.rs_documents.specs.Canonical.{CanBeShown};
 ghost use Rattle.rs_documents.specs.Reading.{DocumentIsReady};
 
@@ -13,15 +12,13 @@ use crate::report::report;
 use crate::shown::show;
 use rs_derive::Derivation;
 use rs_documents::Document;
-use rs_model::NoMemory;
+use rs_model::{Bound, NoMemory};
 use std::alloc::Global;
 
 /// What `check` answers to a document, with a search within the bound: the first reason to refuse it, else the report of
 /// its session, with the figures of the derivations that were found.
-pub fn check(alloc: Global, document: &Document, bound: u8) -> Result<Answer, NoMemory>
+pub fn check(alloc: Global, document: &Document, bound: Bound) -> Result<Answer, NoMemory>
     requires ready { DocumentIsReady document.now }
-    requires roles { length document.now.names.roles ≡ document.now.protocol.roles }
-    requires bound { IsSearchBound bound }
     ensures { IfOk result (Checks bound false document.now) }
 {
     let names = &document.names;
@@ -54,12 +51,10 @@ fn one_for_each_role(
 pub fn check_with_derivations(
     alloc: Global,
     mut document: Document,
-    bound: u8,
+    bound: Bound,
 ) -> Result<Answer, NoMemory>
     requires ready { DocumentIsReady document }
-    requires roles { length document.names.roles ≡ document.protocol.roles }
     requires shown { CanBeShown document }
-    requires bound { IsSearchBound bound }
     ensures { IfOk result (Checks bound true document) }
 {
     match derived_session(alloc, &document, bound) {

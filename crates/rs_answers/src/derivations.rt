@@ -1,20 +1,20 @@
 //! The derivations of a session, role by role.
 
-ghost use Rattle.std.specs.Prelude.{◌≡◌, ◌⊎◌, ℕ, IfOk, IfErr, length};
+ghost use Rattle.std.specs.Prelude.{◌≡◌, ◌⊎◌, IfOk, IfErr, OnOk, length};
 ghost use Rattle.rs_model.specs.Data.{Protocol_data};
+ghost use Rattle.rs_model.specs.Limits.{IsBound};
 ghost use Rattle.rs_safety.specs.Sessions.{IsSession};
-ghost use Rattle.rs_answers.specs.Derivations.{AreCanonical, IsSearchBound, IsUnderivable};
+ghost use Rattle.rs_answers.specs.Derivations.{AreCanonical, IsUnderivable};
 ghost use Rattle.rs_documents.specs.Reading.{DocumentIsReady};
 ghost use Rattle.rs_answers.specs.Refusals.{HasNoDerivations};
 ghost use Rattle.rs_answers.specs.Sessions.{HasMachines};
 
 use crate::refusals::Refusal;
-use crate::sessions::{Session, session_of};
+use crate::sessions::{ProjectedSession, session_of};
 use rs_derive::Derivation;
 use rs_documents::Document;
-use rs_model::{Machine, Protocol, Role};
+use rs_model::{Bound, Machine, Role};
 use rs_project::Projection;
-use rs_safety::{Accepted, accept};
 use rs_search::{SearchFault, search};
 use std::alloc::Global;
 
@@ -68,39 +68,27 @@ pub struct DerivedSession {
 pub fn derived_session(
     alloc: Global,
     document: &Document,
-    bound: u8,
+    bound: Bound,
 ) -> Result<DerivedSession, Refusal>
     requires ready { DocumentIsReady document.now }
-    requires roles { length document.now.names.roles ≡ document.now.protocol.roles }
     ensures machines { IfOk result (λ s. HasMachines document.now s.projections.items s.machines.items) }
     ensures derivations { IfOk result (λ s. AreCanonical bound s.machines.items s.projections.items s.derivations.items) }
+    ensures bound { OnOk result (IsBound bound) }
     ensures err { IfErr result (λ r. (r ≡ Refusal.NoMemory) ⊎ HasNoDerivations bound document.now r) }
 {
-    let Session {
+    let ProjectedSession {
         projections,
         machines,
     } = session_of(alloc, document)?;
-    let derivations = derivations_of(alloc, projections.as_slice(), machines.as_slice(), bound)?;
+    let derivations = derivations_of(
+        alloc,
+        projections.as_slice(),
+        machines.as_slice(),
+        bound.number(),
+    )?;
     Ok(DerivedSession {
         projections,
         machines,
         derivations,
     })
-}
-
-/// Accepts a session with the derivations that the search found.
-pub fn accept_derived<'a>(
-    protocol: &'a Protocol,
-    projections: &'a [Projection],
-    machines: Vec<Machine>,
-    derivations: &'a [Derivation],
-) -> Accepted<'a>
-    requires session { IsSession protocol.now projections.now machines.items }
-    requires derivations { (bound : ℕ) × IsSearchBound bound × AreCanonical bound machines.items projections.now derivations.now }
-    ensures { result ≡ record { protocol = protocol.now; projections = projections.now; derivations = derivations.now; machines = machines.items } }
-{
-    match accept(protocol, projections, machines, derivations) {
-        Ok(accepted) => accepted,
-        Err(_) => unreachable!(),
-    }
 }

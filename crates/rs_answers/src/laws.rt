@@ -1,26 +1,38 @@
-// What can't be wrong with what a text spells, and with what its own derivations show. The functions do nothing: they state laws.
-ghost use Rattle.std.specs.Prelude.{◌≡◌, ℕ, ◌≤◌, List, Some, None, slice_get};
+//! Laws about the definitions: each function does nothing, and its contract is the law.
+
+ghost use Rattle.std.specs.Prelude.{◌≡◌, ℕ, ◌≤◌, List, Some, None, slice_get, Option, length};
 ghost use Rattle.rs_derive.specs.Data.{Derivation_data};
 ghost use Rattle.rs_documents.specs.Data.{Document_data};
 ghost use Rattle.rs_documents.specs.Documents.{SpellsDocument};
-ghost use Rattle.rs_model.specs.Data.{Machine_data};
+ghost use Rattle.rs_model.specs.Data.{Machine_data, Names_data, Protocol_data};
 ghost use Rattle.rs_model.specs.declared.graph.Role.{Role};
 ghost use Rattle.rs_project.specs.Data.{Projection_data};
 ghost use Rattle.rs_search.specs.declared.faults.SearchFault.{SearchFault};
 ghost use Rattle.rs_search.specs.declared.faults.SearchFault.TheVariants.{TooLarge};
-ghost use Rattle.rs_answers.specs.Derivations.{IsUnderivable};
+ghost use Rattle.rs_answers.specs.Derivations.{IsUnderivable, AreCanonical};
 ghost use Rattle.rs_answers.specs.Sessions.{HasMachines};
 ghost use Rattle.rs_answers.specs.Verifying as verifying;
-ghost use Rattle.rs_model.specs.Data.{Names_data, Protocol_data};
 ghost use Rattle.rs_global.specs.Spells.{SpellsProtocol};
 ghost use Rattle.rs_wellformed.specs.Faults.{first_fault};
 ghost use Rattle.rs_wellformed.specs.declared.checks.WfFault.{WfFault};
 ghost use Rattle.rs_answers.specs.SpeltFaults.{IsFaultOfSpeltProtocol};
+ghost use Rattle.rs_answers.specs.Data.{Answer_data};
+ghost use Rattle.rs_answers.specs.declared.verdicts.Verdict.TheVariants.{Fine};
+ghost use Rattle.rs_core.specs.Plain.{Moment, Stopped, Stuck, IsPlain};
+ghost use Rattle.rs_answers.specs.Demos.{AnswersDemo, Opens, actor_at};
+ghost use Rattle.rs_answers.specs.declared.limits.TheConstants.{DEMO_LIMIT};
+ghost use Rattle.rs_demos.specs.Acting.{by_demo};
+ghost use Rattle.rs_demos.specs.Results.{Computes};
+ghost use Rattle.rs_demos.specs.declared.actors.DemoActor.{DemoActor};
+ghost use Rattle.rs_model.specs.declared.limits.TheConstants.{MOST_BYTES, DEFAULT_BOUND};
+ghost use Rattle.rs_model.specs.declared.demos.Demo.{Demo};
+ghost use Rattle.rs_safety.specs.Room.{room_of};
 
 /// A protocol that a text spells has no other faults than a talk to itself, too many arms, and a label that stands twice at
 /// a talk: each talk has arms and known roles, and each arm leads to a node.
 pub fn faults_of_spelt_protocols()
-    ensures { (bytes : List ℕ) (at : ℕ) (names : Names_data) (protocol : Protocol_data) (until : ℕ) (fault : WfFault) → SpellsProtocol bytes at names protocol until → first_fault protocol ≡ Some fault → IsFaultOfSpeltProtocol fault }
+    ensures { (bytes : List ℕ) (at : ℕ) (names : Names_data) (protocol : Protocol_data) (until : ℕ) (fault : WfFault) → SpellsProtocol bytes at names protocol until → first_fault protocol ≡ Some fault
+        → IsFaultOfSpeltProtocol fault }
 {}
 
 /// Where `verify` blames nothing in a document, and no derivation exceeds the bound, `check` refuses no machine of it, unless
@@ -30,4 +42,37 @@ pub fn what_verifies_is_found()
         → verifying.first_blame 0 d.derivations machines projections ≡ None
         → ((p : ℕ) (own : Derivation_data) → slice_get d.derivations p ≡ Some (Some own) → own.bound ≤ bound)
         → (role : Role) (fault : SearchFault) → IsUnderivable bound machines projections role fault → fault ≡ TooLarge }
+{}
+
+/// In a run over rings that hold as many messages as the room of the session says, some role can always move until all
+/// have ended.
+pub fn runs_of_demos_are_never_stuck()
+    ensures { (text : List ℕ) (d : Document_data) (projections : List Projection_data) (machines : List Machine_data) (derivations : List Derivation_data) (actors : List DemoActor) (capacity : ℕ)
+        (end : Moment DemoActor)
+        → SpellsDocument text d → HasMachines d projections machines → AreCanonical DEFAULT_BOUND machines projections derivations → room_of derivations ≤ capacity
+        → IsPlain machines by_demo (actor_at actors) DEMO_LIMIT (Some capacity) (Stuck end) → ⊥ }
+{}
+
+/// No role is stopped in a run of a demo's own machines with the actors of bytes within the limit, over queues of any
+/// capacity: none makes as many acts as the limit says.
+pub fn runs_of_demos_are_never_stopped()
+    ensures { (kind : Demo) (bytes : List ℕ) (actors : List DemoActor) (text : List ℕ) (d : Document_data) (projections : List Projection_data) (machines : List Machine_data) (capacity : Option ℕ)
+        (role : ℕ) (end : Moment DemoActor)
+        → length bytes ≤ MOST_BYTES → Opens kind bytes actors text → SpellsDocument text d → HasMachines d projections machines
+        → IsPlain machines by_demo (actor_at actors) DEMO_LIMIT capacity (Stopped role end) → ⊥ }
+{}
+
+/// There is an answer of each demo to all bytes.
+pub fn demos_have_an_answer()
+    ensures { (kind : Demo) (ring : Option ℕ) (bytes : List ℕ) → (a : Answer_data) × AnswersDemo kind ring bytes a }
+{}
+
+/// No demo has two answers to the same bytes.
+pub fn demos_have_one_answer()
+    ensures { (kind : Demo) (ring : Option ℕ) (bytes : List ℕ) (a b : Answer_data) → AnswersDemo kind ring bytes a → AnswersDemo kind ring bytes b → a ≡ b }
+{}
+
+/// Where a demo's answer is fine, it is what the demo computes of the bytes.
+pub fn demos_print_what_they_compute()
+    ensures { (kind : Demo) (ring : Option ℕ) (bytes : List ℕ) (a : Answer_data) → AnswersDemo kind ring bytes a → a.verdict ≡ Fine → Computes kind bytes a.text }
 {}

@@ -1,15 +1,19 @@
-//! What `check`, `verify`, `show`, `project` and `run` answer to a document.
+//! What `check`, `verify`, `show`, `project` and `run` answer to a document, and `demo` to its data.
 #![tactic(auto)]
 
+mod accepting;
 mod answers;
 mod checks;
+mod demos;
 mod derivations;
 pub mod laws;
+mod limits;
 mod lines;
-mod pools;
+mod ready;
 mod refusal_texts;
 mod refusals;
 mod report;
+mod running;
 mod runs;
 mod sessions;
 mod shown;
@@ -19,16 +23,18 @@ mod transcript_texts;
 mod verdicts;
 mod verifying;
 
+pub use accepting::{AcceptedDocument, RefusedDocument, accept_document};
 pub use answers::{Answer, AnswerWithSession};
 pub use checks::{check, check_with_derivations};
-pub use derivations::{
-    DerivedSession, Underivable, accept_derived, derivations_of, derived_session,
-};
-pub use pools::run_by_workers;
+pub use demos::ready_demo;
+pub use derivations::{DerivedSession, Underivable, derivations_of, derived_session};
+pub use limits::DEMO_LIMIT;
+pub use ready::{Prepared, Ready};
 pub use refusal_texts::{answer_to_fault, line_of_answer, too_large, too_small, usage};
 pub use refusals::{Refusal, refusal_answer};
-pub use runs::{RunOptions, capacity_of, run, stopped_answer};
-pub use sessions::{Session, first_refusal, machines_of, projections_of, session_of};
+pub use running::{run_alone, run_by_crew};
+pub use runs::ready_run;
+pub use sessions::{ProjectedSession, first_refusal, machines_of, projections_of, session_of};
 pub use shown::show;
 pub use tables::project_all;
 pub use texts::Piece;

@@ -27,7 +27,7 @@ pub fn line_of_answer(
     what: &[Piece],
     verdict: Verdict,
 ) -> Result<Answer, NoMemory>
-    ensures { IfOk result (λ a. a ≡ spec.line_of_answer kind.now (texts.text_of what.now) verdict) }
+    ensures { IfOk result (λ a. a ≡ spec.line_of_answer kind.now (texts.pieces_text what.now) verdict) }
 {
     let mut text = Text::new(alloc);
     text.push(kind)?;
@@ -45,7 +45,7 @@ pub fn usage(alloc: Global) -> Result<Answer, NoMemory>
 
 /// A quantity passes its limit.
 pub fn too_large(alloc: Global, what: &[Piece]) -> Result<Answer, NoMemory>
-    ensures { IfOk result (λ a. a ≡ spec.too_large (texts.text_of what.now)) }
+    ensures { IfOk result (λ a. a ≡ spec.too_large (texts.pieces_text what.now)) }
 {
     line_of_answer(alloc, b"too large: ", what, Verdict::TooLarge)
 }
@@ -64,7 +64,7 @@ pub fn too_small(alloc: Global, capacity: u16, room: u64) -> Result<Answer, NoMe
 
 /// The text is at fault.
 fn malformed_answer(alloc: Global, what: &[Piece]) -> Result<Answer, NoMemory>
-    ensures { IfOk result (λ a. a ≡ spec.malformed_answer (texts.text_of what.now)) }
+    ensures { IfOk result (λ a. a ≡ spec.malformed_answer (texts.pieces_text what.now)) }
 {
     line_of_answer(alloc, b"malformed ", what, Verdict::Malformed)
 }

@@ -1,45 +1,28 @@
 //! What `run` answers to a document.
 
-ghost use Rattle.std.specs.Prelude.{◌≡◌, ◌≤◌, length, IfOk, IfSome};
-ghost use Rattle.rs_core.specs.Runs.{IsGiven};
-ghost use Rattle.rs_answers.specs.Derivations.{IsSearchBound};
-ghost use Rattle.rs_documents.specs.Reading.{DocumentIsReady};
+ghost use Rattle.std.specs.Prelude.{◌≡◌, ◌<◌, ◌≤◌, ℕ, length, IfErr, IfOk, OnErr, Some};
+ghost use Rattle.rs_answers.specs.Ready.{Warrants};
 ghost use Rattle.rs_answers.specs.Runs as spec;
-ghost use Rattle.rs_answers.specs.RunSessions.{HasCome, IsThereWhere, WasRunByDraws, WasRunOf};
-ghost use Rattle.rs_answers.specs.Runs.{Runs, TellsRun};
-ghost use Rattle.rs_words.specs.Meaning.{IsFromTo};
+ghost use Rattle.rs_answers.specs.RunSessions.{GivesRun};
+ghost use Rattle.rs_core.specs.Runs.{IsGiven};
+ghost use Rattle.rs_documents.specs.Reading.{DocumentIsReady};
 
+use crate::accepting::{AcceptedDocument, accept_document};
 use crate::answers::{Answer, AnswerWithSession};
-use crate::derivations::{DerivedSession, accept_derived, derived_session};
-use crate::refusal_texts::{line_of_answer, role_name};
-use crate::refusals::refusal_answer;
+use crate::ready::{Prepared, Ready};
+use crate::refusal_texts::{line_of_answer, role_name, too_small};
 use crate::texts::Piece::{Number, Words};
 use crate::transcript_texts::push_transcripts;
 use crate::verdicts::Verdict;
 use rs_core::{Outcome, Run, SeededActor, Transcripts};
 use rs_documents::Document;
-use rs_exec::{ExecFault, Ran, run_inline};
-use rs_model::{MOST_CAPACITY, Names, NoMemory, Role};
-use rs_safety::Accepted;
+use rs_exec::Ran;
+use rs_model::{Capacity, Names, NoMemory, Role, RunOptions, Workers};
 use rs_text::Text;
 use std::alloc::Global;
 
-/// How a session is run.
-#[derive(Clone, Copy, Debug, PartialEq, Eq)]
-pub struct RunOptions {
-    /// The bound of the search, from 1 to 64.
-    pub bound: u8,
-    /// How many messages each queue holds, from 1 to 1,024. Where it isn't told, it is the session's room, or 1,024 where
-    /// that is greater.
-    pub ring: Option<u16>,
-    /// How many acts a role makes, at most, before the run is stopped.
-    pub limit: u32,
-    /// Where the draws of the actors begin.
-    pub seed: u32,
-}
-
 /// An actor for each of so many roles.
-pub fn actors_of(alloc: Global, roles: usize, seed: u32) -> Result<Vec<SeededActor>, NoMemory>
+fn actors_of(alloc: Global, roles: usize, seed: u32) -> Result<Vec<SeededActor>, NoMemory>
     requires { roles ≤ 16 }
     ensures many { IfOk result (λ actors. length actors.items ≡ roles) }
     ensures each { IfOk result (λ actors. IsGiven (spec.actor_of seed) actors.items) }
@@ -52,12 +35,13 @@ pub fn actors_of(alloc: Global, roles: usize, seed: u32) -> Result<Vec<SeededAct
 }
 
 /// How many messages each queue holds: as many as are asked for, or else the room, or the most where that is greater.
-pub fn capacity_of(ring: Option<u16>, room: u64) -> u16
+fn capacity_of(ring: Option<Capacity>, room: u64) -> Capacity
+    requires { 1 ≤ room }
     ensures { result ≡ spec.capacity_of ring room }
 {
     match ring {
         Some(ring) => ring,
-        None => room.min(u64::from(MOST_CAPACITY)) as u16,
+        None => Capacity::at_most(room),
     }
 }
 
@@ -103,7 +87,7 @@ pub fn outcome_answer(alloc: Global, names: &Names, outcome: Outcome) -> Result<
 }
 
 /// No role can move: the sender's queue to the receiver is full.
-fn full_answer(
+pub(crate) fn full_answer(
     alloc: Global,
     names: &Names,
     sender: Role,
@@ -129,68 +113,81 @@ fn full_answer(
     )
 }
 
-/// Runs an accepted session, and tells how the run ended.
-fn run_accepted(
+/// What a run left is told, with the session that it went through.
+pub(crate) fn finish_run(
     alloc: Global,
     names: &Names,
-    accepted: &Accepted,
-    options: RunOptions,
+    ran: Ran<SeededActor>,
 ) -> Result<AnswerWithSession, NoMemory>
-    requires ring { IfSome options.ring (IsFromTo 1 MOST_CAPACITY) }
-    ensures answer { IfOk result (λ a. TellsRun options names.now accepted.now.machines accepted.now.derivations a.answer) }
-    ensures closed { IfOk result (λ a. IsThereWhere (HasCome a.answer.verdict) (WasRunByDraws options names.now accepted.now.machines a.answer) a.closed) }
+    ensures answer { IfOk result (λ a. a.answer ≡ spec.outcome_answer names.now ran.run.outcome) }
+    ensures closed { IfOk result (λ a. a.closed ≡ Some ran.closed) }
 {
-    let actors = actors_of(alloc, accepted.machines().len(), options.seed)?;
-    let capacity = capacity_of(options.ring, accepted.room());
-    match run_inline(alloc, accepted, actors, capacity, options.limit) {
-        Ok(ran) => {
-            let Ran { run, closed } = ran;
-            let Run { outcome, .. } = run;
-            Ok(AnswerWithSession {
-                answer: outcome_answer(alloc, names, outcome)?,
-                closed: Some(closed),
-            })
-        }
-        Err(
-            ExecFault::Full {
-                sender,
-                receiver,
-                sent,
-                taken,
-            },
-        ) => AnswerWithSession::alone(full_answer(alloc, names, sender, receiver, sent, taken)),
-        Err(ExecFault::NoMemory) => Err(NoMemory),
+    let Ran { run, closed } = ran;
+    let Run { outcome, .. } = run;
+    Ok(AnswerWithSession {
+        answer: outcome_answer(alloc, names, outcome)?,
+        closed: Some(closed),
+    })
+}
+
+/// How many messages each ring holds; as the error where that is fewer than the room.
+pub(crate) fn capacity_for(ring: Option<Capacity>, room: u64) -> Result<Capacity, Capacity>
+    requires { 1 ≤ room }
+    ensures ok { IfOk result (λ capacity. (capacity ≡ spec.capacity_of ring room) × (room ≤ capacity)) }
+    ensures err { IfErr result (λ capacity. (capacity ≡ spec.capacity_of ring room) × (capacity < room)) }
+{
+    let capacity = capacity_of(ring, room);
+    if u64::from(capacity.messages()) < room {
+        Err(capacity)
+    } else {
+        Ok(capacity)
     }
 }
 
-/// What `run` answers to a document: the first reason to refuse it, else how the run of its session ended. The session is
-/// handed out where all roles have ended or one was stopped.
-pub fn run(
-    alloc: Global,
-    document: &Document,
-    options: RunOptions,
-) -> Result<AnswerWithSession, NoMemory>
-    requires ready { DocumentIsReady document.now }
-    requires roles { length document.now.names.roles ≡ document.now.protocol.roles }
-    requires bound { IsSearchBound options.bound }
-    requires ring { IfSome options.ring (IsFromTo 1 MOST_CAPACITY) }
-    ensures answer { IfOk result (λ a. Runs options document.now a.answer) }
-    ensures closed { IfOk result (λ a. IsThereWhere (HasCome a.answer.verdict) (WasRunOf options document.now a.answer) a.closed) }
+/// How many messages each ring holds; as the error where that is fewer than the room, and several workers are to run the
+/// session.
+fn capacity_by(workers: Workers, ring: Option<Capacity>, room: u64) -> Result<Capacity, Capacity>
+    requires { 1 ≤ room }
+    ensures ok { IfOk result (λ capacity. (capacity ≡ spec.capacity_of ring room) × ((crew : ℕ) → workers ≡ Workers.Several crew → room ≤ capacity)) }
+    ensures err { IfErr result (λ capacity. (capacity ≡ spec.capacity_of ring room) × (capacity < room)) }
+    ensures several { OnErr result ((crew : ℕ) × (workers ≡ Workers.Several crew)) }
 {
-    let names = &document.names;
-    let DerivedSession {
-        projections,
-        machines,
-        derivations,
-    } = match derived_session(alloc, document, options.bound) {
-        Ok(session) => session,
-        Err(refusal) => return AnswerWithSession::alone(refusal_answer(alloc, names, refusal)),
+    match workers {
+        Workers::One => Ok(capacity_of(ring, room)),
+        Workers::Several(_) => capacity_for(ring, room),
+    }
+}
+
+/// What `run` makes of a document: the first reason to refuse it; where several workers are to run it, that the rings hold
+/// fewer messages than the room of its session; else its session, ready to be run.
+pub fn ready_run(
+    alloc: Global,
+    document: Document,
+    options: RunOptions,
+    workers: Workers,
+) -> Result<Prepared, NoMemory>
+    requires ready { DocumentIsReady document }
+    ensures { IfOk result (λ p. Warrants workers p (GivesRun workers options document)) }
+{
+    let AcceptedDocument { names, session } = match accept_document(
+        alloc,
+        document,
+        options.bound,
+    ) {
+        Ok(accepted) => accepted,
+        Err(refused) => return Prepared::answered(refused.answer(alloc)),
     };
-    let accepted = accept_derived(
-        &document.protocol,
-        projections.as_slice(),
-        machines,
-        derivations.as_slice(),
-    );
-    run_accepted(alloc, names, &accepted, options)
+    let room = session.room();
+    let capacity = match capacity_by(workers, options.ring, room) {
+        Ok(capacity) => capacity,
+        Err(capacity) => return Prepared::answered(too_small(alloc, capacity.messages(), room)),
+    };
+    let actors = actors_of(alloc, session.machines().len(), options.seed)?;
+    Ok(Prepared::Run(Ready {
+        names,
+        session,
+        actors,
+        capacity,
+        limit: options.limit,
+    }))
 }

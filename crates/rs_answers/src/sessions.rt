@@ -17,7 +17,7 @@ use std::alloc::Global;
 
 /// The session of a document: a projection and a machine for each role, in role order.
 #[derive(Drop)]
-pub struct Session {
+pub struct ProjectedSession {
     pub projections: Vec<Projection>,
     pub machines: Vec<Machine>,
 }
@@ -26,7 +26,7 @@ pub struct Session {
 /// there is none.
 pub fn projections_of(alloc: Global, protocol: &Protocol) -> Result<Vec<Projection>, ProjFault>
     requires well_formed { IsWellFormed protocol.now }
-    requires few { length protocol.now.nodes < 2 ^ 32 }
+    requires bounded { length protocol.now.nodes < 2 ^ 32 }
     ensures ok { IfOk result (λ projections. AreNumberedProjections protocol.now projections.items) }
     ensures err { IfErr result (λ e. (e ≡ ProjFault.NoMemory) ⊎ Refuses protocol.now e) }
 {
@@ -85,7 +85,7 @@ pub fn first_refusal(machines: &[Machine], roles: u8) -> Option<(Role, MachineFa
 }
 
 /// The session of the document; or the first reason why it has none.
-pub fn session_of(alloc: Global, document: &Document) -> Result<Session, Refusal>
+pub fn session_of(alloc: Global, document: &Document) -> Result<ProjectedSession, Refusal>
     requires { DocumentIsReady document.now }
     ensures ok { IfOk result (λ s. HasMachines document.now s.projections.items s.machines.items) }
     ensures err { IfErr result (λ r. (r ≡ Refusal.NoMemory) ⊎ HasNoSession document.now r) }
@@ -96,7 +96,7 @@ pub fn session_of(alloc: Global, document: &Document) -> Result<Session, Refusal
     let machines = machines_of(alloc, document.machines.as_slice(), projections.as_slice())?;
     match first_refusal(machines.as_slice(), protocol.roles) {
         Some((role, fault)) => Err(Refusal::IllMachine { role, fault }),
-        None => Ok(Session {
+        None => Ok(ProjectedSession {
             projections,
             machines,
         }),

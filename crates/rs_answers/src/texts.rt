@@ -1,7 +1,7 @@
 //! Texts that are put together of pieces.
 
 ghost use Rattle.std.specs.Prelude.{◌≡◌, ◌++◌, IfOk, OnOk};
-ghost use Rattle.rs_answers.specs.Texts.{bytes_of, text_of};
+ghost use Rattle.rs_answers.specs.Texts.{piece_bytes, pieces_text};
 
 use rs_model::NoMemory;
 use rs_text::Text;
@@ -15,7 +15,7 @@ pub enum Piece<'a> {
 }
 
 fn push_piece(text: &mut Text, piece: Piece) -> Result<(), NoMemory>
-    ensures { OnOk result (text.new ≡ text.old ++ bytes_of piece.entry) }
+    ensures { OnOk result (text.new ≡ text.old ++ piece_bytes piece.entry) }
 {
     match piece {
         Piece::Words(words) => text.push(words),
@@ -25,7 +25,7 @@ fn push_piece(text: &mut Text, piece: Piece) -> Result<(), NoMemory>
 
 /// Appends the pieces, one behind the other.
 pub fn push_pieces(text: &mut Text, pieces: &[Piece]) -> Result<(), NoMemory>
-    ensures { OnOk result (text.new ≡ text.old ++ text_of pieces.now) }
+    ensures { OnOk result (text.new ≡ text.old ++ pieces_text pieces.now) }
 {
     for piece in pieces {
         push_piece(text, *piece)?;
@@ -35,7 +35,7 @@ pub fn push_pieces(text: &mut Text, pieces: &[Piece]) -> Result<(), NoMemory>
 
 /// The pieces, one behind the other.
 pub fn text_of(alloc: Global, pieces: &[Piece]) -> Result<Text, NoMemory>
-    ensures { IfOk result (λ text. text ≡ text_of pieces.now) }
+    ensures { IfOk result (λ text. text ≡ pieces_text pieces.now) }
 {
     let mut text = Text::new(alloc);
     push_pieces(&mut text, pieces)?;

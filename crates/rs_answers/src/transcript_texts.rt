@@ -59,7 +59,7 @@ fn push_behind_commas(alloc: Global, text: &mut Text, numbers: &[i64]) -> Result
 }
 
 fn push_numbers(alloc: Global, text: &mut Text, numbers: &[i64]) -> Result<(), NoMemory>
-    ensures { OnOk result (text.new ≡ text.old ++ spec.numbers_text numbers.now) }
+    ensures { OnOk result (text.new ≡ text.old ++ spec.integers_text numbers.now) }
 {
     let [number, numbers @ ..] = numbers else {
         return Ok(());

@@ -12,7 +12,7 @@ use crate::answers::Answer;
 use crate::refusal_texts::blame_answer;
 use crate::refusals::refusal_answer;
 use crate::report::report;
-use crate::sessions::{Session, session_of};
+use crate::sessions::{ProjectedSession, session_of};
 use rs_derive::{Derivation, DeriveFault, check};
 use rs_documents::Document;
 use rs_model::{Machine, NoMemory, Role};
@@ -49,7 +49,7 @@ fn first_blame(
     machines: &[Machine],
     projections: &[Projection],
 ) -> Option<(Role, Blame)>
-    requires few { first + length own.now ≤ MOST_ROLES }
+    requires bounded { first + length own.now ≤ MOST_ROLES }
     requires checkable { AreCheckable own.now machines.now projections.now }
     ensures some { IfSome result (λ r. spec.first_blame first own.now machines.now projections.now ≡ Some (record { role = r.0; blame = r.1 })) }
     ensures none { IfNone result (spec.first_blame first own.now machines.now projections.now ≡ None) }
@@ -93,10 +93,9 @@ fn those_there(alloc: Global, own: Vec<Option<Derivation>>) -> Result<Vec<Deriva
 /// for their projections, else the report of its session, with the figures of these derivations.
 pub fn verify(alloc: Global, document: Document) -> Result<Answer, NoMemory>
     requires ready { DocumentIsReady document }
-    requires roles { length document.names.roles ≡ document.protocol.roles }
     ensures { IfOk result (Verifies document) }
 {
-    let Session {
+    let ProjectedSession {
         projections,
         machines,
     } = match session_of(alloc, &document) {
@@ -117,12 +116,7 @@ pub fn verify(alloc: Global, document: Document) -> Result<Answer, NoMemory>
         ..
     } = document;
     let derivations = those_there(alloc, derivations)?;
-    match accept(
-        &protocol,
-        projections.as_slice(),
-        machines,
-        derivations.as_slice(),
-    ) {
+    match accept(protocol, projections, machines, derivations) {
         Ok(accepted) => report(alloc, names.roles.as_slice(), accepted.derivations()),
         Err(refused) => blame_answer(alloc, &names, refused.role, Blame::Fault(refused.cause)),
     }

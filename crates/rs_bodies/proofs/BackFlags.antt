@@ -1,5 +1,6 @@
 -- The flags tell which places are gone back to.
-use Rattle.std.proofs.Common.{◌≡◌, ◌⊎◌, ℕ, zero, suc, ◌+◌, ◌<◌, ◌≤◌, List, [], ◌∷◌, length, drop, Bool, true, false, ◌&&◌, Some, get_or, set, slice_get, slice_set, replicate, nat_le, nat_lt, if◌then◌else◌, refl, sym, ◌∙◌, subst, inl, inr, arith}
+use Rattle.std.proofs.Common.{◌≡◌, ◌⊎◌, ℕ, zero, suc, ◌+◌, ◌<◌, ◌≤◌, List, [], ◌∷◌, length, drop, Bool, true, false, ◌&&◌, Some, get_or, set, slice_get, slice_set, replicate, nat_le, nat_lt}
+use Rattle.std.proofs.Common.{if◌then◌else◌, refl, sym, ◌∙◌, subst, inl, inr, arith}
 use Rattle.std.proofs.lemmas.Bool.Decides.{eqb_tells, leb_tells}
 use Rattle.std.proofs.lemmas.List.{get_or-set_same, get_or-set_other, length-replicate, length-set}
 use Rattle.std.proofs.lemmas.Option.{slice_get_within}
@@ -73,10 +74,12 @@ later_head x rest all k h = subst (λ j. slice_get all j ≡ Some x) (omega arit
 leads_back : (p : List Place) (number index : ℕ) (h : Head) (all : List Arm) (a : Arm) → slice_get p number ≡ Some (choice h all) → slice_get all index ≡ Some a → Leads p number a
 leads_back p number index h all a stands holds later = record { number = number; behind = later; head = h; arms = all; stands = stands; index = index; arm = a; holds = holds; leads = refl }
 
-arms_sound : (arms : List Arm) (p : List Place) (number k : ℕ) (h : Head) (all : List Arm) (flags : List Bool) → slice_get p number ≡ Some (choice h all) → Later arms all k → AreSound p flags → AreSound p (flags_behind_arms number arms flags)
+arms_sound : (arms : List Arm) (p : List Place) (number k : ℕ) (h : Head) (all : List Arm) (flags : List Bool) → slice_get p number ≡ Some (choice h all) → Later arms all k → AreSound p flags
+    → AreSound p (flags_behind_arms number arms flags)
 arms_sound [] p number k h all flags stands later sound = sound
 arms_sound (a ∷ arms) p number k h all flags stands later sound =
-    arms_sound arms p number (k + 1) h all (one_marked number a flags) stands (later_tail a arms all k later) (one_sound p number a flags (leads_back p number k h all a stands (later_head a arms all k later)) sound)
+    arms_sound arms p number (k + 1) h all (one_marked number a flags) stands (later_tail a arms all k later)
+    (one_sound p number a flags (leads_back p number k h all a stands (later_head a arms all k later)) sound)
 
 same_later : {X : Type 0} → (xs : List X) → Later xs xs 0
 same_later xs i x e = subst (λ j. slice_get xs j ≡ Some x) (omega arith) e
@@ -109,10 +112,12 @@ arms_keep : (arms : List Arm) (number : ℕ) (flags : List Bool) (n : ℕ) → g
 arms_keep [] number flags n h = h
 arms_keep (a ∷ arms) number flags n h = arms_keep arms number (one_marked number a flags) n (one_keeps number a flags n h)
 
-arms_mark : (arms : List Arm) (index number : ℕ) (flags : List Bool) (a : Arm) → slice_get arms index ≡ Some a → a.next ≤ number → a.next < length flags → get_or (flags_behind_arms number arms flags) a.next false ≡ true
+arms_mark : (arms : List Arm) (index number : ℕ) (flags : List Bool) (a : Arm) → slice_get arms index ≡ Some a → a.next ≤ number → a.next < length flags
+    → get_or (flags_behind_arms number arms flags) a.next false ≡ true
 arms_mark [] index number flags a h later within = absurd (cc h)
 arms_mark (b ∷ arms) zero number flags a h later within =
-    arms_keep arms number (one_marked number b flags) a.next (subst (λ (x : Arm). get_or (one_marked number b flags) x.next false ≡ true) (some_is b a h) (one_marks number b flags (rw (some_is b a h) later) (rw (some_is b a h) within)))
+    arms_keep arms number (one_marked number b flags) a.next
+    (subst (λ (x : Arm). get_or (one_marked number b flags) x.next false ≡ true) (some_is b a h) (one_marks number b flags (rw (some_is b a h) later) (rw (some_is b a h) within)))
 arms_mark (b ∷ arms) (suc index) number flags a h later within = arms_mark arms index number (one_marked number b flags) a h later (rw (one_length number b flags) within)
 
 place_length : (x : Place) (n : ℕ) (flags : List Bool) → length (marked_place n x flags) ≡ length flags
@@ -127,7 +132,8 @@ all_keep : (places : List Place) (k : ℕ) (flags : List Bool) (n : ℕ) → get
 all_keep [] k flags n h = h
 all_keep (x ∷ places) k flags n h = all_keep places (k + 1) (marked_place k x flags) n (place_keeps x k flags n h)
 
-all_mark : (places : List Place) (i k : ℕ) (flags : List Bool) (h : Head) (arms : List Arm) (index : ℕ) (a : Arm) → slice_get places i ≡ Some (choice h arms) → slice_get arms index ≡ Some a → a.next ≤ k + i → a.next < length flags → get_or (flags_behind_places k places flags) a.next false ≡ true
+all_mark : (places : List Place) (i k : ℕ) (flags : List Bool) (h : Head) (arms : List Arm) (index : ℕ) (a : Arm) → slice_get places i ≡ Some (choice h arms) → slice_get arms index ≡ Some a
+    → a.next ≤ k + i → a.next < length flags → get_or (flags_behind_places k places flags) a.next false ≡ true
 all_mark [] i k flags h arms index a stands holds later within = absurd (cc stands)
 all_mark (x ∷ places) zero k flags h arms index a stands holds later within =
     all_keep places (k + 1) (marked_place k x flags) a.next (rw (some_is x (choice h arms) stands) (arms_mark arms index k flags a holds (omega arith) within))
@@ -160,13 +166,15 @@ flags_are_back p flags e n = rw e (back_is p n, is_back p n)
 
 -- ---- place by place
 
-marked_in : (places : List Place) (n k : ℕ) (flags : List Bool) → flags_behind_places (k + 1) (drop (suc n) places) (flags_behind_place k (slice_get places n) flags) ≡ flags_behind_places k (drop n places) flags
+marked_in : (places : List Place) (n k : ℕ) (flags : List Bool) → flags_behind_places (k + 1) (drop (suc n) places)
+    (flags_behind_place k (slice_get places n) flags) ≡ flags_behind_places k (drop n places) flags
 marked_in [] zero k flags = refl
 marked_in [] (suc n) k flags = refl
 marked_in (x ∷ places) zero k flags = refl
 marked_in (x ∷ places) (suc n) k flags = marked_in places n k flags
 
-pub marked_on : (places : List Place) (n : ℕ) (flags : List Bool) → flags_behind_places (n + 1) (drop (n + 1) places) (flags_behind_place n (slice_get places n) flags) ≡ flags_behind_places n (drop n places) flags
+pub marked_on : (places : List Place) (n : ℕ) (flags : List Bool) → flags_behind_places (n + 1) (drop (n + 1) places)
+    (flags_behind_place n (slice_get places n) flags) ≡ flags_behind_places n (drop n places) flags
 marked_on places n flags =
     let next : suc n ≡ n + 1 = omega arith in
     subst (λ j. flags_behind_places (n + 1) (drop j places) (flags_behind_place n (slice_get places n) flags) ≡ flags_behind_places n (drop n places) flags) next (marked_in places n n flags)

@@ -14,7 +14,8 @@ use Rattle.rs_bodies.specs.Places.{choice, end_of}
 abbrev pub EndIsLast : List Place → Type 0
 EndIsLast p = (n m : ℕ) (h : Head) (arms : List Arm) → slice_get p n ≡ Some place.End → slice_get p m ≡ Some (choice h arms) → m < n
 
-pub last_in : (points : List Point_data) (end : Bool) (n m : ℕ) (h : Head) (arms : List Arm) → slice_get (map place.Point points ++ end_of end) n ≡ Some place.End → slice_get (map place.Point points ++ end_of end) m ≡ Some (choice h arms) → m < n
+pub last_in : (points : List Point_data) (end : Bool) (n m : ℕ) (h : Head) (arms : List Arm) → slice_get (map place.Point points ++ end_of end) n ≡ Some place.End
+    → slice_get (map place.Point points ++ end_of end) m ≡ Some (choice h arms) → m < n
 last_in [] false n m h arms e k = absurd (cc e)
 last_in [] true n zero h arms e k = absurd (cc (some_is place.End (choice h arms) k))
 last_in [] true n (suc m) h arms e k = absurd (cc k)

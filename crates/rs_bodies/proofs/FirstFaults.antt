@@ -27,7 +27,8 @@ use Rattle.rs_bodies.specs.Cuts.{OpeningCut, at_roles, at_first, behind_first, a
 use Rattle.rs_bodies.specs.Openings.{opening_signs}
 use Rattle.rs_bodies.specs.Spells.{tree_signs}
 use Rattle.rs_bodies.specs.Trees.{body_signs}
-use Rattle.rs_bodies.specs.Cuts.{Cut, at_body, behind_end, behind_name, behind_rec, behind_rec_name, in_binds, in_turn, in_arm, in_acts, in_offers, behind_brace, BranchCut, in_head, in_branch, later, PartCut, in_opening, in_body, cut_signs, branch_cut_signs, part_cut_signs, wanted_at, wanted_in, wanted_of, IsBehind}
+use Rattle.rs_bodies.specs.Cuts.{Cut, at_body, behind_end, behind_name, behind_rec, behind_rec_name, in_binds, in_turn, in_arm, in_acts, in_offers, behind_brace, BranchCut, in_head, in_branch, later}
+use Rattle.rs_bodies.specs.Cuts.{PartCut, in_opening, in_body, cut_signs, branch_cut_signs, part_cut_signs, wanted_at, wanted_in, wanted_of, IsBehind}
 use Rattle.rs_bodies.specs.Scenes.{Scene}
 use Rattle.rs_bodies.specs.Misplaced.{fault_by, fault_of}
 use Rattle.rs_bodies.specs.Faults.{Begins, IsInPart, EndsByName, IsInReach, FaultAt}
@@ -46,8 +47,10 @@ use Rattle.rs_text.proofs.Arms.{arm_not}
 abbrev pub There : (dia : Dialect) → List Sign → Type 0
 There dia xs = (c : PartCut dia) × (part_cut_signs dia c ≡ xs)
 
-pub agree : (dia : Dialect) (old : Names_data) (xs : List Sign) (u : Sign) (r : Reader_data) → Reached (feeding dia) (start_of_part dia old) xs u r → (c : PartCut dia) → part_cut_signs dia c ≡ xs → PlaceAgrees dia old c u r
-agree dia old xs u r reach c e = reach NotExpected (λ d. PlaceAgrees dia old c u d) (subst (λ (z : List Sign). Leads (feeding dia) z u (λ d. PlaceAgrees dia old c u d) (start_of_part dia old)) e (place_passes dia old c u))
+pub agree : (dia : Dialect) (old : Names_data) (xs : List Sign) (u : Sign) (r : Reader_data) → Reached (feeding dia) (start_of_part dia old) xs u r → (c : PartCut dia) → part_cut_signs dia c ≡ xs
+    → PlaceAgrees dia old c u r
+agree dia old xs u r reach c e =
+    reach NotExpected (λ d. PlaceAgrees dia old c u d) (subst (λ (z : List Sign). Leads (feeding dia) z u (λ d. PlaceAgrees dia old c u d) (start_of_part dia old)) e (place_passes dia old c u))
 
 pub begins_there : (dia : Dialect) (xs : List Sign) → There dia xs → Begins dia xs
 begins_there dia xs there = subst (λ (z : List Sign). Begins dia z) there.1 (place_begins dia there.0)
@@ -122,7 +125,8 @@ turn_no_body Talks (behind_receiver r) h = cc
 turn_no_body Acts t h = elim t [ ]
 
 mutual
-  word_stands : (dia : Dialect) (c : Cut dia) (w : Wanted) (word : List ℕ) → (w ≡ wanted.Body → ⊥) → wanted_at dia c w ≡ wanted.Body → (d : Cut dia) × (cut_signs dia d ≡ cut_signs dia c ++ plain word ∷ []) × (is_named dia d ≡ true)
+  word_stands : (dia : Dialect) (c : Cut dia) (w : Wanted) (word : List ℕ) → (w ≡ wanted.Body → ⊥) → wanted_at dia c w ≡ wanted.Body
+      → (d : Cut dia) × (cut_signs dia d ≡ cut_signs dia c ++ plain word ∷ []) × (is_named dia d ≡ true)
   word_stands dia at_body w word n h = (behind_name word, refl, refl)
   word_stands dia behind_end w word n h = absurd (n h)
   word_stands dia (behind_name x) w word n h = absurd (n h)
@@ -131,14 +135,36 @@ mutual
   word_stands dia (in_binds x b) w word n h = let z = word_stands dia b w word n h in (in_binds x z.0, ap (λ o. rec_word ∷ plain x ∷ dot ∷ o) z.1, z.2)
   word_stands dia (in_turn x y) w word n h = absurd (turn_no_body dia y h)
   word_stands dia (in_arm x y arm) w word n h = absurd (lone_no_body dia arm h)
-  word_stands dia (in_acts x y l s b) w word n h = let z = word_stands dia b w word n h in (in_acts x y l s z.0, ap (λ o. plain x ∷ (turn_signs dia y ++ (lone_signs dia ++ (arm_signs l s ++ o)))) z.1 ∙ acts_tail dia x y l s (cut_signs dia b) (plain word ∷ []), z.2)
-  word_stands dia (in_offers x y arms) w word n h = let z = word_stands_in dia arms word h in (in_offers x y z.0, ap (λ o. plain x ∷ (turn_signs dia y ++ open_brace ∷ o)) z.1 ∙ offers_tail dia x y (branch_cut_signs dia arms) (plain word ∷ []), z.2)
+  word_stands dia (in_acts x y l s b) w word n h =
+      let z = word_stands dia b w word n h in (
+        in_acts x y l s z.0,
+        ap (λ o. plain x ∷ (turn_signs dia y ++ (lone_signs dia ++ (arm_signs l s ++ o)))) z.1
+            ∙ acts_tail dia x y l s (cut_signs dia b) (plain word ∷ []),
+        z.2,
+      )
+  word_stands dia (in_offers x y arms) w word n h =
+      let z = word_stands_in dia arms word h in (
+        in_offers x y z.0,
+        ap (λ o. plain x ∷ (turn_signs dia y ++ open_brace ∷ o)) z.1
+            ∙ offers_tail dia x y (branch_cut_signs dia arms) (plain word ∷ []),
+        z.2,
+      )
   word_stands dia (behind_brace x y arms) w word n h = absurd (n h)
 
-  word_stands_in : (dia : Dialect) (a : BranchCut dia) (word : List ℕ) → wanted_in dia a ≡ wanted.Body → (d : BranchCut dia) × (branch_cut_signs dia d ≡ branch_cut_signs dia a ++ plain word ∷ []) × (is_named_in dia d ≡ true)
+  word_stands_in : (dia : Dialect) (a : BranchCut dia) (word : List ℕ) → wanted_in dia a ≡ wanted.Body
+      → (d : BranchCut dia) × (branch_cut_signs dia d ≡ branch_cut_signs dia a ++ plain word ∷ []) × (is_named_in dia d ≡ true)
   word_stands_in dia (in_head arm) word h = absurd (arm_not arm wanted.Body refl h)
-  word_stands_in dia (in_branch l s b) word h = let z = word_stands dia b wanted.CommaOrCloseBrace word (λ e. cc) h in (in_branch l s z.0, ap (λ o. arm_signs l s ++ o) z.1 ∙ sym (append_assoc (arm_signs l s) (cut_signs dia b) (plain word ∷ [])), z.2)
-  word_stands_in dia (later l s b arms) word h = let z = word_stands_in dia arms word h in (later l s b z.0, ap (λ o. arm_signs l s ++ (body_signs dia b ++ comma ∷ o)) z.1 ∙ sym (append_assoc (arm_signs l s) (body_signs dia b ++ comma ∷ branch_cut_signs dia arms) (plain word ∷ []) ∙ ap (λ o. arm_signs l s ++ o) (append_assoc (body_signs dia b) (comma ∷ branch_cut_signs dia arms) (plain word ∷ []))), z.2)
+  word_stands_in dia (in_branch l s b) word h =
+      let z = word_stands dia b wanted.CommaOrCloseBrace word
+      (λ e. cc) h in (in_branch l s z.0, ap (λ o. arm_signs l s ++ o) z.1 ∙ sym (append_assoc (arm_signs l s) (cut_signs dia b) (plain word ∷ [])), z.2)
+  word_stands_in dia (later l s b arms) word h =
+      let z = word_stands_in dia arms word h in (
+        later l s b z.0,
+        ap (λ o. arm_signs l s ++ (body_signs dia b ++ comma ∷ o)) z.1
+            ∙ sym (append_assoc (arm_signs l s) (body_signs dia b ++ comma ∷ branch_cut_signs dia arms) (plain word ∷ [])
+            ∙ ap (λ o. arm_signs l s ++ o) (append_assoc (body_signs dia b) (comma ∷ branch_cut_signs dia arms) (plain word ∷ []))),
+        z.2,
+      )
 
 opening_no_body : (dia : Dialect) (o : OpeningCut dia) → opening_wants dia o ≡ wanted.Body → ⊥
 opening_no_body Talks at_roles h = cc
@@ -150,8 +176,11 @@ opening_no_body Acts at_machine h = cc
 opening_no_body Acts at_role h = cc
 opening_no_body Acts (behind_role x) h = cc
 
-word_place : (dia : Dialect) (c : PartCut dia) (word : List ℕ) → place_wants dia c ≡ wanted.Body → (d : PartCut dia) × (part_cut_signs dia d ≡ part_cut_signs dia c ++ plain word ∷ []) × (is_named_of dia d ≡ true)
-word_place dia (in_body x body) word h = let z = word_stands dia body wanted.PartOrEnd word (λ e. cc) h in (in_body x z.0, ap (λ o. opening_signs dia x ++ o) z.1 ∙ sym (append_assoc (opening_signs dia x) (cut_signs dia body) (plain word ∷ [])), z.2)
+word_place : (dia : Dialect) (c : PartCut dia) (word : List ℕ) → place_wants dia c ≡ wanted.Body
+    → (d : PartCut dia) × (part_cut_signs dia d ≡ part_cut_signs dia c ++ plain word ∷ []) × (is_named_of dia d ≡ true)
+word_place dia (in_body x body) word h =
+    let z = word_stands dia body wanted.PartOrEnd word
+    (λ e. cc) h in (in_body x z.0, ap (λ o. opening_signs dia x ++ o) z.1 ∙ sym (append_assoc (opening_signs dia x) (cut_signs dia body) (plain word ∷ [])), z.2)
 word_place dia (in_opening o) word h = absurd (opening_no_body dia o h)
 
 -- what the fault at a place says
@@ -211,7 +240,8 @@ place_says dia (in_body x body) = says dia body wanted.PartOrEnd refl
 -- ---- one token
 
 -- a token that is taken, and that breaks no rule of names or limits, is not at fault
-clear_of : (dia : Dialect) (old : Names_data) (xs : List Sign) (t u : Sign) (r : Reader_data) → Reached (feeding dia) (start_of_part dia old) xs t r → There dia (xs ++ t ∷ []) → IsWhole t → fault_seen dia r.mode t u r ≡ None → IsClear (FaultAt dia old) xs t u
+clear_of : (dia : Dialect) (old : Names_data) (xs : List Sign) (t u : Sign) (r : Reader_data) → Reached (feeding dia) (start_of_part dia old) xs t r → There dia (xs ++ t ∷ []) → IsWhole t
+    → fault_seen dia r.mode t u r ≡ None → IsClear (FaultAt dia old) xs t u
 clear_of dia old xs t u r reach there whole seen k f = elim f [
   | inl x ↦ x.2.stops (begins_there dia (xs ++ t ∷ []) there)
   | inr (inl m) ↦ absurd (cc (sym m.fault ∙ (agree dia old xs t r reach m.place m.stands).faults t u ∙ seen))
@@ -243,14 +273,18 @@ no_landing dia (Err e) w seen t at n Q s h l = elim s [
 ]
 
 -- with an unexpected token the tokens begin no part
-stops_there : (dia : Dialect) (old : Names_data) (xs : List Sign) (t : Sign) (r : Reader_data) (w : Wanted) (seen : Sign → Option TextKind) → Reached (feeding dia) (start_of_part dia old) xs t r → IsWhole t → takes w t ≡ false → ((n : Lexeme) → Steps dia w (seen n.sign) t 0 n (feed_at dia r.mode t 0 n r)) → Begins dia (xs ++ t ∷ []) → ⊥
+stops_there : (dia : Dialect) (old : Names_data) (xs : List Sign) (t : Sign) (r : Reader_data) (w : Wanted) (seen : Sign → Option TextKind) → Reached (feeding dia) (start_of_part dia old) xs t r
+    → IsWhole t → takes w t ≡ false → ((n : Lexeme) → Steps dia w (seen n.sign) t 0 n (feed_at dia r.mode t 0 n r)) → Begins dia (xs ++ t ∷ []) → ⊥
 stops_there dia old xs t r w seen reach whole h s b =
     let rest : List Sign = b.1 in
     let e : tree_signs dia b.0 ≡ xs ++ (t ∷ rest) = b.2 ∙ append_assoc xs (t ∷ []) rest in
-    let l : Leads (feeding dia) (xs ++ (t ∷ rest)) finish (λ d. Unit {0}) (start_of_part dia old) = subst (λ (z : List Sign). Leads (feeding dia) z finish (λ d. Unit {0}) (start_of_part dia old)) e (tree_passes dia old b.0) in
-    let k : Leads (feeding dia) (t ∷ rest) finish (λ d. Unit {0}) r = reach NotExpected (λ d. Leads (feeding dia) (t ∷ rest) finish (λ d. Unit {0}) d) (leads_split (feeding dia) NotExpected xs (t ∷ rest) finish (λ d. Unit {0}) (start_of_part dia old) l) in
+    let l : Leads (feeding dia) (xs ++ (t ∷ rest)) finish (λ d. Unit {0}) (start_of_part dia old)
+    = subst (λ (z : List Sign). Leads (feeding dia) z finish (λ d. Unit {0}) (start_of_part dia old)) e (tree_passes dia old b.0) in
+    let k : Leads (feeding dia) (t ∷ rest) finish (λ d. Unit {0}) r
+    = reach NotExpected (λ d. Leads (feeding dia) (t ∷ rest) finish (λ d. Unit {0}) d) (leads_split (feeding dia) NotExpected xs (t ∷ rest) finish (λ d. Unit {0}) (start_of_part dia old) l) in
     let n : Lexeme = lexeme (sign_behind rest finish) 0 0 in
-    no_landing dia (feed_at dia r.mode t 0 n r) w (seen n.sign) t 0 n (λ d. Leads (feeding dia) rest finish (λ d. Unit {0}) d) (s n) h (subst (λ (x : Fed). Lands x (λ d. Leads (feeding dia) rest finish (λ d. Unit {0}) d)) (whole_fed dia t 0 n r whole) (k 0 0 0))
+    no_landing dia (feed_at dia r.mode t 0 n r) w (seen n.sign) t 0 n (λ d. Leads (feeding dia) rest finish (λ d. Unit {0}) d) (s n) h
+    (subst (λ (x : Fed). Lands x (λ d. Leads (feeding dia) rest finish (λ d. Unit {0}) d)) (whole_fed dia t 0 n r whole) (k 0 0 0))
 
 -- the reader isn't behind the part
 arms_no_part : (dia : Dialect) → wanted_behind_head dia ≡ wanted.PartOrEnd → ⊥
@@ -265,8 +299,10 @@ not_part dia mode.Next (f ∷ fs) a u h = cc
 not_part dia (mode.InMessage act place.Label) fs a u h = cc
 not_part dia _ fs a u h = cc
 
-here_unexpected : (dia : Dialect) (old : Names_data) (xs : List Sign) (t : Sign) (at : ℕ) (u : Sign) (r : Reader_data) (e : TextFault) → Reached (feeding dia) (start_of_part dia old) xs t r → (there : There dia xs) → IsWhole t → (wanted_by dia r.mode r.frames ≡ wanted.PartOrEnd → ⊥)
-    → ((n : Lexeme) → Steps dia (wanted_by dia r.mode r.frames) (fault_seen dia r.mode t n.sign r) t 0 n (feed_at dia r.mode t 0 n r)) → ToldUnexpected dia (wanted_by dia r.mode r.frames) (fault_seen dia r.mode t u r) t at e → Here (FaultAt dia old) xs t at u e
+here_unexpected : (dia : Dialect) (old : Names_data) (xs : List Sign) (t : Sign) (at : ℕ) (u : Sign) (r : Reader_data) (e : TextFault) → Reached (feeding dia) (start_of_part dia old) xs t r
+    → (there : There dia xs) → IsWhole t → (wanted_by dia r.mode r.frames ≡ wanted.PartOrEnd → ⊥)
+    → ((n : Lexeme) → Steps dia (wanted_by dia r.mode r.frames) (fault_seen dia r.mode t n.sign r) t 0 n (feed_at dia r.mode t 0 n r))
+    → ToldUnexpected dia (wanted_by dia r.mode r.frames) (fault_seen dia r.mode t u r) t at e → Here (FaultAt dia old) xs t at u e
 here_unexpected dia old xs t at u r e reach there whole part s x =
     let a : PlaceAgrees dia old there.0 t r = agree dia old xs t r reach there.0 there.1 in
     record {
@@ -290,7 +326,8 @@ here_unexpected dia old xs t at u r e reach there whole part s x =
       ];
     }
 
-here_misplaced : (dia : Dialect) (old : Names_data) (xs : List Sign) (t : Sign) (at : ℕ) (u : Sign) (r : Reader_data) (e : TextFault) → Reached (feeding dia) (start_of_part dia old) xs t r → (there : There dia xs) → There dia (xs ++ t ∷ []) → IsWhole t → e.at ≡ at → fault_seen dia r.mode t u r ≡ Some e.kind → Here (FaultAt dia old) xs t at u e
+here_misplaced : (dia : Dialect) (old : Names_data) (xs : List Sign) (t : Sign) (at : ℕ) (u : Sign) (r : Reader_data) (e : TextFault) → Reached (feeding dia) (start_of_part dia old) xs t r
+    → (there : There dia xs) → There dia (xs ++ t ∷ []) → IsWhole t → e.at ≡ at → fault_seen dia r.mode t u r ≡ Some e.kind → Here (FaultAt dia old) xs t at u e
 here_misplaced dia old xs t at u r e reach there on whole at_is seen =
     let a : PlaceAgrees dia old there.0 t r = agree dia old xs t r reach there.0 there.1 in
     record {
@@ -303,8 +340,10 @@ here_misplaced dia old xs t at u r e reach there on whole at_is seen =
       ];
     }
 
-on_steps : (dia : Dialect) (old : Names_data) (x : Fed) (xs : List Sign) (t : Sign) (at : ℕ) (n : Lexeme) (r : Reader_data) → Reached (feeding dia) (start_of_part dia old) xs t r → (there : There dia xs) → IsProper t → IsWhole t → (wanted_by dia r.mode r.frames ≡ wanted.PartOrEnd → ⊥)
-    → ((n : Lexeme) → Steps dia (wanted_by dia r.mode r.frames) (fault_seen dia r.mode t n.sign r) t 0 n (feed_at dia r.mode t 0 n r)) → Steps dia (wanted_by dia r.mode r.frames) (fault_seen dia r.mode t n.sign r) t at n x → Verdict dia old r xs t at n x
+on_steps : (dia : Dialect) (old : Names_data) (x : Fed) (xs : List Sign) (t : Sign) (at : ℕ) (n : Lexeme) (r : Reader_data) → Reached (feeding dia) (start_of_part dia old) xs t r
+    → (there : There dia xs) → IsProper t → IsWhole t → (wanted_by dia r.mode r.frames ≡ wanted.PartOrEnd → ⊥)
+    → ((n : Lexeme) → Steps dia (wanted_by dia r.mode r.frames) (fault_seen dia r.mode t n.sign r) t 0 n (feed_at dia r.mode t 0 n r))
+    → Steps dia (wanted_by dia r.mode r.frames) (fault_seen dia r.mode t n.sign r) t at n x → Verdict dia old r xs t at n x
 on_steps dia old (Ok d) xs t at n r reach there proper whole part all s =
     let a : PlaceAgrees dia old there.0 t r = agree dia old xs t r reach there.0 there.1 in
     let on : There dia (xs ++ t ∷ []) = grows_there dia xs t there.0 there.1 (place_grows dia there.0 t proper (ap (λ z. takes z t) (sym a.wanted) ∙ s.0)) in
@@ -313,11 +352,23 @@ on_steps dia old (Err e) xs t at n r reach there proper whole part all s =
     let a : PlaceAgrees dia old there.0 t r = agree dia old xs t r reach there.0 there.1 in
     elim s [
       | inl x ↦ inl (here_unexpected dia old xs t at n.sign r e reach there whole part all x)
-      | inr (inl m) ↦ inl (here_misplaced dia old xs t at n.sign r e reach there (grows_there dia xs t there.0 there.1 (place_grows dia there.0 t proper (ap (λ z. takes z t) (sym a.wanted) ∙ m.taken))) whole m.at_is m.fault)
+      | inr (inl m) ↦ inl (here_misplaced dia old xs t at n.sign r e reach there
+          (grows_there dia xs t there.0 there.1 (place_grows dia there.0 t proper (ap (λ z. takes z t) (sym a.wanted) ∙ m.taken))) whole m.at_is m.fault)
       | inr (inr b) ↦ (
           let w = word_place dia there.0 b.text (sym a.wanted ∙ b.body) in
           let signs : part_cut_signs dia w.0 ≡ xs ++ t ∷ [] = w.1 ∙ ap (λ z. z ++ plain b.text ∷ []) there.1 ∙ ap (λ z. xs ++ z ∷ []) (sym b.word) in
-          inr (record { kind = b.kind; broken_is = b.broken_is; kind_is = b.kind_is; at_is = b.at_is; clear = clear_of dia old xs t n.sign r reach (w.0, signs) whole b.clear; place = w.0; stands = signs; reached = named_reach dia w.0 w.2; wants = b.body }))
+          inr (record {
+            kind = b.kind;
+            broken_is = b.broken_is;
+            kind_is = b.kind_is;
+            at_is = b.at_is;
+            clear = clear_of dia old xs t n.sign r reach
+                (w.0, signs) whole b.clear;
+            place = w.0;
+            stands = signs;
+            reached = named_reach dia w.0 w.2;
+            wants = b.body;
+          }))
     ]
 
 -- ---- at a mark that was seen
@@ -334,22 +385,26 @@ mark_unseen : (dia : Dialect) (m : Mode) (t u : Sign) (r : Reader_data) → IsMa
 mark_unseen dia (mode.AtTurn from s) t u r a = refl
 mark_unseen dia _ t u r a = absurd a
 
-marked_verdict : (dia : Dialect) (old : Names_data) (r : Reader_data) (c : Bool) (xs : List Sign) (t : Sign) (at : ℕ) (n : Lexeme) (e : TextFault) (d : Reader_data) → c ≡ false → There dia (xs ++ t ∷ []) → IsClear (FaultAt dia old) xs t n.sign → Verdict dia old r xs t at n (if c then Err e else Ok d)
+marked_verdict : (dia : Dialect) (old : Names_data) (r : Reader_data) (c : Bool) (xs : List Sign) (t : Sign) (at : ℕ) (n : Lexeme) (e : TextFault) (d : Reader_data) → c ≡ false
+    → There dia (xs ++ t ∷ []) → IsClear (FaultAt dia old) xs t n.sign → Verdict dia old r xs t at n (if c then Err e else Ok d)
 marked_verdict dia old r true xs t at n e d h on clear = absurd (cc h)
 marked_verdict dia old r false xs t at n e d h on clear = (on, clear)
 
-turn_verdict : (dia : Dialect) (old : Names_data) (q : Reader_data) (from : Link) (p : Role) (xs : List Sign) (u : Sign) (at : ℕ) (n : Lexeme) (r : Reader_data) → turns dia u ≡ true → nat_le (most dia) (length r.drafts) ≡ false → There dia (xs ++ u ∷ []) → IsClear (FaultAt dia old) xs u n.sign → Verdict dia old q xs u at n (feed_turn dia from p u at r)
+turn_verdict : (dia : Dialect) (old : Names_data) (q : Reader_data) (from : Link) (p : Role) (xs : List Sign) (u : Sign) (at : ℕ) (n : Lexeme) (r : Reader_data) → turns dia u ≡ true
+    → nat_le (most dia) (length r.drafts) ≡ false → There dia (xs ++ u ∷ []) → IsClear (FaultAt dia old) xs u n.sign → Verdict dia old q xs u at n (feed_turn dia from p u at r)
 turn_verdict Talks old q from p xs arrow at n r e room on clear = (on, clear)
 turn_verdict Acts old q from p xs bang at n r e room on clear = marked_verdict Acts old q (nat_le 256 (length r.drafts)) xs bang at n _ _ room on clear
 turn_verdict Acts old q from p xs question at n r e room on clear = marked_verdict Acts old q (nat_le 256 (length r.drafts)) xs question at n _ _ room on clear
 turn_verdict Talks old q from p xs _ at n r e room on clear = cc
 turn_verdict Acts old q from p xs _ at n r e room on clear = cc
 
-mark_verdict : (dia : Dialect) (old : Names_data) (m : Mode) (q : Reader_data) (xs : List Sign) (u : Sign) (at : ℕ) (n : Lexeme) (r : Reader_data) → turns dia u ≡ true → IsMarkMode m → nat_le (most dia) (length r.drafts) ≡ false → There dia (xs ++ u ∷ []) → IsClear (FaultAt dia old) xs u n.sign → Verdict dia old q xs u at n (feed_at dia m u at n r)
+mark_verdict : (dia : Dialect) (old : Names_data) (m : Mode) (q : Reader_data) (xs : List Sign) (u : Sign) (at : ℕ) (n : Lexeme) (r : Reader_data) → turns dia u ≡ true → IsMarkMode m
+    → nat_le (most dia) (length r.drafts) ≡ false → There dia (xs ++ u ∷ []) → IsClear (FaultAt dia old) xs u n.sign → Verdict dia old q xs u at n (feed_at dia m u at n r)
 mark_verdict dia old (mode.AtTurn from p) q xs u at n r e a room on clear = turn_verdict dia old q from p xs u at n r e room on clear
 mark_verdict dia old _ q xs u at n r e a room on clear = absurd a
 
-whole_verdict : (dia : Dialect) (old : Names_data) (xs : List Sign) (t : Sign) (at : ℕ) (n : Lexeme) (r : Reader_data) → Reached (feeding dia) (start_of_part dia old) xs t r → There dia xs → IsProper t → IsWhole t → is_read r ≡ false → Verdict dia old r xs t at n (feed_sign (feeding dia) t at n r)
+whole_verdict : (dia : Dialect) (old : Names_data) (xs : List Sign) (t : Sign) (at : ℕ) (n : Lexeme) (r : Reader_data) → Reached (feeding dia) (start_of_part dia old) xs t r → There dia xs
+    → IsProper t → IsWhole t → is_read r ≡ false → Verdict dia old r xs t at n (feed_sign (feeding dia) t at n r)
 whole_verdict dia old xs t at n r reach there proper whole unread =
     let a : PlaceAgrees dia old there.0 t r = agree dia old xs t r reach there.0 there.1 in
     subst (λ (z : Fed). Verdict dia old r xs t at n z) (sym (whole_fed dia t at n r whole)) (elim (mark_or r.mode) [
@@ -378,12 +433,23 @@ no_arrow dia m j b r h a = cc (mark_facts dia m (broken j) b r a h).0
 broken_same : (i j : FaultKind) → broken i ≡ broken j → i ≡ j
 broken_same i j h = cc
 
-broken_verdict : (dia : Dialect) (old : Names_data) (xs : List Sign) (j : FaultKind) (at : ℕ) (n : Lexeme) (r : Reader_data) → Reached (feeding dia) (start_of_part dia old) xs (broken j) r → There dia xs → is_read r ≡ false → Verdict dia old r xs (broken j) at n (feed_sign (feeding dia) (broken j) at n r)
+broken_verdict : (dia : Dialect) (old : Names_data) (xs : List Sign) (j : FaultKind) (at : ℕ) (n : Lexeme) (r : Reader_data) → Reached (feeding dia) (start_of_part dia old) xs (broken j) r
+    → There dia xs → is_read r ≡ false → Verdict dia old r xs (broken j) at n (feed_sign (feeding dia) (broken j) at n r)
 broken_verdict dia old xs j at n r reach there unread =
     let a : PlaceAgrees dia old there.0 (broken j) r = agree dia old xs (broken j) r reach there.0 there.1 in
     inl (record {
       at_is = refl;
-      fault = inr (inr (j, refl, record { broken_is = refl; place = there.0; stands = there.1; reached = reach_of dia there.0 (λ h. not_part dia r.mode r.frames (no_arrow dia r.mode j (is_named_of dia there.0) r a.named) unread (a.wanted ∙ h)) }));
+      fault = inr (inr (
+        j,
+        refl,
+        record {
+          broken_is = refl;
+          place = there.0;
+          stands = there.1;
+          reached = reach_of dia there.0
+              (λ h. not_part dia r.mode r.frames (no_arrow dia r.mode j (is_named_of dia there.0) r a.named) unread (a.wanted ∙ h));
+        },
+      ));
       only = λ k f. elim f [
         | inl x ↦ absurd x.2.whole
         | inr (inl m) ↦ absurd (cc (sym m.fault ∙ (agree dia old xs (broken j) r reach m.place m.stands).faults (broken j) n.sign ∙ broken_unseen dia r.mode j n.sign r))
@@ -391,12 +457,14 @@ broken_verdict dia old xs j at n r reach there unread =
       ];
     })
 
-verdict_by : (dia : Dialect) (old : Names_data) (t : Sign) → Wholeness t → (xs : List Sign) (at : ℕ) (n : Lexeme) (r : Reader_data) → Reached (feeding dia) (start_of_part dia old) xs t r → There dia xs → IsProper t → is_read r ≡ false → Verdict dia old r xs t at n (feed_sign (feeding dia) t at n r)
+verdict_by : (dia : Dialect) (old : Names_data) (t : Sign) → Wholeness t → (xs : List Sign) (at : ℕ) (n : Lexeme) (r : Reader_data) → Reached (feeding dia) (start_of_part dia old) xs t r
+    → There dia xs → IsProper t → is_read r ≡ false → Verdict dia old r xs t at n (feed_sign (feeding dia) t at n r)
 verdict_by dia old _ (a_faulty k) xs at n r reach there proper unread = broken_verdict dia old xs k at n r reach there unread
 verdict_by dia old _ (a_whole t w) xs at n r reach there proper unread = whole_verdict dia old xs t at n r reach there proper w unread
 
 -- what a token is, and what the reader says of it
-pub verdict : (dia : Dialect) (old : Names_data) (xs : List Sign) (t : Sign) (at : ℕ) (n : Lexeme) (r : Reader_data) → Reached (feeding dia) (start_of_part dia old) xs t r → There dia xs → IsProper t → is_read r ≡ false → Verdict dia old r xs t at n (feed_sign (feeding dia) t at n r)
+pub verdict : (dia : Dialect) (old : Names_data) (xs : List Sign) (t : Sign) (at : ℕ) (n : Lexeme) (r : Reader_data) → Reached (feeding dia) (start_of_part dia old) xs t r → There dia xs → IsProper t
+    → is_read r ≡ false → Verdict dia old r xs t at n (feed_sign (feeding dia) t at n r)
 verdict dia old xs t at n r reach there proper unread = verdict_by dia old t (wholeness t) xs at n r reach there proper unread
 
 -- ---- the end
@@ -454,7 +522,8 @@ pub unfaulty : (dia : Dialect) (old : Names_data) (c : PartCut dia) (j : FaultKi
 unfaulty dia old (in_opening o) j n = unfaulty_opening dia old o j n
 unfaulty dia old (in_body x body) j n = unfaulty_by dia _ j n _
 
-pub next_here : (dia : Dialect) (old : Names_data) (r : Reader_data) (xs : List Sign) (t : Sign) (x : Lexeme) (u : Sign) (g : TextFault) → Next dia old r xs t x g → Here (FaultAt dia old) (xs ++ t ∷ []) x.sign x.from u g
+pub next_here : (dia : Dialect) (old : Names_data) (r : Reader_data) (xs : List Sign) (t : Sign) (x : Lexeme) (u : Sign) (g : TextFault) → Next dia old r xs t x g
+    → Here (FaultAt dia old) (xs ++ t ∷ []) x.sign x.from u g
 next_here dia old r xs t x u g h = record {
   at_is = h.at_is;
   fault = inr (inr (h.kind, h.kind_is, record { broken_is = h.broken_is; place = h.place; stands = h.stands; reached = h.reached }));

@@ -1,5 +1,6 @@
 -- The labels that the reader has are those of the tokens that it took.
-use Rattle.std.proofs.Common.{◌≡◌, ℕ, List, [], ◌∷◌, ◌++◌, length, codes, Bool, true, false, nat_le, nat_lt, Option, Some, None, Result, Ok, Err, IfOk, refl, sym, ap, ◌∙◌, append-nil, append_assoc, cond}
+use Rattle.std.proofs.Common.{◌≡◌, ℕ, List, [], ◌∷◌, ◌++◌, length, codes, Bool, true, false, nat_le, nat_lt, Option, Some, None, Result, Ok, Err, IfOk, refl, sym, ap, ◌∙◌, append-nil, append_assoc}
+use Rattle.std.proofs.Common.{cond}
 use Rattle.rs_model.specs.Data.{Names_data}
 use Rattle.rs_model.specs.declared.graph.Label.{Label}
 use Rattle.rs_model.specs.declared.values.Sort.{Sort}
@@ -20,11 +21,12 @@ use Rattle.rs_text.specs.Signs.{Sign, rec_word, end_word, plain, bang, question,
 use Rattle.rs_text.proofs.Leading.{LandsOr}
 use Rattle.rs_text.proofs.MessageLaws.{labelled_lands}
 use Rattle.rs_text.proofs.Naming.{grown_append}
-use Rattle.rs_text.specs.Messages.{Message, feed_label_number, feed_sort_word, feed_label}
+use Rattle.rs_text.specs.Messages.{MessageFed, feed_label_number, feed_sort_word, feed_label}
 use Rattle.rs_text.specs.declared.messages.MessagePlace.TheVariants as place
 use Rattle.rs_bodies.specs.Data.{Reader_data}
 use Rattle.rs_bodies.specs.Faults.{opens_arm, label_there, labels_among}
-use Rattle.rs_bodies.specs.Feeding.{Fed, start_of_part, in_mode, reader_behind_link, feed_at, feed_machine, role_by, feed_head_role, feed_word, feed_body, feed_bound_name, feed_next, in_message, feeding, feed_arms}
+use Rattle.rs_bodies.specs.Feeding.{Fed, start_of_part, in_mode, reader_behind_link, feed_at, feed_machine, role_by, feed_head_role, feed_word, feed_body, feed_bound_name, feed_next, in_message}
+use Rattle.rs_bodies.specs.Feeding.{feeding, feed_arms}
 use Rattle.rs_bodies.proofs.FaultPlaces.{wanted_by}
 use Rattle.rs_text.proofs.Keeping.{if_ok}
 use Rattle.rs_text.specs.Readings.{feed_sign}
@@ -60,14 +62,18 @@ take_unless : (c : Bool) (m : Mode) (t : Sign) (r : Reader_data) (e : TextFault)
 take_unless true m t r e x h = h
 take_unless false m t r e x h = tt
 
-take_message : (act : ℕ) (x : Result Message TextFault) (r : Reader_data) (Q : Reader_data → Type 0) → LandsOr (λ k. Unit {0}) x (λ m. IfOk (in_message act (Ok m) r) Q) → IfOk (in_message act x r) Q
+take_message : (act : ℕ) (x : Result MessageFed TextFault) (r : Reader_data) (Q : Reader_data → Type 0) → LandsOr (λ k. Unit {0}) x (λ m. IfOk (in_message act (Ok m) r) Q)
+    → IfOk (in_message act x r) Q
 take_message act (Ok m) r Q h = h
 take_message act (Err e) r Q h = tt
 
-take_labelled : (act : ℕ) (word : List ℕ) (at : ℕ) (r : Reader_data) → IfOk (in_message act (feed_label_number (place_of word r.labels) word at r.labels) r) (λ d. (d.labels ≡ names_with r.labels (word ∷ [])) × (at_arm d.mode ≡ false) × (is_of_talks d.mode ≡ false) × (d.roles ≡ r.roles))
+take_labelled : (act : ℕ) (word : List ℕ) (at : ℕ) (r : Reader_data)
+    → IfOk (in_message act (feed_label_number (place_of word r.labels) word at r.labels) r)
+    (λ d. (d.labels ≡ names_with r.labels (word ∷ [])) × (at_arm d.mode ≡ false) × (is_of_talks d.mode ≡ false) × (d.roles ≡ r.roles))
 take_labelled act word at r =
     let Q : Reader_data → Type 0 = λ d. (d.labels ≡ names_with r.labels (word ∷ [])) × (at_arm d.mode ≡ false) × (is_of_talks d.mode ≡ false) × (d.roles ≡ r.roles) in
-    take_message act (feed_label_number (place_of word r.labels) word at r.labels) r Q (labelled_lands (λ k. Unit {0}) (λ m. IfOk (in_message act (Ok m) r) Q) (place_of word r.labels) word at r.labels refl (λ full. tt) (λ room k e. (refl, refl, refl, refl)))
+    take_message act (feed_label_number (place_of word r.labels) word at r.labels) r Q
+    (labelled_lands (λ k. Unit {0}) (λ m. IfOk (in_message act (Ok m) r) Q) (place_of word r.labels) word at r.labels refl (λ full. tt) (λ room k e. (refl, refl, refl, refl)))
 
 take_label : (act : ℕ) (w : Wanted) (t : Sign) (at : ℕ) (r : Reader_data) → IfOk (in_message act (feed_label w (word_text t) at r.labels) r) (TakesAt (mode.InMessage act place.Label) t r)
 take_label act w rec_word at r = take_labelled act (codes "rec") at r
@@ -96,7 +102,8 @@ take_met (Some k) w from at r = take_if (nat_le 256 (length r.drafts)) (mode.Bod
 
 take_named : (found : Option ℕ) (w : List ℕ) (from : Link) (at : ℕ) (r : Reader_data) → IfOk (feed_bound_name found from at r) (TakesAt (mode.Body from) (plain w) r)
 take_named None w from at r = tt
-take_named (Some k) w from at r = take_unless (nat_lt k (length r.drafts)) (mode.Body from) (plain w) r (record { kind = kind.Unguarded; at = at }) (in_mode mode.Next (reader_behind_link from (Some k) r)) (refl, refl, refl, refl)
+take_named (Some k) w from at r =
+    take_unless (nat_lt k (length r.drafts)) (mode.Body from) (plain w) r (record { kind = kind.Unguarded; at = at }) (in_mode mode.Next (reader_behind_link from (Some k) r)) (refl, refl, refl, refl)
 
 take_word : (from : Link) (w : List ℕ) (s : Sign) (at next : ℕ) (r : Reader_data) → IfOk (feed_word Acts from w s at next r) (TakesAt (mode.Body from) (plain w) r)
 take_word from w bang at next r = take_met (place_of w r.roles) w from at r
@@ -116,7 +123,8 @@ take_next (f ∷ fs) comma at r = (refl, refl, refl, refl)
 take_next (f ∷ fs) close_brace at r = (refl, refl, refl, refl)
 take_next (f ∷ fs) _ at r = tt
 
-take_sorted : (found : Option Sort) (w : List ℕ) (act : ℕ) (l : Label) (at : ℕ) (r : Reader_data) → IfOk (in_message act (feed_sort_word found l at r.labels) r) (TakesAt (mode.InMessage act (place.Sort l)) (plain w) r)
+take_sorted : (found : Option Sort) (w : List ℕ) (act : ℕ) (l : Label) (at : ℕ) (r : Reader_data)
+    → IfOk (in_message act (feed_sort_word found l at r.labels) r) (TakesAt (mode.InMessage act (place.Sort l)) (plain w) r)
 take_sorted None w act l at r = tt
 take_sorted (Some s) w act l at r = (refl, refl, refl, refl)
 
@@ -170,7 +178,8 @@ opened_on (x ∷ xs) here t = opened_on xs (opens_arm x) t
 
 labels_on : (xs : List Sign) (here : Bool) (t : Sign) → labels_among here (xs ++ t ∷ []) ≡ labels_among here xs ++ label_there (opened_by here xs) t
 labels_on [] here t = append-nil (label_there here t)
-labels_on (x ∷ xs) here t = ap (λ z. label_there here x ++ z) (labels_on xs (opens_arm x) t) ∙ sym (append_assoc (label_there here x) (labels_among (opens_arm x) xs) (label_there (opened_by (opens_arm x) xs) t))
+labels_on (x ∷ xs) here t =
+    ap (λ z. label_there here x ++ z) (labels_on xs (opens_arm x) t) ∙ sym (append_assoc (label_there here x) (labels_among (opens_arm x) xs) (label_there (opened_by (opens_arm x) xs) t))
 
 -- the reader has the labels of these tokens
 pub record Follows (old : Names_data) (xs : List Sign) (r : Reader_data) : Type 0 where
@@ -182,7 +191,8 @@ pub record Follows (old : Names_data) (xs : List Sign) (r : Reader_data) : Type 
 pub follows_first : (old : Names_data) → Follows old [] (start_of_part Acts old)
 follows_first old = record { labels = refl; mode = refl; line = refl; roles = refl }
 
-more_labels : (old : Names_data) (xs : List Sign) (r : Reader_data) (t : Sign) → Follows old xs r → names_with r.labels (label_there (at_arm r.mode) t) ≡ names_with old.labels (labels_among false (xs ++ t ∷ []))
+more_labels : (old : Names_data) (xs : List Sign) (r : Reader_data) (t : Sign) → Follows old xs r
+    → names_with r.labels (label_there (at_arm r.mode) t) ≡ names_with old.labels (labels_among false (xs ++ t ∷ []))
 more_labels old xs r t k = ap (λ z. names_with z (label_there (at_arm r.mode) t)) k.labels ∙ ap (λ z. names_with (names_with old.labels (labels_among false xs)) (label_there z t)) k.mode
     ∙ sym (grown_append (labels_among false xs) (label_there (opened_by false xs) t) old.labels) ∙ ap (λ z. names_with old.labels z) (sym (labels_on xs false t))
 
@@ -197,5 +207,6 @@ no_arm (mode.AtArms act) fs h = cc
 no_arm _ fs h = refl
 
 -- a word at the start of a body is no label
-pub follows_word : (old : Names_data) (xs : List Sign) (t : Sign) (r : Reader_data) → Follows old xs r → wanted_by Acts r.mode r.frames ≡ wanted.Body → r.labels ≡ names_with old.labels (labels_among false (xs ++ t ∷ []))
+pub follows_word : (old : Names_data) (xs : List Sign) (t : Sign) (r : Reader_data) → Follows old xs r → wanted_by Acts r.mode r.frames ≡ wanted.Body
+    → r.labels ≡ names_with old.labels (labels_among false (xs ++ t ∷ []))
 follows_word old xs t r k h = ap (λ z. names_with r.labels (label_there z t)) (sym (no_arm r.mode r.frames h)) ∙ more_labels old xs r t k

@@ -38,7 +38,8 @@ mutual
   has_instead {dia} w P Q (acts s t x sort b) has f = (has.0, f x (head_among x (labels_of dia b)), has_instead w P Q b has.2 (λ l h. f l (tail_among l x (labels_of dia b) h)))
   has_instead w P Q (offers s t arms) has f = (has.0, arms_have_instead w P Q arms has.1 f)
 
-  arms_have_instead : {dia : Dialect} (w : Writing) (P Q : List ℕ → Type 0) (arms : Branches dia) → HasNamesArms w P arms → ((l : List ℕ) → is_among l (labels_of_arms dia arms) ≡ true → Q l) → HasNamesArms w Q arms
+  arms_have_instead : {dia : Dialect} (w : Writing) (P Q : List ℕ → Type 0) (arms : Branches dia) → HasNamesArms w P arms → ((l : List ℕ) → is_among l (labels_of_arms dia arms) ≡ true → Q l)
+      → HasNamesArms w Q arms
   arms_have_instead {dia} w P Q (one x sort b) has f = (f x (head_among x (labels_of dia b)), has_instead w P Q b has.1 (λ l h. f l (tail_among l x (labels_of dia b) h)))
   arms_have_instead {dia} w P Q (more x sort b arms) has f =
       let rest : List (List ℕ) = labels_of dia b ++ labels_of_arms dia arms in (

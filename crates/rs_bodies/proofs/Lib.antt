@@ -14,6 +14,7 @@ pub mod Answers
 pub mod SpeltLaws
 pub mod Placing
 pub mod Sounding
+pub mod GraphLaws
 pub mod Taken
 pub mod Refusals
 pub mod Heads
@@ -44,3 +45,5 @@ pub mod Moved
 pub mod LabelsHave
 pub mod WrittenNames
 pub mod PlacesLead
+pub mod GraphsAgain
+pub mod CanonNumbers

@@ -17,7 +17,7 @@ use Rattle.rs_bodies.specs.declared.dialects.Head.TheVariants as head
 use Rattle.rs_bodies.specs.declared.places.Place.{Place}
 use Rattle.rs_bodies.specs.declared.places.Place.TheVariants as place
 use Rattle.rs_bodies.specs.Canonical.{IsHeadOf, IsPointOf, IsOneArm, AreArms, Draws, DrawsHead, DrawsArms}
-use Rattle.rs_bodies.specs.Dialects.{Turn, sends_to, with_mark}
+use Rattle.rs_bodies.specs.Dialects.{BehindRole, sends_to, with_mark}
 use Rattle.rs_bodies.specs.Graph.{labels_of, labels_of_arms}
 use Rattle.rs_bodies.specs.Places.{choice, IsGoneBackTo}
 use Rattle.rs_bodies.specs.Printing.{flags_behind_arms, marked_place, flags_behind_places}
@@ -101,52 +101,72 @@ with_others names others = record { roles = names.roles; labels = others }
 abbrev pub Moves : (ℕ → ℕ) → (these those labels : List (List ℕ)) → Type 0
 Moves number these those labels = (l : List ℕ) (i : ℕ) → is_among l labels ≡ true → slice_get these i ≡ Some l → slice_get those (number i) ≡ Some l
 
-head_again : (dia : Dialect) (names : Names_data) (others : List (List ℕ)) (h : Head) (s : List ℕ) (t : Turn dia) → IsHeadOf dia names h s t → IsHeadOf dia (with_others names others) h s t
+head_again : (dia : Dialect) (names : Names_data) (others : List (List ℕ)) (h : Head) (s : List ℕ) (t : BehindRole dia) → IsHeadOf dia names h s t → IsHeadOf dia (with_others names others) h s t
 head_again Talks names others (head.Talk a b) s (sends_to r) x = x
 head_again Talks names others (head.Act a m) s t x = absurd x
 head_again Acts names others (head.Talk a b) s t x = absurd x
 head_again Acts names others (head.Act a m) s (with_mark w) x = x
 
-point_again : {dia : Dialect} (names : Names_data) (others : List (List ℕ)) (number : ℕ → ℕ) (p : List Place) (n : ℕ) (s : List ℕ) (t : Turn dia) (arms : List Arm) → IsPointOf dia names p n s t arms → IsPointOf dia (with_others names others) (places_moved number p) n s t (map (arm_moved number) arms)
+point_again : {dia : Dialect} (names : Names_data) (others : List (List ℕ)) (number : ℕ → ℕ) (p : List Place) (n : ℕ) (s : List ℕ) (t : BehindRole dia) (arms : List Arm)
+    → IsPointOf dia names p n s t arms
+    → IsPointOf dia (with_others names others) (places_moved number p) n s t (map (arm_moved number) arms)
 point_again {dia} names others number p n s t arms a = record { head = a.head; stands = place_at p number n (choice a.head arms) a.stands; named = head_again dia names others a.head s t a.named }
 
-one_again : {dia : Dialect} (names : Names_data) (others : List (List ℕ)) (number : ℕ → ℕ) (p : List Place) (n : ℕ) (s : List ℕ) (t : Turn dia) (l : List ℕ) (sort : Option Sort) (b : Body dia) → Moves number names.labels others (l ∷ labels_of dia b)
+one_again : {dia : Dialect} (names : Names_data) (others : List (List ℕ)) (number : ℕ → ℕ) (p : List Place) (n : ℕ) (s : List ℕ) (t : BehindRole dia) (l : List ℕ) (sort : Option Sort) (b : Body dia)
+    → Moves number names.labels others (l ∷ labels_of dia b)
     → ((next : ℕ) → Draws dia names p (n + 1) next b → Draws dia (with_others names others) (places_moved number p) (n + 1) next b)
-    → IsOneArm dia names p n s t l sort (λ next. Draws dia names p (n + 1) next b) → IsOneArm dia (with_others names others) (places_moved number p) n s t l sort (λ next. Draws dia (with_others names others) (places_moved number p) (n + 1) next b)
-one_again {dia} names others number p n s t l sort b f go x = (arm_moved number x.0, point_again names others number p n s t (x.0 ∷ []) x.1, (f l x.0.label.0 (head_among l (labels_of dia b)) x.2.0, x.2.1), go x.0.next x.3)
+    → IsOneArm dia names p n s t l sort (λ next. Draws dia names p (n + 1) next b)
+    → IsOneArm dia (with_others names others) (places_moved number p) n s t l sort (λ next. Draws dia (with_others names others) (places_moved number p) (n + 1) next b)
+one_again {dia} names others number p n s t l sort b f go x =
+    (arm_moved number x.0, point_again names others number p n s t (x.0 ∷ []) x.1, (f l x.0.label.0 (head_among l (labels_of dia b)) x.2.0, x.2.1), go x.0.next x.3)
 
-more_again : {dia : Dialect} (names : Names_data) (others : List (List ℕ)) (number : ℕ → ℕ) (p : List Place) (n : ℕ) (s : List ℕ) (t : Turn dia) (arms : Branches dia)
+more_again : {dia : Dialect} (names : Names_data) (others : List (List ℕ)) (number : ℕ → ℕ) (p : List Place) (n : ℕ) (s : List ℕ) (t : BehindRole dia) (arms : Branches dia)
     → ((ours : List Arm) → DrawsArms dia names p (n + 1) ours arms → DrawsArms dia (with_others names others) (places_moved number p) (n + 1) (map (arm_moved number) ours) arms)
-    → AreArms dia names p n s t (λ ours. DrawsArms dia names p (n + 1) ours arms) → AreArms dia (with_others names others) (places_moved number p) n s t (λ ours. DrawsArms dia (with_others names others) (places_moved number p) (n + 1) ours arms)
-more_again names others number p n s t arms go x = (arm_moved number x.0, arm_moved number x.1, map (arm_moved number) x.2, point_again names others number p n s t (x.0 ∷ x.1 ∷ x.2) x.3, go (x.0 ∷ x.1 ∷ x.2) x.4)
+    → AreArms dia names p n s t (λ ours. DrawsArms dia names p (n + 1) ours arms)
+    → AreArms dia (with_others names others) (places_moved number p) n s t (λ ours. DrawsArms dia (with_others names others) (places_moved number p) (n + 1) ours arms)
+more_again names others number p n s t arms go x =
+    (arm_moved number x.0, arm_moved number x.1, map (arm_moved number) x.2, point_again names others number p n s t (x.0 ∷ x.1 ∷ x.2) x.3, go (x.0 ∷ x.1 ∷ x.2) x.4)
 
 mutual
-  pub draws_moved : {dia : Dialect} (b : Body dia) (names : Names_data) (others : List (List ℕ)) (number : ℕ → ℕ) (p : List Place) (from n : ℕ) → Moves number names.labels others (labels_of dia b) → Draws dia names p from n b → Draws dia (with_others names others) (places_moved number p) from n b
+  pub draws_moved : {dia : Dialect} (b : Body dia) (names : Names_data) (others : List (List ℕ)) (number : ℕ → ℕ) (p : List Place) (from n : ℕ) → Moves number names.labels others (labels_of dia b)
+      → Draws dia names p from n b → Draws dia (with_others names others) (places_moved number p) from n b
   draws_moved ends names others number p from n f h = place_at p number n place.End h
   draws_moved (again x) names others number p from n f h = h
   draws_moved (binds x b) names others number p from n f h = (h.0, h.1, back_again p number n h.2, head_draws_moved b names others number p n f h.3)
-  draws_moved {dia} (acts s t l sort b) names others number p from n f h =
-      (h.0, (λ g. h.1 (back_before p number n g)), one_again names others number p n s t l sort b f (λ next d. draws_moved b names others number p (n + 1) next (λ y i a. f y i (tail_among y l (labels_of dia b) a)) d) h.2)
-  draws_moved (offers s t arms) names others number p from n f h = (h.0, (λ g. h.1 (back_before p number n g)), more_again names others number p n s t arms (λ ours d. arms_draw_moved arms ours names others number p (n + 1) f d) h.2)
+  draws_moved {dia} (acts s t l sort b) names others number p from n f h = (
+    h.0,
+    (λ g. h.1 (back_before p number n g)),
+    one_again names others number p n s t l sort b f
+        (λ next d. draws_moved b names others number p (n + 1) next (λ y i a. f y i (tail_among y l (labels_of dia b) a)) d) h.2,
+  )
+  draws_moved (offers s t arms) names others number p from n f h =
+      (h.0, (λ g. h.1 (back_before p number n g)), more_again names others number p n s t arms (λ ours d. arms_draw_moved arms ours names others number p (n + 1) f d) h.2)
 
-  head_draws_moved : {dia : Dialect} (b : Body dia) (names : Names_data) (others : List (List ℕ)) (number : ℕ → ℕ) (p : List Place) (n : ℕ) → Moves number names.labels others (labels_of dia b) → DrawsHead dia names p n b → DrawsHead dia (with_others names others) (places_moved number p) n b
+  head_draws_moved : {dia : Dialect} (b : Body dia) (names : Names_data) (others : List (List ℕ)) (number : ℕ → ℕ) (p : List Place) (n : ℕ) → Moves number names.labels others (labels_of dia b)
+      → DrawsHead dia names p n b → DrawsHead dia (with_others names others) (places_moved number p) n b
   head_draws_moved ends names others number p n f h = h
   head_draws_moved (again x) names others number p n f h = h
   head_draws_moved (binds x b) names others number p n f h = h
-  head_draws_moved {dia} (acts s t l sort b) names others number p n f h = one_again names others number p n s t l sort b f (λ next d. draws_moved b names others number p (n + 1) next (λ y i a. f y i (tail_among y l (labels_of dia b) a)) d) h
+  head_draws_moved {dia} (acts s t l sort b) names others number p n f h =
+      one_again names others number p n s t l sort b f (λ next d. draws_moved b names others number p (n + 1) next (λ y i a. f y i (tail_among y l (labels_of dia b) a)) d) h
   head_draws_moved (offers s t arms) names others number p n f h = more_again names others number p n s t arms (λ ours d. arms_draw_moved arms ours names others number p (n + 1) f d) h
 
-  arms_draw_moved : {dia : Dialect} (arms : Branches dia) (ours : List Arm) (names : Names_data) (others : List (List ℕ)) (number : ℕ → ℕ) (p : List Place) (from : ℕ) → Moves number names.labels others (labels_of_arms dia arms) → DrawsArms dia names p from ours arms → DrawsArms dia (with_others names others) (places_moved number p) from (map (arm_moved number) ours) arms
+  arms_draw_moved : {dia : Dialect} (arms : Branches dia) (ours : List Arm) (names : Names_data) (others : List (List ℕ)) (number : ℕ → ℕ) (p : List Place) (from : ℕ)
+      → Moves number names.labels others (labels_of_arms dia arms) → DrawsArms dia names p from ours arms
+      → DrawsArms dia (with_others names others) (places_moved number p) from (map (arm_moved number) ours) arms
   arms_draw_moved arms [] names others number p from f h = absurd h
-  arms_draw_moved {dia} (one l sort b) (o ∷ []) names others number p from f h = ((f l o.label.0 (head_among l (labels_of dia b)) h.0.0, h.0.1), draws_moved b names others number p from o.next (λ y i a. f y i (tail_among y l (labels_of dia b) a)) h.1)
+  arms_draw_moved {dia} (one l sort b) (o ∷ []) names others number p from f h =
+      ((f l o.label.0 (head_among l (labels_of dia b)) h.0.0, h.0.1), draws_moved b names others number p from o.next (λ y i a. f y i (tail_among y l (labels_of dia b) a)) h.1)
   arms_draw_moved (one l sort b) (o ∷ c ∷ cs) names others number p from f h = absurd h
   arms_draw_moved (more l sort b arms) (o ∷ []) names others number p from f h = absurd h.2
   arms_draw_moved {dia} (more l sort b arms) (o ∷ c ∷ cs) names others number p from f h = (
     (f l o.label.0 (head_among l (labels_of dia b ++ labels_of_arms dia arms)) h.0.0, h.0.1),
     draws_moved b names others number p from o.next (λ y i a. f y i (tail_among y l (labels_of dia b ++ labels_of_arms dia arms) (front_among y (labels_of dia b) (labels_of_arms dia arms) a))) h.1,
-    arms_draw_moved arms (c ∷ cs) names others number p from (λ y i a. f y i (tail_among y l (labels_of dia b ++ labels_of_arms dia arms) (back_among y (labels_of dia b) (labels_of_arms dia arms) a))) h.2,
+    arms_draw_moved arms (c ∷ cs) names others number p from
+        (λ y i a. f y i (tail_among y l (labels_of dia b ++ labels_of_arms dia arms) (back_among y (labels_of dia b) (labels_of_arms dia arms) a))) h.2,
   )
 
--- .. by names with the same numbers
-pub draws_stays : {dia : Dialect} (b : Body dia) (names : Names_data) (others : List (List ℕ)) (p : List Place) (from n : ℕ) → Moves same_number names.labels others (labels_of dia b) → Draws dia names p from n b → Draws dia (with_others names others) p from n b
+-- the body that is drawn stays as it is with names that have the same numbers
+pub draws_stays : {dia : Dialect} (b : Body dia) (names : Names_data) (others : List (List ℕ)) (p : List Place) (from n : ℕ) → Moves same_number names.labels others (labels_of dia b)
+    → Draws dia names p from n b → Draws dia (with_others names others) p from n b
 draws_stays {dia} b names others p from n f h = subst (λ (z : List Place). Draws dia (with_others names others) z from n b) (places_stay p) (draws_moved b names others same_number p from n f h)

@@ -9,7 +9,7 @@ use Rattle.rs_text.proofs.Basics.{both, test_below, one_of, below_test, two_true
 use Rattle.rs_text.proofs.Gaps.{true_or_false}
 use Rattle.rs_text.proofs.Naming.{grown_stays, place_of_new, place_stands, placed_by, absent_by}
 use Rattle.rs_text.proofs.Numbers.{place_below}
-use Rattle.rs_text.specs.Names.{Bound, names_with, is_among, place_of, number_or}
+use Rattle.rs_text.specs.Names.{BoundNames, names_with, is_among, place_of, number_or}
 use Rattle.rs_bodies.specs.declared.dialects.Dialect.{Dialect}
 use Rattle.rs_bodies.specs.declared.dialects.Dialect.TheVariants.{Talks, Acts}
 use Rattle.rs_bodies.specs.declared.dialects.Head.{Head}
@@ -17,8 +17,8 @@ use Rattle.rs_bodies.specs.declared.dialects.Head.TheVariants as head
 use Rattle.rs_bodies.specs.declared.places.Place.{Place}
 use Rattle.rs_bodies.specs.declared.places.Place.TheVariants as place
 use Rattle.rs_bodies.specs.Canonical.{IsSpelt, HeadHasNames, HaveNames}
-use Rattle.rs_bodies.specs.Dialects.{Turn, sends_to, with_mark}
-use Rattle.rs_bodies.specs.Graph.{Numbering, role_of, label_of, labels_of, labels_of_arms, arms_of, has_end, acts_in}
+use Rattle.rs_bodies.specs.Dialects.{BehindRole, sends_to, with_mark}
+use Rattle.rs_bodies.specs.Graph.{Numbering, role_by_name, label_by_name, labels_of, labels_of_arms, arms_of, has_end, acts_in}
 use Rattle.rs_bodies.specs.Places.{choice, end_of}
 use Rattle.rs_bodies.specs.Points.{head_of}
 use Rattle.rs_bodies.specs.Spells.{names_of, numbering}
@@ -28,12 +28,12 @@ use Rattle.rs_bodies.proofs.PlacesIn.{places_in, places_in_arms}
 
 -- a label has a number below the count of the labels
 abbrev is_numbered : Numbering → List ℕ → Bool
-is_numbered m l = nat_lt (label_of m l).0 (length m.names.labels)
+is_numbered m l = nat_lt (label_by_name m l).0 (length m.names.labels)
 
 abbrev is_arm_numbered : Numbering → Arm → Bool
 is_arm_numbered m a = nat_lt a.label.0 (length m.names.labels)
 
--- .. and a head's roles below that of the roles
+-- the roles of a head have numbers below the count of the roles
 abbrev is_head_numbered : Numbering → Head → Bool
 is_head_numbered m (head.Talk s r) = nat_lt s.0 (length m.names.roles) && nat_lt r.0 (length m.names.roles)
 is_head_numbered m (head.Act p x) = nat_lt p.0 (length m.names.roles)
@@ -46,13 +46,14 @@ is_place_numbered m (place.Point x) = is_head_numbered m x.head && list_all (is_
 
 number_below : (name : List ℕ) (names : List (List ℕ)) (found : Option ℕ) → place_of name names ≡ found → 0 < length names → number_or found < length names
 number_below name names None e some = some
-number_below name names (Some k) e some = slice_get_within names k name (place_stands names name k e).there
+number_below name names (Some k) e some = slice_get_within names k name (place_stands names name k e).present
 
-role_numbered : (m : Numbering) (s : List ℕ) → 0 < length m.names.roles → nat_lt (role_of m s).0 (length m.names.roles) ≡ true
-role_numbered m s some = below_test (role_of m s).0 (length m.names.roles) (number_below s m.names.roles (place_of s m.names.roles) refl some)
+role_numbered : (m : Numbering) (s : List ℕ) → 0 < length m.names.roles → nat_lt (role_by_name m s).0 (length m.names.roles) ≡ true
+role_numbered m s some = below_test (role_by_name m s).0 (length m.names.roles) (number_below s m.names.roles (place_of s m.names.roles) refl some)
 
-head_numbered : (dia : Dialect) (m : Numbering) (s : List ℕ) (r : Turn dia) → 0 < length m.names.roles → is_head_numbered m (head_of dia m s r) ≡ true
-head_numbered Talks m s (sends_to r) some = two_true (nat_lt (role_of m s).0 (length m.names.roles)) (nat_lt (role_of m r).0 (length m.names.roles)) (role_numbered m s some) (role_numbered m r some)
+head_numbered : (dia : Dialect) (m : Numbering) (s : List ℕ) (r : BehindRole dia) → 0 < length m.names.roles → is_head_numbered m (head_of dia m s r) ≡ true
+head_numbered Talks m s (sends_to r) some = two_true (nat_lt (role_by_name m s).0 (length m.names.roles)) (nat_lt (role_by_name m r).0 (length m.names.roles)) (role_numbered m s some)
+    (role_numbered m r some)
 head_numbered Acts m s (with_mark x) some = role_numbered m s some
 
 front_labels : (m : Numbering) (xs ys : List (List ℕ)) → list_all (is_numbered m) (xs ++ ys) ≡ true → (list_all (is_numbered m) xs ≡ true) × (list_all (is_numbered m) ys ≡ true)
@@ -61,7 +62,8 @@ front_labels m xs ys h = both (list_all (is_numbered m) xs) (list_all (is_number
 joined_places : (m : Numbering) (xs ys : List Place) → list_all (is_place_numbered m) xs ≡ true → list_all (is_place_numbered m) ys ≡ true → list_all (is_place_numbered m) (xs ++ ys) ≡ true
 joined_places m xs ys h k = list_all-append (is_place_numbered m) xs ys ∙ two_true (list_all (is_place_numbered m) xs) (list_all (is_place_numbered m) ys) h k
 
-arms_numbered : {dia : Dialect} (arms : Branches dia) (m : Numbering) (bound : Bound) (k : ℕ) → list_all (is_numbered m) (labels_of_arms dia arms) ≡ true → list_all (is_arm_numbered m) (arms_of dia m arms bound k) ≡ true
+arms_numbered : {dia : Dialect} (arms : Branches dia) (m : Numbering) (bound : BoundNames) (k : ℕ) → list_all (is_numbered m) (labels_of_arms dia arms) ≡ true
+    → list_all (is_arm_numbered m) (arms_of dia m arms bound k) ≡ true
 arms_numbered {dia} (one l sort body) m bound k h = two_true (is_numbered m l) true (both (is_numbered m l) (list_all (is_numbered m) (labels_of dia body)) h).0 refl
 arms_numbered {dia} (more l sort body arms) m bound k h =
     let p = both (is_numbered m l) (list_all (is_numbered m) (labels_of dia body ++ labels_of_arms dia arms)) h in
@@ -69,24 +71,29 @@ arms_numbered {dia} (more l sort body arms) m bound k h =
     two_true (is_numbered m l) (list_all (is_arm_numbered m) (arms_of dia m arms bound (k + acts_in dia body))) p.0 (arms_numbered arms m bound (k + acts_in dia body) q.1)
 
 mutual
-  places_numbered : {dia : Dialect} (b : Body dia) (m : Numbering) (bound : Bound) (k : ℕ) → 0 < length m.names.roles → list_all (is_numbered m) (labels_of dia b) ≡ true → list_all (is_place_numbered m) (places_in m b bound k) ≡ true
+  places_numbered : {dia : Dialect} (b : Body dia) (m : Numbering) (bound : BoundNames) (k : ℕ) → 0 < length m.names.roles → list_all (is_numbered m) (labels_of dia b) ≡ true
+      → list_all (is_place_numbered m) (places_in m b bound k) ≡ true
   places_numbered ends m bound k some h = refl
   places_numbered (again name) m bound k some h = refl
   places_numbered (binds name body) m bound k some h = places_numbered body m ((name, k) ∷ bound) k some h
   places_numbered {dia} (acts s r l sort body) m bound k some h =
       let p = both (is_numbered m l) (list_all (is_numbered m) (labels_of dia body)) h in
       two_true (is_head_numbered m (head_of dia m s r) && (is_numbered m l && true)) (list_all (is_place_numbered m) (places_in m body bound (suc k)))
-      (two_true (is_head_numbered m (head_of dia m s r)) (is_numbered m l && true) (head_numbered dia m s r some) (two_true (is_numbered m l) true p.0 refl)) (places_numbered body m bound (suc k) some p.1)
+      (two_true (is_head_numbered m (head_of dia m s r)) (is_numbered m l && true) (head_numbered dia m s r some) (two_true (is_numbered m l) true p.0 refl))
+      (places_numbered body m bound (suc k) some p.1)
   places_numbered {dia} (offers s r arms) m bound k some h =
       two_true (is_head_numbered m (head_of dia m s r) && list_all (is_arm_numbered m) (arms_of dia m arms bound (suc k))) (list_all (is_place_numbered m) (places_in_arms m arms bound (suc k)))
-      (two_true (is_head_numbered m (head_of dia m s r)) (list_all (is_arm_numbered m) (arms_of dia m arms bound (suc k))) (head_numbered dia m s r some) (arms_numbered arms m bound (suc k) h)) (behind_numbered arms m bound (suc k) some h)
+      (two_true (is_head_numbered m (head_of dia m s r)) (list_all (is_arm_numbered m) (arms_of dia m arms bound (suc k))) (head_numbered dia m s r some) (arms_numbered arms m bound (suc k) h))
+      (behind_numbered arms m bound (suc k) some h)
 
-  behind_numbered : {dia : Dialect} (arms : Branches dia) (m : Numbering) (bound : Bound) (k : ℕ) → 0 < length m.names.roles → list_all (is_numbered m) (labels_of_arms dia arms) ≡ true → list_all (is_place_numbered m) (places_in_arms m arms bound k) ≡ true
+  behind_numbered : {dia : Dialect} (arms : Branches dia) (m : Numbering) (bound : BoundNames) (k : ℕ) → 0 < length m.names.roles → list_all (is_numbered m) (labels_of_arms dia arms) ≡ true
+      → list_all (is_place_numbered m) (places_in_arms m arms bound k) ≡ true
   behind_numbered {dia} (one l sort body) m bound k some h = places_numbered body m bound k some (both (is_numbered m l) (list_all (is_numbered m) (labels_of dia body)) h).1
   behind_numbered {dia} (more l sort body arms) m bound k some h =
       let p = both (is_numbered m l) (list_all (is_numbered m) (labels_of dia body ++ labels_of_arms dia arms)) h in
       let q = front_labels m (labels_of dia body) (labels_of_arms dia arms) p.1 in
-      joined_places m (places_in m body bound k) (places_in_arms m arms bound (k + acts_in dia body)) (places_numbered body m bound k some q.0) (behind_numbered arms m bound (k + acts_in dia body) some q.1)
+      joined_places m (places_in m body bound k) (places_in_arms m arms bound (k + acts_in dia body)) (places_numbered body m bound k some q.0)
+      (behind_numbered arms m bound (k + acts_in dia body) some q.1)
 
 -- ---- the labels of a text
 
@@ -117,11 +124,13 @@ head_named m (head.Talk s r) e =
     let p = both (nat_lt s.0 (length m.names.roles)) (nat_lt r.0 (length m.names.roles)) e in (test_below s.0 (length m.names.roles) p.0, test_below r.0 (length m.names.roles) p.1)
 head_named m (head.Act p x) e = test_below p.0 (length m.names.roles) e
 
-pub tree_named : {dia : Dialect} (labels : List (List ℕ)) (m : Numbering) (p : List Place) (t : Body dia) → 0 < length m.names.roles → m.names.labels ≡ names_with labels (labels_of dia t) → p ≡ places_in m t [] 0 ++ end_of (has_end dia t) → HaveNames m.names p
+pub tree_named : {dia : Dialect} (labels : List (List ℕ)) (m : Numbering) (p : List Place) (t : Body dia) → 0 < length m.names.roles → m.names.labels ≡ names_with labels (labels_of dia t)
+    → p ≡ places_in m t [] 0 ++ end_of (has_end dia t) → HaveNames m.names p
 tree_named {dia} labels m p t some is e =
     let all : list_all (is_place_numbered m) p ≡ true = ap (λ z. list_all (is_place_numbered m) z) e
     ∙ joined_places m (places_in m t [] 0) (end_of (has_end dia t)) (places_numbered t m [] 0 some (numbered_in (labels_of dia t) labels m is)) (end_numbered (has_end dia t) m) in
-    let at : (n : ℕ) (h : Head) (arms : List Arm) → slice_get p n ≡ Some (choice h arms) → (is_head_numbered m h ≡ true) × (list_all (is_arm_numbered m) arms ≡ true) = λ n h arms stands. both (is_head_numbered m h) (list_all (is_arm_numbered m) arms) (one_of (is_place_numbered m) p n (choice h arms) all stands) in
+    let at : (n : ℕ) (h : Head) (arms : List Arm) → slice_get p n ≡ Some (choice h arms) → (is_head_numbered m h ≡ true) × (list_all (is_arm_numbered m) arms ≡ true)
+    = λ n h arms stands. both (is_head_numbered m h) (list_all (is_arm_numbered m) arms) (one_of (is_place_numbered m) p n (choice h arms) all stands) in
     record {
       heads = λ n h arms stands. head_named m h (at n h arms stands).0;
       labels = λ n index h arms arm stands holds. test_below arm.label.0 (length m.names.labels) (one_of (is_arm_numbered m) arms index arm (at n h arms stands).1 holds);

@@ -20,7 +20,8 @@ use Rattle.rs_text.proofs.Nexts.{one_list}
 use Rattle.rs_text.specs.ArmCuts.{ArmCut, at_label, behind_label, behind_paren, behind_sort, behind_head}
 use Rattle.rs_bodies.specs.Data.{Reader_data}
 use Rattle.rs_bodies.specs.Trees.{ends_a_name}
-use Rattle.rs_bodies.specs.Cuts.{Cut, at_body, behind_end, behind_name, behind_rec, behind_rec_name, in_binds, in_arm, in_acts, in_offers, behind_brace, BranchCut, in_head, in_branch, later, PartCut, in_body, wanted_at, wanted_in, IsBehind, in_opening, in_turn}
+use Rattle.rs_bodies.specs.Cuts.{Cut, at_body, behind_end, behind_name, behind_rec, behind_rec_name, in_binds, in_arm, in_acts, in_offers, behind_brace, BranchCut, in_head, in_branch, later, PartCut}
+use Rattle.rs_bodies.specs.Cuts.{in_body, wanted_at, wanted_in, IsBehind, in_opening, in_turn}
 use Rattle.rs_bodies.specs.Cuts.{at_role, behind_role, at_roles, at_first, behind_first, at_further, behind_further, at_machine, OpeningCut}
 use Rattle.rs_text.specs.Names.{is_among, nearest_binding, names_with}
 use Rattle.rs_bodies.specs.Scenes.{Scene}
@@ -34,7 +35,7 @@ use Rattle.rs_text.proofs.Judging.{Ahead, Judges, found, first_of, proper_sign, 
 use Rattle.rs_text.proofs.Leading.{Reached, reach_on, calm_if, calm_not, calm_none, NotExpected, Lands, sign_behind, lexeme, Leads, faulty_calm, leads_split}
 use Rattle.rs_text.proofs.Keeping.{tokens}
 use Rattle.rs_text.specs.Readings.{Reading, feed_sign, read_all, last_of}
-use Rattle.rs_text.specs.FirstFaults.{IsWhole, next_of}
+use Rattle.rs_text.specs.FirstFaults.{IsWhole, sign_after}
 use Rattle.rs_text.proofs.Arms.{arm_not}
 use Rattle.rs_bodies.specs.Misplaced.{fault_by, fault_of, fault_of_name, fault_of_word, fault_of_label, fault_of_first, fault_of_new_role, fault_of_opening}
 use Rattle.rs_bodies.proofs.Labels.{Follows, follows_first, follows_on, follows_word}
@@ -127,7 +128,8 @@ read_facts mode.Next (f ∷ fs) h = cc
 read_facts _ [] h = cc
 read_facts _ (f ∷ fs) h = cc
 
-behind_clear : (dia : Dialect) (old : Names_data) (xs : List Sign) (t u : Sign) (r : Reader_data) (k : TextKind) → Reached (feeding dia) (start_of_part dia old) xs t r → is_read r ≡ true → FaultAt dia old xs t u k → ⊥
+behind_clear : (dia : Dialect) (old : Names_data) (xs : List Sign) (t u : Sign) (r : Reader_data) (k : TextKind) → Reached (feeding dia) (start_of_part dia old) xs t r → is_read r ≡ true
+    → FaultAt dia old xs t u k → ⊥
 behind_clear dia old xs t u r k reach h f =
     let m = read_facts r.mode r.frames h in
     let wants : wanted_by dia r.mode r.frames ≡ wanted.PartOrEnd = ap (λ z. wanted_by dia z r.frames) m.0 ∙ ap (λ z. wanted_behind z) m.1 in
@@ -147,14 +149,18 @@ landing_next [] t r Q e h = h
 landing_next (f ∷ fs) t r Q e h = cc
 
 -- no place stands further on
-behind_none : (dia : Dialect) (old : Names_data) (xs : List Sign) (t : Sign) (ys : List Sign) (r : Reader_data) → Reached (feeding dia) (start_of_part dia old) xs t r → is_read r ≡ true → IsWhole t → There dia (xs ++ (t ∷ ys)) → ⊥
+behind_none : (dia : Dialect) (old : Names_data) (xs : List Sign) (t : Sign) (ys : List Sign) (r : Reader_data) → Reached (feeding dia) (start_of_part dia old) xs t r → is_read r ≡ true → IsWhole t
+    → There dia (xs ++ (t ∷ ys)) → ⊥
 behind_none dia old xs t ys r reach h whole there =
     let m = read_facts r.mode r.frames h in
     let Q : Reader_data → Type 0 = λ d. PlaceAgrees dia old there.0 finish d in
-    let l : Leads (feeding dia) (xs ++ (t ∷ ys)) finish Q (start_of_part dia old) = subst (λ (z : List Sign). Leads (feeding dia) z finish Q (start_of_part dia old)) there.1 (place_passes dia old there.0 finish) in
-    let k : Leads (feeding dia) (t ∷ ys) finish Q r = reach NotExpected (λ d. Leads (feeding dia) (t ∷ ys) finish Q d) (leads_split (feeding dia) NotExpected xs (t ∷ ys) finish Q (start_of_part dia old) l) in
+    let l : Leads (feeding dia) (xs ++ (t ∷ ys)) finish Q (start_of_part dia old)
+    = subst (λ (z : List Sign). Leads (feeding dia) z finish Q (start_of_part dia old)) there.1 (place_passes dia old there.0 finish) in
+    let k : Leads (feeding dia) (t ∷ ys) finish Q r
+    = reach NotExpected (λ d. Leads (feeding dia) (t ∷ ys) finish Q d) (leads_split (feeding dia) NotExpected xs (t ∷ ys) finish Q (start_of_part dia old) l) in
     let n : Lexeme = lexeme (sign_behind ys finish) 0 0 in
-    let o : Lands (feed_at dia r.mode t 0 n r) (λ d. Leads (feeding dia) ys finish Q d) = subst (λ (x : Fed). Lands x (λ d. Leads (feeding dia) ys finish Q d)) (whole_fed dia t 0 n r whole) (k 0 0 0) in
+    let o : Lands (feed_at dia r.mode t 0 n r) (λ d. Leads (feeding dia) ys finish Q d)
+    = subst (λ (x : Fed). Lands x (λ d. Leads (feeding dia) ys finish Q d)) (whole_fed dia t 0 n r whole) (k 0 0 0) in
     let p : Lands (feed_at dia mode.Next t 0 n r) (λ d. Leads (feeding dia) ys finish Q d) = subst (λ (z : Mode). Lands (feed_at dia z t 0 n r) (λ d. Leads (feeding dia) ys finish Q d)) m.0 o in
     landing_next r.frames t r (λ d. Leads (feeding dia) ys finish Q d) m.1 p
 
@@ -181,7 +187,8 @@ tracks_first : (dia : Dialect) (old : Names_data) → Tracks dia old [] (start_o
 tracks_first Talks old = tt
 tracks_first Acts old = follows_first old
 
-tracks_on : (dia : Dialect) (old : Names_data) (xs : List Sign) (t : Sign) (at : ℕ) (n : Lexeme) (r d : Reader_data) → Tracks dia old xs r → feed_sign (feeding dia) t at n r ≡ Ok d → Tracks dia old (xs ++ t ∷ []) d
+tracks_on : (dia : Dialect) (old : Names_data) (xs : List Sign) (t : Sign) (at : ℕ) (n : Lexeme) (r d : Reader_data) → Tracks dia old xs r → feed_sign (feeding dia) t at n r ≡ Ok d
+    → Tracks dia old (xs ++ t ∷ []) d
 tracks_on Talks old xs t at n r d k e = tt
 tracks_on Acts old xs t at n r d k e = follows_on old xs t at n r d k e
 
@@ -201,10 +208,12 @@ place_first Acts = (in_opening at_machine, refl)
 abbrev pub At : (dia : Dialect) → Names_data → List Sign → Sign → Reader_data → Type 1
 At dia old xs t r = Reached (feeding dia) (start_of_part dia old) xs t r × There dia xs × Tracks dia old xs r
 
-ahead_of : (dia : Dialect) (old : Names_data) (r : Reader_data) (xs : List Sign) (t : Sign) (n : Lexeme) (e : TextFault) → Tracks dia old xs r → Next dia old r xs t n e → Ahead (FaultAt dia old) (HasLabels dia old) r xs t n e
+ahead_of : (dia : Dialect) (old : Names_data) (r : Reader_data) (xs : List Sign) (t : Sign) (n : Lexeme) (e : TextFault) → Tracks dia old xs r → Next dia old r xs t n e
+    → Ahead (FaultAt dia old) (HasLabels dia old) r xs t n e
 ahead_of dia old r xs t n e k h = record { kind = h.kind; broken_is = h.broken_is; clear = h.clear; later = λ u. next_here dia old r xs t n u e h; left = tracks_word dia old xs t r k h.wants }
 
-says : (dia : Dialect) (old : Names_data) (x : Fed) (xs : List Sign) (t : Sign) (at : ℕ) (n : Lexeme) (r : Reader_data) → Tracks dia old xs r → Verdict dia old r xs t at n x → judging.Verdict (FaultAt dia old) (HasLabels dia old) r xs t at n x
+says : (dia : Dialect) (old : Names_data) (x : Fed) (xs : List Sign) (t : Sign) (at : ℕ) (n : Lexeme) (r : Reader_data) → Tracks dia old xs r → Verdict dia old r xs t at n x
+    → judging.Verdict (FaultAt dia old) (HasLabels dia old) r xs t at n x
 says dia old (Ok d) xs t at n r k v = v.1
 says dia old (Err e) xs t at n r k v = elim v [
   | inl h ↦ inl h
@@ -234,14 +243,18 @@ begins dia old t = (λ E Q k. k, place_first dia, tracks_first dia old)
 
 -- ---- the first fault is told, and no other one
 
-pub told : (dia : Dialect) (old : Names_data) (bytes : List ℕ) (at : ℕ) (ls : List Lexeme) (e : TextFault) → Lexed bytes at ls → read_all (feeding dia) (Ok (start_of_part dia old)) ls ≡ Err e → FirstFault dia old bytes at e.kind e.at
-told dia old bytes at ls e h f = first_of (FaultAt dia old) (HasLabels dia old) bytes at ls e (last_of (feeding dia) (start_of_part dia old) (Ok (start_of_part dia old)) ls) h (found (judges dia old) (start_of_part dia old) bytes at ls e (begins dia old) h f)
+pub told : (dia : Dialect) (old : Names_data) (bytes : List ℕ) (at : ℕ) (ls : List Lexeme) (e : TextFault) → Lexed bytes at ls → read_all (feeding dia) (Ok (start_of_part dia old)) ls ≡ Err e
+    → FirstFault dia old bytes at e.kind e.at
+told dia old bytes at ls e h f =
+    first_of (FaultAt dia old) (HasLabels dia old) bytes at ls e (last_of (feeding dia) (start_of_part dia old) (Ok (start_of_part dia old)) ls) h
+    (found (judges dia old) (start_of_part dia old) bytes at ls e (begins dia old) h f)
 
 abbrev names : List (List ℕ) → List (List ℕ) → Names_data
 names roles labels = record { roles = roles; labels = labels }
 
 -- the names that a machine leaves
-pub leaves : (old new : Names_data) (bytes : List ℕ) (at : ℕ) (ls : List Lexeme) (e : TextFault) → Lexed bytes at ls → read_all (feeding Acts) (Ok (start_of_part Acts old)) ls ≡ Err e → new.roles ≡ old.roles → (last_of (feeding Acts) (start_of_part Acts old) (Ok (start_of_part Acts old)) ls).labels ≡ new.labels → LeavesNames old new bytes at e.kind e.at
+pub leaves : (old new : Names_data) (bytes : List ℕ) (at : ℕ) (ls : List Lexeme) (e : TextFault) → Lexed bytes at ls → read_all (feeding Acts) (Ok (start_of_part Acts old)) ls ≡ Err e
+    → new.roles ≡ old.roles → (last_of (feeding Acts) (start_of_part Acts old) (Ok (start_of_part Acts old)) ls).labels ≡ new.labels → LeavesNames old new bytes at e.kind e.at
 leaves old new bytes at ls e h f roles labels =
     let x = found (judges Acts old) (start_of_part Acts old) bytes at ls e (begins Acts old) h f in (
       first_of (FaultAt Acts old) (HasLabels Acts old) bytes at ls e (last_of (feeding Acts) (start_of_part Acts old) (Ok (start_of_part Acts old)) ls) h x,
@@ -270,7 +283,8 @@ no_fault dia old bytes at a k offset h f =
     judging.no_fault (judges dia old) (start_of_part dia old) bytes at x.0 k offset f (begins dia old) x.1
 
 -- the first fault of a text is told
-pub tells : (dia : Dialect) (old : Names_data) (bytes : List ℕ) (at : ℕ) (k : TextKind) (offset : ℕ) → FirstFault dia old bytes at k offset → ReadsAs dia old bytes at (Err (record { kind = k; at = offset }))
+pub tells : (dia : Dialect) (old : Names_data) (bytes : List ℕ) (at : ℕ) (k : TextKind) (offset : ℕ) → FirstFault dia old bytes at k offset
+    → ReadsAs dia old bytes at (Err (record { kind = k; at = offset }))
 tells dia old bytes at k offset f = λ ls h. ap answer_of_reading (judging.tells (judges dia old) (start_of_part dia old) bytes at k offset (begins dia old) f ls h)
 
 -- a text has one first fault at most
@@ -279,7 +293,7 @@ one_fault dia old bytes at j k n i f g = judging.one_fault (judges dia old) (sta
 
 -- the tokens before the first fault begin a part
 pub begins_before : (dia : Dialect) (old : Names_data) (bytes : List ℕ) (at : ℕ) (k : TextKind) (offset : ℕ) (f : FirstFault dia old bytes at k offset) → Begins dia (signs_of f.before)
-begins_before dia old bytes at k offset f = begins_there dia (signs_of f.before) (there_of dia old (signs_of f.before) f.token.sign (next_of (signs_of f.others)) k f.fault)
+begins_before dia old bytes at k offset f = begins_there dia (signs_of f.before) (there_of dia old (signs_of f.before) f.token.sign (sign_after (signs_of f.others)) k f.fault)
 
 -- ---- what is expected
 
@@ -288,7 +302,9 @@ calm_name None count j e = let same : kind.UnboundName ≡ j = cc in subst NotEx
 calm_name (Some k) count j e = calm_not (nat_lt k count) kind.Unguarded j None tt (λ f. absurd (cc f)) e
 
 calm_first : (dia : Dialect) (word : List ℕ) (s : Scene) (j : TextKind) → fault_of_first dia word s ≡ Some j → NotExpected j
-calm_first dia word s j e = calm_not (is_among word s.roles) kind.UnknownRole j (if nat_le (most dia) s.acts then Some kind.TooManyNodes else None) tt (λ f. calm_if (nat_le (most dia) s.acts) kind.TooManyNodes j None tt (λ g. absurd (cc g)) f) e
+calm_first dia word s j e =
+    calm_not (is_among word s.roles) kind.UnknownRole j (if nat_le (most dia) s.acts then Some kind.TooManyNodes else None) tt
+    (λ f. calm_if (nat_le (most dia) s.acts) kind.TooManyNodes j None tt (λ g. absurd (cc g)) f) e
 
 calm_word : (dia : Dialect) (v : Sign) (f : Follower dia v) (word : List ℕ) (s : Scene) (j : TextKind) → fault_of_word dia word v s ≡ Some j → NotExpected j
 calm_word dia _ (a_turn v h) word s j e = calm_first dia word s j (sym (by_turn_fault dia v word s h) ∙ e)
@@ -318,7 +334,9 @@ calm_by dia wanted.Label _ n s j e = absurd (cc e)
 calm_by dia _ t n s j e = absurd (cc e)
 
 calm_new : (word : List ℕ) (roles : List (List ℕ)) (j : TextKind) → fault_of_new_role word roles ≡ Some j → NotExpected j
-calm_new word roles j e = calm_if (is_among word roles) kind.NameTwice j (if nat_le 16 (length roles) then Some kind.TooManyRoles else None) tt (λ f. calm_if (nat_le 16 (length roles)) kind.TooManyRoles j None tt (λ g. absurd (cc g)) f) e
+calm_new word roles j e =
+    calm_if (is_among word roles) kind.NameTwice j (if nat_le 16 (length roles) then Some kind.TooManyRoles else None) tt
+    (λ f. calm_if (nat_le 16 (length roles)) kind.TooManyRoles j None tt (λ g. absurd (cc g)) f) e
 
 calm_opening : (dia : Dialect) (old : Names_data) (o : OpeningCut dia) (t : Sign) (j : TextKind) → fault_of_opening dia o t old ≡ Some j → NotExpected j
 calm_opening Talks old at_roles t j e = absurd (cc e)
@@ -349,13 +367,15 @@ expected_at dia old xs t u w f = elim f [
 ]
 
 -- another token is expected only where the tokens begin no part with this one
-pub expected : (dia : Dialect) (old : Names_data) (bytes : List ℕ) (at : ℕ) (w : Wanted) (offset : ℕ) (f : FirstFault dia old bytes at (kind.Expected w) offset) → IsUnexpected dia (signs_of f.before) f.token.sign w
-expected dia old bytes at w offset f = expected_at dia old (signs_of f.before) f.token.sign (next_of (signs_of f.others)) w f.fault
+pub expected : (dia : Dialect) (old : Names_data) (bytes : List ℕ) (at : ℕ) (w : Wanted) (offset : ℕ) (f : FirstFault dia old bytes at (kind.Expected w) offset)
+    → IsUnexpected dia (signs_of f.before) f.token.sign w
+expected dia old bytes at w offset f = expected_at dia old (signs_of f.before) f.token.sign (sign_after (signs_of f.others)) w f.fault
 
 -- a fault of a machine leaves one list of names
 pub one_left : (old new other : Names_data) (bytes : List ℕ) (at : ℕ) (j k : TextKind) (n o : ℕ) → LeavesNames old new bytes at j n → LeavesNames old other bytes at k o → new ≡ other
 one_left old new other bytes at j k n o x y =
     let f : FirstFault Acts old bytes at j n = x.0 in
     let g : FirstFault Acts old bytes at k o = y.0 in
-    let same = same_place (FaultAt Acts old) f.before g.before f.token g.token f.others g.others [] j k (one_list bytes (f.before ++ f.token ∷ f.others) (g.before ++ g.token ∷ g.others) at f.lexed g.lexed) f.fault f.clear g.fault g.clear in
+    let same = same_place (FaultAt Acts old) f.before g.before f.token g.token f.others g.others [] j k
+    (one_list bytes (f.before ++ f.token ∷ f.others) (g.before ++ g.token ∷ g.others) at f.lexed g.lexed) f.fault f.clear g.fault g.clear in
     x.1 ∙ ap (λ z. names_behind old (signs_of z)) same.0 ∙ sym y.1

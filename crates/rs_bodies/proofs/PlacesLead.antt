@@ -41,5 +41,6 @@ spelt_leads dia places root s =
     let size : places_in s.spelling ≡ length places = sym (ap length s.places_are ∙ count s.spelling) in
     record {
       start = subst (λ (z : ℕ). z < length places) (sym s.root_is) (subst (λ (z : ℕ). s.spelling.start < z) size inside.start);
-      heads = λ n p e. subst (λ (z : ℕ). PointLeads (length s.new.roles) z p) size (inside.points n p (point_there s.spelling.points s.spelling.ended n p (ap (λ z. slice_get z n) (sym s.places_are) ∙ e)));
+      heads = λ n p e. subst (λ (z : ℕ). PointLeads (length s.new.roles) z p) size
+          (inside.points n p (point_there s.spelling.points s.spelling.ended n p (ap (λ z. slice_get z n) (sym s.places_are) ∙ e)));
     }

@@ -20,10 +20,11 @@ use Rattle.rs_bodies.specs.declared.reading.Mode.{Mode}
 use Rattle.rs_bodies.specs.declared.reading.Mode.TheVariants as mode
 use Rattle.rs_bodies.specs.Data.{Reader_data}
 use Rattle.rs_bodies.specs.Dialects.{most, turns}
-use Rattle.rs_bodies.specs.Feeding.{Fed, in_mode, reader_behind_link, reader_at_head, reader_in_braces, feed_new_head, feed_head_role, role_by, new_role, feed_role, feed_line, feed_at, feed_turn, feed_word, feed_body, feed_receiver_role, feed_receiver, feed_bound_name, feed_next, feed_arms, feed_single, in_message, feeding}
+use Rattle.rs_bodies.specs.Feeding.{Fed, in_mode, reader_behind_link, reader_at_head, reader_in_braces, feed_new_head, feed_head_role, role_by, new_role, feed_role, feed_line, feed_at, feed_turn}
+use Rattle.rs_bodies.specs.Feeding.{feed_word, feed_body, feed_receiver_role, feed_receiver, feed_bound_name, feed_next, feed_arms, feed_single, in_message, feeding}
 use Rattle.rs_text.proofs.Keeping.{Below, StaysBelow}
 use Rattle.rs_text.proofs.MessageLaws.{label_below, message_below}
-use Rattle.rs_text.specs.Messages.{Message, goes_on, ends, feed_label, feed_message}
+use Rattle.rs_text.specs.Messages.{MessageFed, goes_on, ends, feed_label, feed_message}
 
 below_if : (n : ℕ) (c : Bool) (e : TextFault) (x : Fed) → e.at ≤ n → IfErr x (Below n) → IfErr (cond c (Err e) x) (Below n)
 below_if n true e x h k = h
@@ -39,9 +40,12 @@ either n false x y h k = k
 
 at_new_role : (n : ℕ) (m : Mode) (o : Option (List ℕ)) (at : ℕ) (r : Reader_data) → at ≤ n → IfErr (new_role m o at r) (Below n)
 at_new_role n m None at r h = h
-at_new_role n m (Some w) at r h = below_if n (is_among w r.roles) (record { kind = kind.NameTwice; at = at }) _ h (below_if n (nat_le 16 (length r.roles)) (record { kind = kind.TooManyRoles; at = at }) (Ok (record r { roles = r.roles ++ w ∷ []; mode = m })) h tt)
+at_new_role n m (Some w) at r h =
+    below_if n (is_among w r.roles) (record { kind = kind.NameTwice; at = at }) _ h
+    (below_if n (nat_le 16 (length r.roles)) (record { kind = kind.TooManyRoles; at = at }) (Ok (record r { roles = r.roles ++ w ∷ []; mode = m })) h tt)
 
-at_protocol : (n : ℕ) (t : Sign) (at : ℕ) (r : Reader_data) → at ≤ n → IfErr (cond (is_text (codes "protocol") (plain_text t)) (in_mode (mode.Body link.Start) r) (Err (record { kind = kind.Expected wanted.CommaOrProtocol; at = at }))) (Below n)
+at_protocol : (n : ℕ) (t : Sign) (at : ℕ) (r : Reader_data) → at ≤ n
+    → IfErr (cond (is_text (codes "protocol") (plain_text t)) (in_mode (mode.Body link.Start) r) (Err (record { kind = kind.Expected wanted.CommaOrProtocol; at = at }))) (Below n)
 at_protocol n t at r h = below_unless n (is_text (codes "protocol") (plain_text t)) (record { kind = kind.Expected wanted.CommaOrProtocol; at = at }) (in_mode (mode.Body link.Start) r) h tt
 
 at_line : (n : ℕ) (t : Sign) (at : ℕ) (r : Reader_data) → at ≤ n → IfErr (feed_line t at r) (Below n)
@@ -56,7 +60,7 @@ at_own : (n : ℕ) (o : Option (List ℕ)) (at : ℕ) (r : Reader_data) → at �
 at_own n None at r h = h
 at_own n (Some w) at r h = at_role_by n (place_of w r.roles) at r h
 
-at_message : (n : ℕ) (act : ℕ) (x : Result Message TextFault) (r : Reader_data) → IfErr x (Below n) → IfErr (in_message act x r) (Below n)
+at_message : (n : ℕ) (act : ℕ) (x : Result MessageFed TextFault) (r : Reader_data) → IfErr x (Below n) → IfErr (in_message act x r) (Below n)
 at_message n act (Err e) r h = h
 at_message n act (Ok (goes_on labels p)) r h = tt
 at_message n act (Ok (ends l s)) r h = tt
@@ -80,7 +84,9 @@ at_named n (Some k) from at r h = below_unless n (nat_lt k (length r.drafts)) (r
 
 at_word : (dia : Dialect) (n : ℕ) (from : Link) (w : List ℕ) (s : Sign) (at next : ℕ) (r : Reader_data) → at ≤ n → next ≤ n → IfErr (feed_word dia from w s at next r) (Below n)
 at_word dia n from w (broken j) at next r h k = k
-at_word dia n from w s at next r h k = either n (turns dia s) (feed_head_role dia (place_of w r.roles) from at r) (feed_bound_name (nearest_binding w r.bound) from at r) (at_met dia n (place_of w r.roles) from at r h) (at_named n (nearest_binding w r.bound) from at r h)
+at_word dia n from w s at next r h k =
+    either n (turns dia s) (feed_head_role dia (place_of w r.roles) from at r) (feed_bound_name (nearest_binding w r.bound) from at r) (at_met dia n (place_of w r.roles) from at r h)
+    (at_named n (nearest_binding w r.bound) from at r h)
 
 at_body : (dia : Dialect) (n : ℕ) (from : Link) (t : Sign) (at : ℕ) (next : Lexeme) (r : Reader_data) → at ≤ n → next.from ≤ n → IfErr (feed_body dia from t at next r) (Below n)
 at_body dia n from rec_word at next r h k = below_if n (nat_le 200 r.depth) _ _ h tt

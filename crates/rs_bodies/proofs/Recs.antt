@@ -3,12 +3,12 @@ use Rattle.std.proofs.Common.{◌≡◌, ℕ, zero, suc, ◌+◌, ◌<◌, ◌�
 use Rattle.std.specs.Str.{bytes_eq}
 use Rattle.std.proofs.lemmas.Bool.{eqb-true}
 use Rattle.rs_model.specs.declared.graph.Arm.{Arm}
-use Rattle.rs_text.specs.Names.{Bound, nearest_binding}
+use Rattle.rs_text.specs.Names.{BoundNames, nearest_binding}
 use Rattle.rs_text.proofs.Basics.{some_is, any_stands, drop_get}
 use Rattle.rs_bodies.specs.declared.dialects.Dialect.{Dialect}
 use Rattle.rs_bodies.specs.declared.places.Place.{Place}
 use Rattle.rs_bodies.specs.declared.places.Place.TheVariants as place
-use Rattle.rs_bodies.specs.Graph.{acts_in, acts_in_arms, Numbering, first_of, arm_of, arms_of}
+use Rattle.rs_bodies.specs.Graph.{acts_in, acts_in_arms, Numbering, first_of, arm_spelt, arms_of}
 use Rattle.rs_bodies.specs.Places.{choice, end_of, IsGoneBackTo}
 use Rattle.rs_bodies.specs.Shapes.{leads_to, place_leads, leads_from}
 use Rattle.rs_bodies.specs.Trees.{Body, ends, again, binds, acts, offers, Branches, one, more}
@@ -52,8 +52,10 @@ more_good good n a arms f g zero arm e le = let same : a ≡ arm = some_is a arm
 more_good good n a arms f g (suc index) arm e le = g index arm e le
 
 mutual
-  backs : (dia : Dialect) (m : Numbering) (good : ℕ → Bool) (t : Body dia) (bound : Bound) (here : Bool) (k : ℕ) → k + acts_in dia t ≤ m.last → Named dia t bound k → Low bound k → ((v : ℕ) → k ≤ v → v < k + acts_in dia t → rec_at dia t here k v ≡ true → good v ≡ true)
-      → ((x : List ℕ) (v : ℕ) → nearest_binding x bound ≡ Some v → v < k → good v ≡ true) → ((x : List ℕ) (v : ℕ) → nearest_binding x bound ≡ Some v → v ≡ k → here ≡ true) → Backs good k (places_in m t bound k)
+  backs : (dia : Dialect) (m : Numbering) (good : ℕ → Bool) (t : Body dia) (bound : BoundNames) (here : Bool) (k : ℕ) → k + acts_in dia t ≤ m.last → Named dia t bound k → Low bound k
+      → ((v : ℕ) → k ≤ v → v < k + acts_in dia t → rec_at dia t here k v ≡ true → good v ≡ true)
+      → ((x : List ℕ) (v : ℕ) → nearest_binding x bound ≡ Some v → v < k → good v ≡ true) → ((x : List ℕ) (v : ℕ) → nearest_binding x bound ≡ Some v → v ≡ k → here ≡ true)
+      → Backs good k (places_in m t bound k)
   backs dia m good ends bound here k end named low f before at = tt
   backs dia m good (again x) bound here k end named low f before at = tt
   backs dia m good (binds x b) bound here k end named low f before at =
@@ -61,29 +63,40 @@ mutual
       (λ y v e lt. same_name (bytes_eq x y) k v (nearest_binding y bound) e (λ same. absurd (omega arith)) (λ g. before y v g lt)) (λ y v e same. refl)
   backs dia m good (acts s r l sort b) bound here k end named low f before at =
       let names : NamesGood good bound k = good_behind good bound here k before at (λ h. f k (omega arith) (omega arith) (at_self k here (rec_at dia b false (suc k) k) ∙ h)) in (
-        one_good good k (arm_of m l sort (first_of dia b bound (suc k) m.last)) (lead_good dia good b bound k (suc k) m.last named names (omega arith) (omega arith)),
-        backs dia m good b bound false (suc k) (omega arith) named (low_up bound k (suc k) (omega arith) low) (λ v le lt h. f v (omega arith) (omega arith) (at_later v k here (rec_at dia b false (suc k) v) (omega arith) ∙ h))
+        one_good good k (arm_spelt m l sort (first_of dia b bound (suc k) m.last)) (lead_good dia good b bound k (suc k) m.last named names (omega arith) (omega arith)),
+        backs dia m good b bound false (suc k) (omega arith) named (low_up bound k (suc k) (omega arith) low)
+            (λ v le lt h. f v (omega arith) (omega arith) (at_later v k here (rec_at dia b false (suc k) v) (omega arith) ∙ h))
             (λ x v e lt. names x v e (omega arith)) (λ x v e same. let lt : v < k + 1 = low x v e in absurd (omega arith)),
       )
   backs dia m good (offers s r arms) bound here k end named low f before at =
       let names : NamesGood good bound k = good_behind good bound here k before at (λ h. f k (omega arith) (omega arith) (at_self k here (recs_at dia arms (suc k) k) ∙ h)) in (
         arms_good dia m good arms bound k (suc k) (omega arith) (omega arith) named names,
-        backs_arms dia m good arms bound k (suc k) (omega arith) (omega arith) named low (λ v le lt h. f v (omega arith) (omega arith) (at_later v k here (recs_at dia arms (suc k) v) (omega arith) ∙ h)) names,
+        backs_arms dia m good arms bound k (suc k) (omega arith) (omega arith) named low
+            (λ v le lt h. f v (omega arith) (omega arith) (at_later v k here (recs_at dia arms (suc k) v) (omega arith) ∙ h)) names,
       )
 
-  arms_good : (dia : Dialect) (m : Numbering) (good : ℕ → Bool) (arms : Branches dia) (bound : Bound) (n j : ℕ) → n < j → j + acts_in_arms dia arms ≤ m.last → NamedArms dia arms bound j → NamesGood good bound n → BackGood good n (arms_of dia m arms bound j)
-  arms_good dia m good (one l sort b) bound n j lt end named names = one_good good n (arm_of m l sort (first_of dia b bound j m.last)) (lead_good dia good b bound n j m.last named names lt (omega arith))
+  arms_good : (dia : Dialect) (m : Numbering) (good : ℕ → Bool) (arms : Branches dia) (bound : BoundNames) (n j : ℕ) → n < j → j + acts_in_arms dia arms ≤ m.last → NamedArms dia arms bound j
+      → NamesGood good bound n → BackGood good n (arms_of dia m arms bound j)
+  arms_good dia m good (one l sort b) bound n j lt end named names =
+      one_good good n (arm_spelt m l sort (first_of dia b bound j m.last)) (lead_good dia good b bound n j m.last named names lt (omega arith))
   arms_good dia m good (more l sort b arms) bound n j lt end named names =
-      more_good good n (arm_of m l sort (first_of dia b bound j m.last)) (arms_of dia m arms bound (j + acts_in dia b)) (lead_good dia good b bound n j m.last named.0 names lt (omega arith)) (arms_good dia m good arms bound n (j + acts_in dia b) (omega arith) (omega arith) named.1 names)
+      more_good good n (arm_spelt m l sort (first_of dia b bound j m.last)) (arms_of dia m arms bound (j + acts_in dia b)) (lead_good dia good b bound n j m.last named.0 names lt (omega arith))
+      (arms_good dia m good arms bound n (j + acts_in dia b) (omega arith) (omega arith) named.1 names)
 
-  backs_arms : (dia : Dialect) (m : Numbering) (good : ℕ → Bool) (arms : Branches dia) (bound : Bound) (n j : ℕ) → n < j → j + acts_in_arms dia arms ≤ m.last → NamedArms dia arms bound j → Low bound n → ((v : ℕ) → j ≤ v → v < j + acts_in_arms dia arms → recs_at dia arms j v ≡ true → good v ≡ true) → NamesGood good bound n
+  backs_arms : (dia : Dialect) (m : Numbering) (good : ℕ → Bool) (arms : Branches dia) (bound : BoundNames) (n j : ℕ) → n < j → j + acts_in_arms dia arms ≤ m.last → NamedArms dia arms bound j
+      → Low bound n
+      → ((v : ℕ) → j ≤ v → v < j + acts_in_arms dia arms → recs_at dia arms j v ≡ true → good v ≡ true) → NamesGood good bound n
       → Backs good j (places_in_arms m arms bound j)
   backs_arms dia m good (one l sort b) bound n j lt end named low f names =
-      backs dia m good b bound false j end named (low_up bound n j (omega arith) low) f (λ x v e i. let le : v < n + 1 = low x v e in names x v e (omega arith)) (λ x v e same. let le : v < n + 1 = low x v e in absurd (omega arith))
+      backs dia m good b bound false j end named (low_up bound n j (omega arith) low) f (λ x v e i. let le : v < n + 1 = low x v e in names x v e (omega arith))
+      (λ x v e same. let le : v < n + 1 = low x v e in absurd (omega arith))
   backs_arms dia m good (more l sort b arms) bound n j lt end named low f names =
       backs_append good (places_in m b bound j) (places_in_arms m arms bound (j + acts_in dia b)) j (j + acts_in dia b) (ap (λ z. j + z) (places_length m b bound j))
-      (backs dia m good b bound false j (omega arith) named.0 (low_up bound n j (omega arith) low) (λ v le i h. f v le (omega arith) (in_first v (j + acts_in dia b) (rec_at dia b false j v) (recs_at dia arms (j + acts_in dia b) v) i ∙ h)) (λ x v e i. let le : v < n + 1 = low x v e in names x v e (omega arith)) (λ x v e same. let le : v < n + 1 = low x v e in absurd (omega arith)))
-      (backs_arms dia m good arms bound n (j + acts_in dia b) (omega arith) (omega arith) named.1 low (λ v le i h. f v (omega arith) (omega arith) (in_rest v (j + acts_in dia b) (rec_at dia b false j v) (recs_at dia arms (j + acts_in dia b) v) le ∙ h)) names)
+      (backs dia m good b bound false j (omega arith) named.0 (low_up bound n j (omega arith) low)
+      (λ v le i h. f v le (omega arith) (in_first v (j + acts_in dia b) (rec_at dia b false j v) (recs_at dia arms (j + acts_in dia b) v) i ∙ h))
+      (λ x v e i. let le : v < n + 1 = low x v e in names x v e (omega arith)) (λ x v e same. let le : v < n + 1 = low x v e in absurd (omega arith)))
+      (backs_arms dia m good arms bound n (j + acts_in dia b) (omega arith) (omega arith) named.1 low
+      (λ v le i h. f v (omega arith) (omega arith) (in_rest v (j + acts_in dia b) (rec_at dia b false j v) (recs_at dia arms (j + acts_in dia b) v) le ∙ h)) names)
 
 end_backs : (good : ℕ → Bool) (n : ℕ) (c : Bool) → Backs good n (end_of c)
 end_backs good n true = (tt, tt)
@@ -101,10 +114,12 @@ all_back : (dia : Dialect) (m : Numbering) (t : Body dia) (c : Bool) → m.last 
 all_back dia m t c last named =
     let good : ℕ → Bool = rec_at dia t false 0 in
     backs_append good (places_in m t [] 0) (end_of c) 0 (0 + length (places_in m t [] 0)) refl
-    (backs dia m good t [] false 0 (omega arith) named (λ x v h. absurd (cc h)) (λ v le lt h. h) (λ x v h lt. absurd (cc h)) (λ x v h same. absurd (cc h))) (end_backs good (0 + length (places_in m t [] 0)) c)
+    (backs dia m good t [] false 0 (omega arith) named (λ x v h. absurd (cc h)) (λ v le lt h. h) (λ x v h lt. absurd (cc h)) (λ x v h same. absurd (cc h)))
+    (end_backs good (0 + length (places_in m t [] 0)) c)
 
 -- a rec stands in front of each head of the body that is gone back to among its places
-pub body_recs : (dia : Dialect) (m : Numbering) (places : List Place) (t : Body dia) (c : Bool) → places ≡ places_in m t [] 0 ++ end_of c → m.last ≡ acts_in dia t → Named dia t [] 0 → Recs dia (λ v. leads_from places v v) t false 0
+pub body_recs : (dia : Dialect) (m : Numbering) (places : List Place) (t : Body dia) (c : Bool) → places ≡ places_in m t [] 0 ++ end_of c → m.last ≡ acts_in dia t → Named dia t [] 0
+    → Recs dia (λ v. leads_from places v v) t false 0
 body_recs dia m places t c e last named =
     let good : ℕ → Bool = rec_at dia t false 0 in
     let all : Backs good 0 (places_in m t [] 0 ++ end_of c) = all_back dia m t c last named in
@@ -113,8 +128,9 @@ body_recs dia m places t c e last named =
     let there : slice_get places (v + f.0) ≡ Some f.1 = sym (drop_get Place v places f.0) ∙ f.2 in
     led_good good (0 + (v + f.0)) v f.1 (omega arith) f.3 (backs_at good (places_in m t [] 0 ++ end_of c) 0 (v + f.0) f.1 all (ap (λ z. slice_get z (v + f.0)) (sym e) ∙ there)))
 
--- .. and by the flags of its places
-pub tree_recs : {dia : Dialect} (m : Numbering) (p : List Place) (t : Body dia) (c : Bool) → p ≡ places_in m t [] 0 ++ end_of c → m.last ≡ acts_in dia t → Named dia t [] 0 → Recs dia (goes_back p) t false 0
+-- a rec stands in front of each head that is gone back to, by the flags of its places
+pub tree_recs : {dia : Dialect} (m : Numbering) (p : List Place) (t : Body dia) (c : Bool) → p ≡ places_in m t [] 0 ++ end_of c → m.last ≡ acts_in dia t → Named dia t [] 0
+    → Recs dia (goes_back p) t false 0
 tree_recs {dia} m p t c e last named =
     let good : ℕ → Bool = rec_at dia t false 0 in
     let all : Backs good 0 (places_in m t [] 0 ++ end_of c) = all_back dia m t c last named in

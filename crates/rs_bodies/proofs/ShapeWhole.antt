@@ -1,5 +1,6 @@
 -- The walk goes to its end exactly where some body spells the places.
-use Rattle.std.proofs.Common.{◌≡◌, ℕ, zero, suc, ◌+◌, ◌-◌, ◌≤◌, ◌↔◌, List, [], ◌∷◌, ◌++◌, length, map, drop, Bool, true, false, not, ◌==◌, ◌||◌, if◌then◌else◌, nat_le, Option, Some, None, inl, inr, refl, sym, ap, ◌∙◌, arith, slice_get, append-nil, length-append}
+use Rattle.std.proofs.Common.{◌≡◌, ℕ, zero, suc, ◌+◌, ◌-◌, ◌≤◌, ◌↔◌, List, [], ◌∷◌, ◌++◌, length, map, drop, Bool, true, false, not, ◌==◌, ◌||◌, if◌then◌else◌, nat_le, Option, Some, None, inl, inr}
+use Rattle.std.proofs.Common.{refl, sym, ap, ◌∙◌, arith, slice_get, append-nil, length-append}
 use Rattle.std.proofs.lemmas.List.{drop_all}
 use Rattle.std.proofs.lemmas.Bool.{eq-eqb, eqb-true, le-leb, leb-true}
 use Rattle.std.specs.Bool.{IsTrue}
@@ -17,7 +18,7 @@ use Rattle.rs_text.specs.Words.{is_word, is_role_word}
 use Rattle.rs_bodies.specs.declared.dialects.Dialect.{Dialect}
 use Rattle.rs_bodies.specs.declared.places.Place.{Place}
 use Rattle.rs_bodies.specs.declared.places.Place.TheVariants as place
-use Rattle.rs_bodies.specs.declared.shapes.Walk.{Walk}
+use Rattle.rs_bodies.specs.declared.shapes.HeadsMet.{HeadsMet}
 use Rattle.rs_bodies.specs.Bodied.{numbering_behind, SpellsPlaces, HasBody}
 use Rattle.rs_bodies.specs.Data.{Point_data}
 use Rattle.rs_bodies.specs.Dialects.{most}
@@ -81,10 +82,12 @@ true_same true b e = sym e
 true_same false true e = absurd (cc e)
 true_same false false e = refl
 
-whole_by : (places : List Place) (count labels : ℕ) (ended : Bool) → count ≡ number_of_end places → ended ≡ ends_last places → is_whole places (Some (record { count = count; labels = labels; ended = ended })) ≡ true
+whole_by : (places : List Place) (count labels : ℕ) (ended : Bool) → count ≡ number_of_end places → ended ≡ ends_last places
+    → is_whole places (Some (record { count = count; labels = labels; ended = ended })) ≡ true
 whole_by places count labels ended e f = rw (eq-eqb count (number_of_end places) e) (same_true ended (ends_last places) f)
 
-walked_by : (dia : Dialect) (p : Outline) (start labels : ℕ) (o : Option Walk) → number_of_end p.places ≤ most dia → walk_from dia p start labels ≡ o → is_whole p.places o ≡ true → is_walked dia p start labels ≡ true
+walked_by : (dia : Dialect) (p : Outline) (start labels : ℕ) (o : Option HeadsMet) → number_of_end p.places ≤ most dia → walk_from dia p start labels ≡ o → is_whole p.places o ≡ true
+    → is_walked dia p start labels ≡ true
 walked_by dia p start labels o few e w = rw (le-leb (number_of_end p.places) (most dia) few) (ap (is_whole p.places) e ∙ w)
 
 end_leads : (c : Bool) (v : ℕ) → list_any (place_leads v) (end_of c) ≡ false
@@ -94,7 +97,8 @@ end_leads false v = refl
 abbrev outlined : ℕ → List Place → Outline
 outlined roles places = record { roles = roles; places = places }
 
-body_walked : (dia : Dialect) (old : Names_data) (b : Body dia) (roles labels : ℕ) (places : List Place) → body_fits dia b (first_scene old.roles old.labels) ≡ true → length old.roles ≤ roles → length old.labels ≤ labels → length old.labels ≤ MOST_LABELS
+body_walked : (dia : Dialect) (old : Names_data) (b : Body dia) (roles labels : ℕ) (places : List Place) → body_fits dia b (first_scene old.roles old.labels) ≡ true → length old.roles ≤ roles
+    → length old.labels ≤ labels → length old.labels ≤ MOST_LABELS
     → places ≡ map place.Point (points_of dia (numbering_behind dia old b) b [] 0) ++ end_of (has_end dia b) → is_walked dia (outlined roles places) (first_of dia b [] 0 (acts_in dia b)) labels ≡ true
 body_walked dia old b roles labels places fits few_roles few_labels room e =
     let m : Numbering = numbering_behind dia old b in
@@ -109,8 +113,10 @@ body_walked dia old b roles labels places fits few_roles few_labels room e =
     let named : Named dia b [] 0 = fits_named dia b (first_scene old.roles old.labels) fits in
     let recs : Recs dia (λ v. leads_from places v v) b false 0 = body_recs dia m places b c all refl named in
     let start : ℕ = first_of dia b [] 0 (acts_in dia b) in
-    let run : walk_behind_next (walk_behind_head (suc (number_of_end places)) dia p 0) (acts_in dia b) 0 start (record { count = 0; labels = top labels (length old.labels); ended = false }) ≡ Some (record { count = 0 + acts_in dia b; labels = top labels (length (names_with old.labels (labels_of dia b))); ended = false || c }) =
-    goes dia m p (record { roles = few_roles; last = last }) labels b (suc (number_of_end places)) [] false 0 0 0 0 false old.labels [] [] (end_of c) all refl (omega arith) (omega arith) (omega arith) (omega arith) (omega arith) (λ h. absurd (cc h)) fits room recs
+    let run : walk_behind_next (walk_behind_head (suc (number_of_end places)) dia p 0) (acts_in dia b) 0 start (record { count = 0; labels = top labels (length old.labels); ended = false }) ≡ Some
+    (record { count = 0 + acts_in dia b; labels = top labels (length (names_with old.labels (labels_of dia b))); ended = false || c }) =
+    goes dia m p (record { roles = few_roles; last = last }) labels b (suc (number_of_end places)) [] false 0 0 0 0 false old.labels [] [] (end_of c) all refl (omega arith) (omega arith) (omega arith)
+    (omega arith) (omega arith) (λ h. absurd (cc h)) fits room recs
     named (λ x n h. absurd (cc h)) (λ x n h lt. lt) refl (λ v lo hi. end_leads c v) in
     walked_by dia p start labels (Some (record { count = 0 + acts_in dia b; labels = top labels (length (names_with old.labels (labels_of dia b))); ended = false || c })) (omega arith)
     (ap (λ z. walk_behind_next (walk_behind_head (suc (number_of_end places)) dia p 0) z 0 start (start_of_walk labels)) last
@@ -139,12 +145,12 @@ drop_last places = elim (true_or_false (ends_last places)) [
 
 record Walked (dia : Dialect) (p : Outline) (start labels : ℕ) : Type 0 where
   small : number_of_end p.places ≤ most dia
-  end : Walk
+  end : HeadsMet
   run : walk_from dia p start labels ≡ Some end
   count : end.count ≡ number_of_end p.places
   ended : end.ended ≡ ends_last p.places
 
-some_end : (places : List Place) (o : Option Walk) → is_whole places o ≡ true → (u : Walk) × (o ≡ Some u) × (u.count ≡ number_of_end places) × (u.ended ≡ ends_last places)
+some_end : (places : List Place) (o : Option HeadsMet) → is_whole places o ≡ true → (u : HeadsMet) × (o ≡ Some u) × (u.count ≡ number_of_end places) × (u.ended ≡ ends_last places)
 some_end places None h = absurd (cc h)
 some_end places (Some u) h =
     let q = both (u.count == number_of_end places) (same_bool u.ended (ends_last places)) h in
@@ -164,19 +170,29 @@ names_by roles labels = record { roles = plain_names 82 roles; labels = plain_na
 
 names_sound : (roles labels : ℕ) → roles ≤ MOST_ROLES → labels ≤ MOST_LABELS → IsSound (names_by roles labels)
 names_sound roles labels few room =
-    (decides_sound (names_by roles labels)).0 (rw (plain_differ 82 roles (omega arith), plain_differ 108 labels (omega arith), plain_all is_role_word 82 roles (λ i lt. plain_role i (omega arith)), plain_all is_word 108 labels (λ i lt. plain_label i (omega arith))) refl)
+    (decides_sound (names_by roles labels)).0
+    (rw (
+      plain_differ 82 roles (omega arith),
+      plain_differ 108 labels (omega arith),
+      plain_all is_role_word 82 roles (λ i lt. plain_role i (omega arith)),
+      plain_all is_word 108 labels
+          (λ i lt. plain_label i (omega arith)),
+    ) refl)
 
 walked_body : (dia : Dialect) (p : Outline) (start labels : ℕ) → p.roles ≤ MOST_ROLES → labels ≤ MOST_LABELS → Walked dia p start labels → HasBody dia p.roles labels p.places start
 walked_body dia p start labels few room w =
     let low : most dia ≤ MOST_TALKS = most_small dia in
     let under : number_of_end p.places ≤ most dia = w.small in
-    let small : Small dia p = record { roles = few; last = under; few = omega arith } in
-    let g : Grown dia p [] 0 (start_of_walk labels) w.end start = met_grown dia p [] 0 (walk_behind_head (suc (number_of_end p.places)) dia p 0) 0 start (start_of_walk labels) w.end small (visited_grown dia (suc (number_of_end p.places)) p [] 0 small) (omega arith) (omega arith) room (λ v lt e. absurd (omega arith)) (λ lt. absurd (omega arith)) w.run in
+    let small : Small dia p = record { roles = few; last = under; bounded = omega arith } in
+    let g : Grown dia p [] 0 (start_of_walk labels) w.end start
+    = met_grown dia p [] 0 (walk_behind_head (suc (number_of_end p.places)) dia p 0) 0 start (start_of_walk labels) w.end small (visited_grown dia (suc (number_of_end p.places)) p [] 0 small)
+    (omega arith) (omega arith) room (λ v lt e. absurd (omega arith)) (λ lt. absurd (omega arith)) w.run in
     let old : Names_data = names_by p.roles labels in
     let count : w.end.count ≡ number_of_end p.places = w.count in
     let counts : 0 + acts_in dia g.body ≡ w.end.count = g.counts in
     let heads_are : acts_in dia g.body ≡ number_of_end p.places = omega arith in
-    let same : numbering_behind dia old g.body ≡ numbers p w.end.labels = ap (λ z. numbering_by old.roles z (acts_in dia g.body)) g.labels ∙ ap (λ z. numbering_by old.roles (plain_names 108 w.end.labels) z) heads_are in
+    let same : numbering_behind dia old g.body ≡ numbers p w.end.labels
+    = ap (λ z. numbering_by old.roles z (acts_in dia g.body)) g.labels ∙ ap (λ z. numbering_by old.roles (plain_names 108 w.end.labels) z) heads_are in
     let end : has_end dia g.body ≡ ends_last p.places = sym g.ended ∙ w.ended in
     record {
       old = old;
@@ -195,14 +211,18 @@ walked_body dia p start labels few room w =
       };
     }
 
-pub walked_has_body : (dia : Dialect) (roles start labels : ℕ) (places : List Place) → roles ≤ MOST_ROLES → labels ≤ MOST_LABELS → is_walked dia (outlined roles places) start labels ≡ true → HasBody dia roles labels places start
+pub walked_has_body : (dia : Dialect) (roles start labels : ℕ) (places : List Place) → roles ≤ MOST_ROLES → labels ≤ MOST_LABELS → is_walked dia (outlined roles places) start labels ≡ true
+    → HasBody dia roles labels places start
 walked_has_body dia roles start labels places few room h = walked_body dia (outlined roles places) start labels few room (walk_ends dia (outlined roles places) start labels h)
 
 -- what a body spells with no more names is walked
-pub spelt_is_walked : (dia : Dialect) (old : Names_data) (b : Body dia) (roles start labels : ℕ) (places : List Place) → length old.roles ≤ roles → length old.labels ≤ labels → labels ≤ MOST_LABELS → SpellsPlaces dia old b places start → is_walked dia (outlined roles places) start labels ≡ true
-spelt_is_walked dia old b roles start labels places few_roles few_labels room s = ap (λ z. is_walked dia (outlined roles places) z labels) s.start_is ∙ body_walked dia old b roles labels places s.fits few_roles few_labels (omega arith) s.places_are
+pub spelt_is_walked : (dia : Dialect) (old : Names_data) (b : Body dia) (roles start labels : ℕ) (places : List Place) → length old.roles ≤ roles → length old.labels ≤ labels → labels ≤ MOST_LABELS
+    → SpellsPlaces dia old b places start → is_walked dia (outlined roles places) start labels ≡ true
+spelt_is_walked dia old b roles start labels places few_roles few_labels room s =
+    ap (λ z. is_walked dia (outlined roles places) z labels) s.start_is ∙ body_walked dia old b roles labels places s.fits few_roles few_labels (omega arith) s.places_are
 
-pub walked_exactly : (dia : Dialect) (roles start labels : ℕ) (places : List Place) → roles ≤ MOST_ROLES → labels ≤ MOST_LABELS → IsTrue (is_walked dia (outlined roles places) start labels) ↔ HasBody dia roles labels places start
+pub walked_exactly : (dia : Dialect) (roles start labels : ℕ) (places : List Place) → roles ≤ MOST_ROLES → labels ≤ MOST_LABELS
+    → IsTrue (is_walked dia (outlined roles places) start labels) ↔ HasBody dia roles labels places start
 walked_exactly dia roles start labels places few room = (
   walked_has_body dia roles start labels places few room,
   λ b.
@@ -212,5 +232,7 @@ walked_exactly dia roles start labels places few room = (
 )
 
 -- what a body spells, a body of words spells, with any greater number of names before it
-pub spelt_has_body : (dia : Dialect) (old : Names_data) (b : Body dia) (roles start labels : ℕ) (places : List Place) → length old.roles ≤ roles → length old.labels ≤ labels → roles ≤ MOST_ROLES → labels ≤ MOST_LABELS → SpellsPlaces dia old b places start → HasBody dia roles labels places start
-spelt_has_body dia old b roles start labels places few_roles few_labels few room s = walked_has_body dia roles start labels places few room (spelt_is_walked dia old b roles start labels places few_roles few_labels room s)
+pub spelt_has_body : (dia : Dialect) (old : Names_data) (b : Body dia) (roles start labels : ℕ) (places : List Place) → length old.roles ≤ roles → length old.labels ≤ labels → roles ≤ MOST_ROLES
+    → labels ≤ MOST_LABELS → SpellsPlaces dia old b places start → HasBody dia roles labels places start
+spelt_has_body dia old b roles start labels places few_roles few_labels few room s =
+    walked_has_body dia roles start labels places few room (spelt_is_walked dia old b roles start labels places few_roles few_labels room s)

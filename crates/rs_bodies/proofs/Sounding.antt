@@ -19,7 +19,8 @@ use Rattle.rs_bodies.specs.declared.reading.Mode.{Mode}
 use Rattle.rs_bodies.specs.declared.reading.Mode.TheVariants as mode
 use Rattle.rs_bodies.specs.Data.{Reader_data, Draft_data}
 use Rattle.rs_bodies.specs.Dialects.{most, turns}
-use Rattle.rs_bodies.specs.Feeding.{Fed, in_mode, reader_behind_link, reader_at_head, feed_new_head, feed_head_role, role_by, new_role, feed_role, feed_line, feed_at, feed_turn, feed_word, feed_body, feed_receiver_role, feed_receiver, feed_bound_name, feed_next, feed_arms, feed_single, in_message, feeding}
+use Rattle.rs_bodies.specs.Feeding.{Fed, in_mode, reader_behind_link, reader_at_head, feed_new_head, feed_head_role, role_by, new_role, feed_role, feed_line, feed_at, feed_turn, feed_word, feed_body}
+use Rattle.rs_bodies.specs.Feeding.{feed_receiver_role, feed_receiver, feed_bound_name, feed_next, feed_arms, feed_single, in_message, feeding}
 use Rattle.rs_bodies.specs.declared.reading.Link.TheVariants as link
 use Rattle.std.specs.List.{list_all}
 use Rattle.std.proofs.lemmas.Bool.{leb-false}
@@ -32,7 +33,7 @@ use Rattle.rs_text.proofs.Judging.{IsNamed}
 use Rattle.rs_text.proofs.Naming.{decides_sound, new_differ, new_all}
 use Rattle.rs_text.proofs.Judging as judging
 use Rattle.rs_text.proofs.MessageLaws.{GoodLabels, GoodBehind, labels_first, label_good, message_good}
-use Rattle.rs_text.specs.Messages.{Message, goes_on, ends, feed_label, feed_message}
+use Rattle.rs_text.specs.Messages.{MessageFed, goes_on, ends, feed_label, feed_message}
 use Rattle.rs_bodies.specs.Drafts.{names_read}
 use Rattle.rs_bodies.specs.Faults.{KeepsBy}
 use Rattle.std.proofs.Common.{◌<◌}
@@ -73,7 +74,8 @@ plain_named _ n w h = absurd (cc h)
 -- ---- roles
 
 role_pushed : (a c : Bool) (dia : Dialect) (old : Names_data) (m : Mode) (w : List ℕ) (at : ℕ) (r : Reader_data) → is_among w r.roles ≡ a → is_role_word w ≡ true → Good dia old r
-    → IfOk {E = TextFault} (cond a (Err (record { kind = kind.NameTwice; at = at })) (cond c (Err (record { kind = kind.TooManyRoles; at = at })) (Ok (record r { roles = r.roles ++ w ∷ []; mode = m })))) (Good dia old)
+    → IfOk {E = TextFault} (cond a (Err (record { kind = kind.NameTwice; at = at }))
+    (cond c (Err (record { kind = kind.TooManyRoles; at = at })) (Ok (record r { roles = r.roles ++ w ∷ []; mode = m })))) (Good dia old)
 role_pushed true c dia old m w at r e k h = tt
 role_pushed false true dia old m w at r e k h = tt
 role_pushed false false dia old m w at r e k h = (
@@ -85,11 +87,13 @@ role_pushed false false dia old m w at r e k h = (
   h.1,
 )
 
-keep_new_role : (dia : Dialect) (old : Names_data) (m : Mode) (o : Option (List ℕ)) (at : ℕ) (r : Reader_data) → ((w : List ℕ) → o ≡ Some w → is_role_word w ≡ true) → Good dia old r → IfOk (new_role m o at r) (Good dia old)
+keep_new_role : (dia : Dialect) (old : Names_data) (m : Mode) (o : Option (List ℕ)) (at : ℕ) (r : Reader_data) → ((w : List ℕ) → o ≡ Some w → is_role_word w ≡ true) → Good dia old r
+    → IfOk (new_role m o at r) (Good dia old)
 keep_new_role dia old m None at r k h = tt
 keep_new_role dia old m (Some w) at r k h = role_pushed (is_among w r.roles) (nat_le 16 (length r.roles)) dia old m w at r refl (k w refl) h
 
-keep_protocol : (dia : Dialect) (old : Names_data) (t : Sign) (at : ℕ) (r : Reader_data) → Good dia old r → IfOk (cond (is_text (codes "protocol") (plain_text t)) (in_mode (mode.Body link.Start) r) (Err (record { kind = kind.Expected wanted.CommaOrProtocol; at = at }))) (Good dia old)
+keep_protocol : (dia : Dialect) (old : Names_data) (t : Sign) (at : ℕ) (r : Reader_data) → Good dia old r
+    → IfOk (cond (is_text (codes "protocol") (plain_text t)) (in_mode (mode.Body link.Start) r) (Err (record { kind = kind.Expected wanted.CommaOrProtocol; at = at }))) (Good dia old)
 keep_protocol dia old t at r h = keep_unless (is_text (codes "protocol") (plain_text t)) dia old (record { kind = kind.Expected wanted.CommaOrProtocol; at = at }) (in_mode (mode.Body link.Start) r) h
 
 keep_line : (dia : Dialect) (old : Names_data) (t : Sign) (at : ℕ) (r : Reader_data) → Good dia old r → IfOk (feed_line t at r) (Good dia old)
@@ -106,7 +110,8 @@ keep_own dia old (Some w) at r h = keep_role dia old (place_of w r.roles) at r h
 
 -- ---- labels
 
-keep_message : (dia : Dialect) (old : Names_data) (act : ℕ) (x : Result Message TextFault) (r : Reader_data) → IfOk x (GoodBehind old.labels r.labels) → Good dia old r → IfOk (in_message act x r) (Good dia old)
+keep_message : (dia : Dialect) (old : Names_data) (act : ℕ) (x : Result MessageFed TextFault) (r : Reader_data) → IfOk x (GoodBehind old.labels r.labels) → Good dia old r
+    → IfOk (in_message act x r) (Good dia old)
 keep_message dia old act (Err e) r k h = tt
 keep_message dia old act (Ok (goes_on labels p)) r k h = (record { roles_differ = h.0.roles_differ; roles_are_words = h.0.roles_are_words; labels_good = k }, h.1)
 keep_message dia old act (Ok (ends l s)) r k h = h
@@ -114,7 +119,8 @@ keep_message dia old act (Ok (ends l s)) r k h = h
 keep_single : (dia : Dialect) (old : Names_data) (act : ℕ) (t : Sign) (at : ℕ) (r : Reader_data) → IsNamed t → Good dia old r → IfOk (feed_single dia act t at r) (Good dia old)
 keep_single Talks old act colon at r n h = h
 keep_single Talks old act _ at r n h = tt
-keep_single Acts old act t at r n h = keep_message Acts old act (feed_label wanted.LabelOrBrace (word_text t) at r.labels) r (label_good old.labels r.labels wanted.LabelOrBrace t at n h.0.labels_good) h
+keep_single Acts old act t at r n h =
+    keep_message Acts old act (feed_label wanted.LabelOrBrace (word_text t) at r.labels) r (label_good old.labels r.labels wanted.LabelOrBrace t at n h.0.labels_good) h
 
 keep_arms : (dia : Dialect) (old : Names_data) (act : ℕ) (t : Sign) (at : ℕ) (r : Reader_data) → IsNamed t → Good dia old r → IfOk (feed_arms dia act t at r) (Good dia old)
 keep_arms dia old act open_brace at r n h = keep_if (nat_le 200 r.depth) dia old _ _ h
@@ -159,11 +165,15 @@ keep_receiver dia old from p (Some w) at r h = keep_received dia old (place_of w
 
 keep_named : (dia : Dialect) (old : Names_data) (o : Option ℕ) (from : Link) (at : ℕ) (r : Reader_data) → Good dia old r → IfOk (feed_bound_name o from at r) (Good dia old)
 keep_named dia old None from at r h = tt
-keep_named dia old (Some k) from at r h = keep_unless (nat_lt k (length r.drafts)) dia old (record { kind = kind.Unguarded; at = at }) (in_mode mode.Next (reader_behind_link from (Some k) r)) (h.0, linked_few (most dia) from (Some k) r h.1)
+keep_named dia old (Some k) from at r h =
+    keep_unless (nat_lt k (length r.drafts)) dia old (record { kind = kind.Unguarded; at = at }) (in_mode mode.Next (reader_behind_link from (Some k) r))
+    (h.0, linked_few (most dia) from (Some k) r h.1)
 
 keep_word : (dia : Dialect) (old : Names_data) (from : Link) (w : List ℕ) (s : Sign) (at next : ℕ) (r : Reader_data) → Good dia old r → IfOk (feed_word dia from w s at next r) (Good dia old)
 keep_word dia old from w (broken k) at next r h = tt
-keep_word dia old from w s at next r h = either (turns dia s) dia old (feed_head_role dia (place_of w r.roles) from at r) (feed_bound_name (nearest_binding w r.bound) from at r) (keep_met dia old (place_of w r.roles) from at r h) (keep_named dia old (nearest_binding w r.bound) from at r h)
+keep_word dia old from w s at next r h =
+    either (turns dia s) dia old (feed_head_role dia (place_of w r.roles) from at r) (feed_bound_name (nearest_binding w r.bound) from at r) (keep_met dia old (place_of w r.roles) from at r h)
+    (keep_named dia old (nearest_binding w r.bound) from at r h)
 
 keep_body : (dia : Dialect) (old : Names_data) (from : Link) (t : Sign) (at : ℕ) (next : Lexeme) (r : Reader_data) → Good dia old r → IfOk (feed_body dia from t at next r) (Good dia old)
 keep_body dia old from rec_word at next r h = keep_if (nat_le 200 r.depth) dia old _ _ h
@@ -244,7 +254,8 @@ pub kept_keeps : (dia : Dialect) (old : Names_data) (r : Reader_data) → Kept d
 kept_keeps Talks old r g = tt
 kept_keeps Acts old r g = record { later = g.0.0.labels_good.later; roles = g.1.0; labels = g.0.0.labels_good.labels_are }
 
-pub kept_fed : (dia : Dialect) (old : Names_data) (bytes : List ℕ) (now : ℕ) (t next : Lexeme) (r d : Reader_data) → t ≡ next_lexeme bytes now → feed_sign (feeding dia) t.sign t.from next r ≡ Ok d → Kept dia old r → Kept dia old d
+pub kept_fed : (dia : Dialect) (old : Names_data) (bytes : List ℕ) (now : ℕ) (t next : Lexeme) (r d : Reader_data) → t ≡ next_lexeme bytes now → feed_sign (feeding dia) t.sign t.from next r ≡ Ok d
+    → Kept dia old r → Kept dia old d
 kept_fed dia old bytes now t next r d e f h = kept_on dia old t.sign t.from next r d (judging.named bytes now t e) f h
 
 pub same_sound : (r d : Reader_data) → names_read d ≡ names_read r → IsSound (names_read r) → IsSound (names_read d)
@@ -274,8 +285,10 @@ on_answer dia old (Ok x) h = (decides_sound (names_read x.reader)).0 (rw (h.0.ro
 on_answer dia old (Err e) h = tt
 
 -- what is read has names that texts can have
-pub is_sound : (dia : Dialect) (old : Names_data) (bytes : List ℕ) (at : ℕ) (a : PartAnswer) → old.roles ≡ first_roles dia old → IsSound old → at ≤ length bytes → ReadsAs dia old bytes at (Ok a) → IsSound a.names
+pub is_sound : (dia : Dialect) (old : Names_data) (bytes : List ℕ) (at : ℕ) (a : PartAnswer) → old.roles ≡ first_roles dia old → IsSound old → at ≤ length bytes → ReadsAs dia old bytes at (Ok a)
+    → IsSound a.names
 is_sound dia old bytes at a first s h p =
     let t = tokens bytes at h in
     subst (λ (z : Result PartAnswer TextFault). IfOk z SoundAnswer) (p t.0 t.1)
-    (on_answer dia old (read_all (feeding dia) (Ok (start_of_part dia old)) t.0) (kept (feeding dia) (Good dia old) (λ t at n r name k. keep_sign dia old t at n r name k) (start_of_part dia old) (good_begun dia old first s) bytes at t.0 t.1))
+    (on_answer dia old (read_all (feeding dia) (Ok (start_of_part dia old)) t.0)
+    (kept (feeding dia) (Good dia old) (λ t at n r name k. keep_sign dia old t at n r name k) (start_of_part dia old) (good_begun dia old first s) bytes at t.0 t.1))

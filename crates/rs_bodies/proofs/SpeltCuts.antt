@@ -6,7 +6,8 @@ use Rattle.rs_text.specs.Signs.{rec_word, plain, dot}
 use Rattle.rs_text.specs.Arms.{arm_signs}
 use Rattle.rs_bodies.specs.Trees.{Body, ends, again, binds, acts, offers, body_signs, ends_by_name}
 use Rattle.rs_bodies.specs.Spells.{Tree, tree_signs}
-use Rattle.rs_bodies.specs.Cuts.{Cut, at_body, behind_end, behind_name, behind_rec, behind_rec_name, in_binds, in_arm, in_acts, in_offers, behind_brace, PartCut, in_body, cut_signs, part_cut_signs, wanted_at, in_turn, in_opening}
+use Rattle.rs_bodies.specs.Cuts.{Cut, at_body, behind_end, behind_name, behind_rec, behind_rec_name, in_binds, in_arm, in_acts, in_offers, behind_brace, PartCut, in_body, cut_signs, part_cut_signs}
+use Rattle.rs_bodies.specs.Cuts.{wanted_at, in_turn, in_opening}
 use Rattle.rs_bodies.proofs.FaultPlaces.{place_wants, is_named, is_named_of}
 use Rattle.rs_bodies.proofs.OneFault.{lone_no_part, turn_no_part, opening_no_part, no_part_in}
 use Rattle.rs_bodies.specs.Dialects.{turn_signs, lone_signs}

@@ -21,7 +21,7 @@ pub record HasTaken (o : Reader_data) (bytes : List ℕ) (at : ℕ) (r : Reader_
   pub lexed : (ls : List Lexeme) → Lexed bytes now ls → Lexed bytes at (before ++ ls)
   pub follows : Follows (names_read o) (signs_of before) r
 
--- .. where it reads a machine
+-- the reader of a machine, which began as o, took the tokens up to `now`
 abbrev pub Took : Dialect → Reader_data → List ℕ → ℕ → Reader_data → ℕ → Type 0
 Took Talks o bytes at r now = Unit {0}
 Took Acts o bytes at r now = HasTaken o bytes at r now
@@ -33,24 +33,29 @@ pub took_first : (d : Dialect) (o : Reader_data) (bytes : List ℕ) (at : ℕ) �
 took_first Talks o bytes at b = tt
 took_first Acts o bytes at b = first_taken o bytes at b
 
-lexed_on : (bytes : List ℕ) (at now until : ℕ) (before : List Lexeme) (l : Lexeme) → l ≡ next_lexeme bytes now → is_last l.sign ≡ false → l.until ≡ until → ((ls : List Lexeme) → Lexed bytes now ls → Lexed bytes at (before ++ ls)) → (ls : List Lexeme) → Lexed bytes until ls → Lexed bytes at ((before ++ l ∷ []) ++ ls)
+lexed_on : (bytes : List ℕ) (at now until : ℕ) (before : List Lexeme) (l : Lexeme) → l ≡ next_lexeme bytes now → is_last l.sign ≡ false → l.until ≡ until
+    → ((ls : List Lexeme) → Lexed bytes now ls → Lexed bytes at (before ++ ls)) → (ls : List Lexeme) → Lexed bytes until ls → Lexed bytes at ((before ++ l ∷ []) ++ ls)
 lexed_on bytes at now until before l e more u h ls k =
     let behind : Lexed bytes l.until ls = subst (λ (z : ℕ). Lexed bytes z ls) (sym u) k in
     subst (λ (z : List Lexeme). Lexed bytes at z) (sym (append_assoc before (l ∷ []) ls)) (h (l ∷ ls) (e, (λ last. absurd (cc (sym last ∙ more))), (λ further. behind)))
 
-taken_on : (o : Reader_data) (bytes : List ℕ) (at now : ℕ) (t next : Lexeme) (r n : Reader_data) → HasTaken o bytes at r now → t ≡ next_lexeme bytes now → feed_sign (feeding Acts) t.sign t.from next r ≡ Ok n → HasTaken o bytes at n t.until
+taken_on : (o : Reader_data) (bytes : List ℕ) (at now : ℕ) (t next : Lexeme) (r n : Reader_data) → HasTaken o bytes at r now → t ≡ next_lexeme bytes now
+    → feed_sign (feeding Acts) t.sign t.from next r ≡ Ok n → HasTaken o bytes at n t.until
 taken_on o bytes at now t next r n k e f = record {
   before = k.before ++ t ∷ [];
   lexed = lexed_on bytes at now t.until k.before t e (more_if (at_end Acts) t.sign t.from next r n f) refl k.lexed;
-  follows = subst (λ (z : List Sign). Follows (names_read o) z n) (sym (map-append (λ (l : Lexeme). l.sign) k.before (t ∷ []))) (follows_on (names_read o) (signs_of k.before) t.sign t.from next r n k.follows f);
+  follows = subst (λ (z : List Sign). Follows (names_read o) z n) (sym (map-append (λ (l : Lexeme). l.sign) k.before (t ∷ [])))
+      (follows_on (names_read o) (signs_of k.before) t.sign t.from next r n k.follows f);
 }
 
-pub took_on : (d : Dialect) (o : Reader_data) (bytes : List ℕ) (at now : ℕ) (t next : Lexeme) (r n : Reader_data) → t ≡ next_lexeme bytes now → feed_sign (feeding d) t.sign t.from next r ≡ Ok n → Took d o bytes at r now → Took d o bytes at n t.until
+pub took_on : (d : Dialect) (o : Reader_data) (bytes : List ℕ) (at now : ℕ) (t next : Lexeme) (r n : Reader_data) → t ≡ next_lexeme bytes now → feed_sign (feeding d) t.sign t.from next r ≡ Ok n
+    → Took d o bytes at r now → Took d o bytes at n t.until
 took_on Talks o bytes at now t next r n e f k = tt
 took_on Acts o bytes at now t next r n e f k = taken_on o bytes at now t next r n k e f
 
--- .. so it has the labels of some first tokens
-pub took_labels : (d : Dialect) (o r : Reader_data) (bytes : List ℕ) (at now : ℕ) (labels : List (List ℕ)) → now ≤ length bytes → Took d o bytes at r now → labels ≡ r.labels → HasLabels d o.labels labels bytes at
+-- a reader that took tokens has the labels of some first tokens
+pub took_labels : (d : Dialect) (o r : Reader_data) (bytes : List ℕ) (at now : ℕ) (labels : List (List ℕ)) → now ≤ length bytes → Took d o bytes at r now → labels ≡ r.labels
+    → HasLabels d o.labels labels bytes at
 took_labels Talks o r bytes at now labels within k same = tt
 took_labels Acts o r bytes at now labels within k same =
     let t = tokens bytes now within in

@@ -4,12 +4,12 @@ use Rattle.std.specs.Fmt.{decimal}
 use Rattle.std.proofs.lemmas.Bool.{lt-ltb}
 use Rattle.rs_model.specs.declared.limits.TheConstants.{MOST_NESTING, MOST_TALKS}
 use Rattle.rs_text.specs.Lexemes.{value_of}
-use Rattle.rs_text.specs.Names.{Bound}
+use Rattle.rs_text.specs.Names.{BoundNames}
 use Rattle.rs_text.proofs.Basics.{two_true}
 use Rattle.rs_text.proofs.PlainNames.{numbered_word}
 use Rattle.rs_text.proofs.Values.{decimal_reads}
 use Rattle.rs_bodies.specs.declared.dialects.Dialect.{Dialect}
-use Rattle.rs_bodies.specs.Dialects.{Turn}
+use Rattle.rs_bodies.specs.Dialects.{BehindRole}
 use Rattle.rs_bodies.specs.Fits.{body_fits}
 use Rattle.rs_bodies.specs.Graph.{labels_of, labels_of_arms, acts_in, acts_in_arms, has_end, has_end_arms, Numbering, first_of}
 use Rattle.rs_bodies.specs.Places.{name_of_place}
@@ -19,7 +19,7 @@ use Rattle.rs_bodies.specs.Writable.{AreWordsIn}
 use Rattle.rs_bodies.specs.Scenes.{Scene}
 use Rattle.rs_bodies.proofs.PlacesIn.{places_in}
 
-abbrev pub scene : List (List ℕ) → Bound → (depth count : ℕ) → List (List ℕ) → Scene
+abbrev pub scene : List (List ℕ) → BoundNames → (depth count : ℕ) → List (List ℕ) → Scene
 scene roles bound depth count labels = record { roles = roles; bound = bound; depth = depth; acts = count; labels = labels }
 
 tails : (a b : ℕ) (xs ys : List ℕ) → a ∷ xs ≡ b ∷ ys → xs ≡ ys
@@ -34,16 +34,17 @@ wrapped true k b = binds (name_of_place k) b
 wrapped false k b = b
 
 -- one arm right behind the head, more in braces
-abbrev pub offered : {dia : Dialect} → (s : List ℕ) → Turn dia → Branches dia → Body dia
+abbrev pub offered : {dia : Dialect} → (s : List ℕ) → BehindRole dia → Branches dia → Body dia
 offered s r (one l sort b) = acts s r l sort b
 offered s r (more l sort b arms) = offers s r (more l sort b arms)
 
 -- behind the head k
-abbrev pub opened_for : Bool → ℕ → Bound → Bound
+abbrev pub opened_for : Bool → ℕ → BoundNames → BoundNames
 opened_for true k named = (name_of_place k, k) ∷ named
 opened_for false k named = named
 
-pub wrapped_fits : {dia : Dialect} (c : Bool) (k : ℕ) (b : Body dia) (roles : List (List ℕ)) (named : Bound) (d : ℕ) (ls : List (List ℕ)) → (c ≡ true → d < MOST_NESTING) → body_fits dia b (scene roles (opened_for c k named) (deeper c d) k ls) ≡ true → body_fits dia (wrapped c k b) (scene roles named d k ls) ≡ true
+pub wrapped_fits : {dia : Dialect} (c : Bool) (k : ℕ) (b : Body dia) (roles : List (List ℕ)) (named : BoundNames) (d : ℕ) (ls : List (List ℕ)) → (c ≡ true → d < MOST_NESTING)
+    → body_fits dia b (scene roles (opened_for c k named) (deeper c d) k ls) ≡ true → body_fits dia (wrapped c k b) (scene roles named d k ls) ≡ true
 wrapped_fits {dia} true k b roles named d ls lt h = two_true (nat_lt d MOST_NESTING) (body_fits dia b (scene roles ((name_of_place k, k) ∷ named) (suc d) k ls)) (lt-ltb d MOST_NESTING (lt refl)) h
 wrapped_fits {dia} false k b roles named d ls lt h = h
 
@@ -51,7 +52,7 @@ pub wrapped_acts : {dia : Dialect} (c : Bool) (k : ℕ) (b : Body dia) → acts_
 wrapped_acts {dia} true k b = refl
 wrapped_acts {dia} false k b = refl
 
-pub offered_acts : {dia : Dialect} (s : List ℕ) (r : Turn dia) (arms : Branches dia) → acts_in dia (offered s r arms) ≡ suc (acts_in_arms dia arms)
+pub offered_acts : {dia : Dialect} (s : List ℕ) (r : BehindRole dia) (arms : Branches dia) → acts_in dia (offered s r arms) ≡ suc (acts_in_arms dia arms)
 offered_acts {dia} s r (one l sort b) = refl
 offered_acts {dia} s r (more l sort b arms) = refl
 
@@ -59,7 +60,7 @@ pub wrapped_end : {dia : Dialect} (c : Bool) (k : ℕ) (b : Body dia) → has_en
 wrapped_end {dia} true k b = refl
 wrapped_end {dia} false k b = refl
 
-pub offered_end : {dia : Dialect} (s : List ℕ) (r : Turn dia) (arms : Branches dia) → has_end dia (offered s r arms) ≡ has_end_arms dia arms
+pub offered_end : {dia : Dialect} (s : List ℕ) (r : BehindRole dia) (arms : Branches dia) → has_end dia (offered s r arms) ≡ has_end_arms dia arms
 offered_end {dia} s r (one l sort b) = refl
 offered_end {dia} s r (more l sort b arms) = refl
 
@@ -67,23 +68,24 @@ pub wrapped_labels : {dia : Dialect} (c : Bool) (k : ℕ) (b : Body dia) → lab
 wrapped_labels {dia} true k b = refl
 wrapped_labels {dia} false k b = refl
 
-pub offered_labels : {dia : Dialect} (s : List ℕ) (r : Turn dia) (arms : Branches dia) → labels_of dia (offered s r arms) ≡ labels_of_arms dia arms
+pub offered_labels : {dia : Dialect} (s : List ℕ) (r : BehindRole dia) (arms : Branches dia) → labels_of dia (offered s r arms) ≡ labels_of_arms dia arms
 offered_labels {dia} s r (one l sort b) = refl
 offered_labels {dia} s r (more l sort b arms) = refl
 
-pub wrapped_places : {dia : Dialect} (m : Numbering) (c : Bool) (k : ℕ) (b : Body dia) (named : Bound) → places_in m (wrapped c k b) named k ≡ places_in m b (opened_for c k named) k
+pub wrapped_places : {dia : Dialect} (m : Numbering) (c : Bool) (k : ℕ) (b : Body dia) (named : BoundNames) → places_in m (wrapped c k b) named k ≡ places_in m b (opened_for c k named) k
 wrapped_places {dia} m true k b named = refl
 wrapped_places {dia} m false k b named = refl
 
-pub wrapped_first : {dia : Dialect} (last : ℕ) (c : Bool) (k : ℕ) (b : Body dia) (named : Bound) → first_of dia (wrapped c k b) named k last ≡ first_of dia b (opened_for c k named) k last
+pub wrapped_first : {dia : Dialect} (last : ℕ) (c : Bool) (k : ℕ) (b : Body dia) (named : BoundNames) → first_of dia (wrapped c k b) named k last ≡ first_of dia b (opened_for c k named) k last
 wrapped_first {dia} last true k b named = refl
 wrapped_first {dia} last false k b named = refl
 
-pub offered_places : {dia : Dialect} (m : Numbering) (s : List ℕ) (r : Turn dia) (arms : Branches dia) (named : Bound) (k : ℕ) → places_in m (offered s r arms) named k ≡ places_in m (offers s r arms) named k
+pub offered_places : {dia : Dialect} (m : Numbering) (s : List ℕ) (r : BehindRole dia) (arms : Branches dia) (named : BoundNames) (k : ℕ)
+    → places_in m (offered s r arms) named k ≡ places_in m (offers s r arms) named k
 offered_places {dia} m s r (one l sort b) named k = refl
 offered_places {dia} m s r (more l sort b arms) named k = refl
 
-pub offered_first : {dia : Dialect} (last : ℕ) (s : List ℕ) (r : Turn dia) (arms : Branches dia) (named : Bound) (k : ℕ) → first_of dia (offered s r arms) named k last ≡ k
+pub offered_first : {dia : Dialect} (last : ℕ) (s : List ℕ) (r : BehindRole dia) (arms : Branches dia) (named : BoundNames) (k : ℕ) → first_of dia (offered s r arms) named k last ≡ k
 offered_first {dia} last s r (one l sort b) named k = refl
 offered_first {dia} last s r (more l sort b arms) named k = refl
 

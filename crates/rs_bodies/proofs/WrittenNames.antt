@@ -8,21 +8,21 @@ use Rattle.rs_text.specs.Sound.{IsSound}
 use Rattle.rs_text.specs.Words.{is_word, is_role_word}
 use Rattle.rs_bodies.proofs.CanonForms.{Writing, role_as, label_as, HasRole, HasLabel, role_stands, label_stands}
 use Rattle.rs_text.proofs.Basics.{both}
-use Rattle.rs_bodies.specs.Graph.{role_of, label_of}
+use Rattle.rs_bodies.specs.Graph.{role_by_name, label_by_name}
 
 -- ---- the names that are written
 
-pub role_place : (w : Writing) (s : List ℕ) → differ w.names.roles ≡ true → HasRole w s → place_of (role_as w s) w.names.roles ≡ Some (role_of w.numbers s).0
-role_place w s d has = place_at w.names.roles (role_of w.numbers s).0 (role_as w s) d (role_stands w s has)
+pub role_place : (w : Writing) (s : List ℕ) → differ w.names.roles ≡ true → HasRole w s → place_of (role_as w s) w.names.roles ≡ Some (role_by_name w.numbers s).0
+role_place w s d has = place_at w.names.roles (role_by_name w.numbers s).0 (role_as w s) d (role_stands w s has)
 
-pub label_place : (w : Writing) (l : List ℕ) → differ w.names.labels ≡ true → HasLabel w l → place_of (label_as w l) w.names.labels ≡ Some (label_of w.numbers l).0
-label_place w l d has = place_at w.names.labels (label_of w.numbers l).0 (label_as w l) d (label_stands w l has)
+pub label_place : (w : Writing) (l : List ℕ) → differ w.names.labels ≡ true → HasLabel w l → place_of (label_as w l) w.names.labels ≡ Some (label_by_name w.numbers l).0
+label_place w l d has = place_at w.names.labels (label_by_name w.numbers l).0 (label_as w l) d (label_stands w l has)
 
 pub role_known : (w : Writing) (s : List ℕ) → HasRole w s → is_among (role_as w s) w.names.roles ≡ true
-role_known w s has = at_among w.names.roles (role_of w.numbers s).0 (role_as w s) (role_stands w s has)
+role_known w s has = at_among w.names.roles (role_by_name w.numbers s).0 (role_as w s) (role_stands w s has)
 
 pub label_known : (w : Writing) (l : List ℕ) → HasLabel w l → is_among (label_as w l) w.names.labels ≡ true
-label_known w l has = at_among w.names.labels (label_of w.numbers l).0 (label_as w l) (label_stands w l has)
+label_known w l has = at_among w.names.labels (label_by_name w.numbers l).0 (label_as w l) (label_stands w l has)
 
 -- ---- sound names
 

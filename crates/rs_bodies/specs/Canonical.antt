@@ -11,9 +11,9 @@ use Rattle.rs_bodies.specs.declared.dialects.Head.TheVariants as head
 use Rattle.rs_bodies.specs.declared.places.Place.{Place}
 use Rattle.rs_bodies.specs.declared.places.Place.TheVariants as place
 use Rattle.rs_bodies.specs.Data.{Spelling_data}
-use Rattle.rs_bodies.specs.Dialects.{Turn, sends_to, with_mark}
+use Rattle.rs_bodies.specs.Dialects.{BehindRole, sends_to, with_mark}
 use Rattle.rs_bodies.specs.Places.{choice, places_spelt, name_of_place, IsGoneBackTo}
-use Rattle.rs_bodies.specs.Spells.{Spells}
+use Rattle.rs_bodies.specs.Spellings.{Spells}
 use Rattle.rs_bodies.specs.Trees.{Body, ends, again, binds, acts, offers, Branches, one, more}
 
 -- some part spells a graph with these places, which begins there
@@ -29,14 +29,14 @@ pub record IsSpelt (d : Dialect) (places : List Place) (root : ℕ) : Type 0 whe
   pub root_is : root ≡ spelling.start
 
 -- the word and the turn are those of the head
-abbrev pub IsHeadOf : (d : Dialect) → Names_data → Head → List ℕ → Turn d → Type 0
+abbrev pub IsHeadOf : (d : Dialect) → Names_data → Head → List ℕ → BehindRole d → Type 0
 IsHeadOf Talks names (head.Talk sender receiver) p (sends_to r) = (slice_get names.roles sender.0 ≡ Some p) × (slice_get names.roles receiver.0 ≡ Some r)
 IsHeadOf Talks names (head.Act peer m) p t = ⊥
 IsHeadOf Acts names (head.Talk sender receiver) p t = ⊥
 IsHeadOf Acts names (head.Act peer m) p (with_mark w) = (slice_get names.roles peer.0 ≡ Some p) × (m ≡ w)
 
 -- the place n has such a head and these arms
-pub record IsPointOf (d : Dialect) (names : Names_data) (places : List Place) (n : ℕ) (p : List ℕ) (t : Turn d) (arms : List Arm) : Type 0 where
+pub record IsPointOf (d : Dialect) (names : Names_data) (places : List Place) (n : ℕ) (p : List ℕ) (t : BehindRole d) (arms : List Arm) : Type 0 where
   pub head : Head
   pub stands : slice_get places n ≡ Some (choice head arms)
   pub named : IsHeadOf d names head p t
@@ -46,11 +46,11 @@ abbrev pub IsArmOf : Names_data → List ℕ → Option Sort → Arm → Type 0
 IsArmOf names label sort arm = (slice_get names.labels arm.label.0 ≡ Some label) × (sort ≡ shown_sort arm.sort)
 
 -- the only arm of the place n, and what stands behind it
-abbrev pub IsOneArm : (d : Dialect) → Names_data → List Place → ℕ → (p : List ℕ) → Turn d → (label : List ℕ) → Option Sort → (Behind : ℕ → Type 0) → Type 0
+abbrev pub IsOneArm : (d : Dialect) → Names_data → List Place → ℕ → (p : List ℕ) → BehindRole d → (label : List ℕ) → Option Sort → (Behind : ℕ → Type 0) → Type 0
 IsOneArm d names places n p t label sort Behind = (arm : Arm) × IsPointOf d names places n p t (arm ∷ []) × IsArmOf names label sort arm × Behind arm.next
 
 -- the arms of the place n, of which there are more than one
-abbrev pub AreArms : (d : Dialect) → Names_data → List Place → ℕ → (p : List ℕ) → Turn d → (Each : List Arm → Type 0) → Type 0
+abbrev pub AreArms : (d : Dialect) → Names_data → List Place → ℕ → (p : List ℕ) → BehindRole d → (Each : List Arm → Type 0) → Type 0
 AreArms d names places n p t Each = (a b : Arm) × (more : List Arm) × IsPointOf d names places n p t (a ∷ b ∷ more) × Each (a ∷ b ∷ more)
 
 -- the body that is written for the place n where the heads below `from` are those round it, and some behind their arms:

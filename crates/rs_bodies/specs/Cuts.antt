@@ -8,7 +8,7 @@ use Rattle.rs_text.specs.Arms.{arm_signs}
 use Rattle.rs_text.specs.ArmCuts.{ArmCut, at_label, arm_cut_signs, wanted_in_arm}
 use Rattle.rs_bodies.specs.declared.dialects.Dialect.{Dialect}
 use Rattle.rs_bodies.specs.declared.dialects.Dialect.TheVariants.{Talks, Acts}
-use Rattle.rs_bodies.specs.Dialects.{Turn, turn_signs, lone_signs}
+use Rattle.rs_bodies.specs.Dialects.{BehindRole, turn_signs, lone_signs}
 use Rattle.rs_bodies.specs.Openings.{Opening, line_signs, opening_signs}
 use Rattle.rs_bodies.specs.Trees.{Body, Branches, body_signs, branch_signs}
 
@@ -82,10 +82,10 @@ mutual
     behind_rec_name : (name : List ℕ) → Cut d
     in_binds : (name : List ℕ) → (body : Cut d) → Cut d
     in_turn : (first : List ℕ) → (turn : TurnCut d) → Cut d
-    in_arm : (first : List ℕ) → (turn : Turn d) → (arm : ArmCut) → Cut d
-    in_acts : (first : List ℕ) → (turn : Turn d) → (label : List ℕ) → (sort : Option Sort) → (body : Cut d) → Cut d
-    in_offers : (first : List ℕ) → (turn : Turn d) → (arms : BranchCut d) → Cut d
-    behind_brace : (first : List ℕ) → (turn : Turn d) → (arms : Branches d) → Cut d
+    in_arm : (first : List ℕ) → (turn : BehindRole d) → (arm : ArmCut) → Cut d
+    in_acts : (first : List ℕ) → (turn : BehindRole d) → (label : List ℕ) → (sort : Option Sort) → (body : Cut d) → Cut d
+    in_offers : (first : List ℕ) → (turn : BehindRole d) → (arms : BranchCut d) → Cut d
+    behind_brace : (first : List ℕ) → (turn : BehindRole d) → (arms : Branches d) → Cut d
 
   pub data BranchCut (d : Dialect) : Type 0 where
     in_head : (arm : ArmCut) → BranchCut d

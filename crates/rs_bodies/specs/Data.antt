@@ -2,7 +2,7 @@
 use Rattle.std.specs.Prelude.{ℕ, List, Option, Bool}
 use Rattle.rs_model.specs.declared.graph.Arm.{Arm}
 use Rattle.rs_model.specs.declared.graph.Role.{Role}
-use Rattle.rs_text.specs.Names.{Bound}
+use Rattle.rs_text.specs.Names.{BoundNames}
 use Rattle.rs_bodies.specs.declared.dialects.Head.{Head}
 use Rattle.rs_bodies.specs.declared.drafts.DraftArm.{DraftArm}
 use Rattle.rs_bodies.specs.declared.reading.Frame.{Frame}
@@ -33,7 +33,7 @@ pub record Reader_data : Type 0 where
   pub drafts : List Draft_data
   pub start : Option ℕ
   pub ended : Bool
-  pub bound : Bound
+  pub bound : BoundNames
   pub depth : ℕ
   pub frames : List Frame
   pub mode : Mode

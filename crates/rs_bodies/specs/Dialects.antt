@@ -8,9 +8,9 @@ use Rattle.rs_bodies.specs.declared.dialects.Mark.{Mark}
 use Rattle.rs_bodies.specs.declared.dialects.Mark.TheVariants as mark
 
 -- what stands behind the first role of a head: an arrow and the receiver, or a mark
-pub data Turn : Dialect → Type 0 where
-  sends_to : (receiver : List ℕ) → Turn Talks
-  with_mark : (mark : Mark) → Turn Acts
+pub data BehindRole : Dialect → Type 0 where
+  sends_to : (receiver : List ℕ) → BehindRole Talks
+  with_mark : (mark : Mark) → BehindRole Acts
 
 -- ! sends, ? receives
 abbrev pub mark_sign : Mark → Sign
@@ -18,7 +18,7 @@ mark_sign mark.Puts = bang
 mark_sign mark.Takes = question
 
 -- the tokens of a turn
-abbrev pub turn_signs : (d : Dialect) → Turn d → List Sign
+abbrev pub turn_signs : (d : Dialect) → BehindRole d → List Sign
 turn_signs Talks (sends_to r) = arrow ∷ plain r ∷ []
 turn_signs Acts (with_mark m) = mark_sign m ∷ []
 

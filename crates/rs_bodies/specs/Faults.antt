@@ -1,6 +1,7 @@
 -- Believed: the first fault of a text, and the names that it leaves.
 use Rattle.std.specs.Prelude.{◌≡◌, ℕ, ◌⊎◌, List, [], ◌∷◌, ◌++◌, codes, Bool, true, false, Some}
 use Rattle.rs_model.specs.Data.{Names_data}
+use Rattle.rs_text.specs.Kept.{Keeps}
 use Rattle.rs_text.specs.declared.tokens.FaultKind.{FaultKind}
 use Rattle.rs_text.specs.declared.faults.Wanted.{Wanted}
 use Rattle.rs_text.specs.declared.faults.TextKind.{TextKind}
@@ -108,12 +109,6 @@ pub record LeavesSome (old new : Names_data) (bytes : List ℕ) (at : ℕ) : Typ
 -- what a refusal leaves: of the first fault the labels of the tokens before it; of refused memory those of some first tokens
 abbrev pub LeavesLabels : (old new : Names_data) → (bytes : List ℕ) → (at : ℕ) → (kind : TextKind) → (offset : ℕ) → Type 0
 LeavesLabels old new bytes at k offset = ((k ≡ kind.NoMemory) × LeavesSome old new bytes at) ⊎ LeavesNames old new bytes at k offset
-
--- the names that were there stay in their places
-pub record Keeps (old new : Names_data) : Type 0 where
-  pub later : List (List ℕ)
-  pub roles : new.roles ≡ old.roles
-  pub labels : new.labels ≡ old.labels ++ later
 
 -- what the refusal of a part leaves: of a machine the names with the labels before it
 abbrev pub LeavesBy : Dialect → (old new : Names_data) → (bytes : List ℕ) → (at : ℕ) → (kind : TextKind) → (offset : ℕ) → Type 0

@@ -1,5 +1,5 @@
 -- Steps: the reader, token by token.
-use Rattle.std.specs.Prelude.{◌≡◌, ℕ, suc, ◌-◌, List, [], ◌∷◌, ◌++◌, codes, length, drop, slice_get, Option, Some, None, Result, Ok, Err, Bool, true, false, if◌then◌else◌, nat_lt, nat_le}
+use Rattle.std.specs.Prelude.{◌≡◌, ◌≤◌, ℕ, suc, ◌-◌, List, [], ◌∷◌, ◌++◌, codes, length, drop, slice_get, Option, Some, None, Result, Ok, Err, Bool, true, false, if◌then◌else◌, nat_lt, nat_le}
 use Rattle.rs_model.specs.declared.limits.TheConstants.{MOST_NESTING, MOST_ROLES}
 use Rattle.rs_model.specs.declared.graph.Role.{Role}
 use Rattle.rs_model.specs.declared.graph.Label.{Label}
@@ -9,7 +9,7 @@ use Rattle.rs_text.specs.declared.faults.TextKind.TheVariants as kind
 use Rattle.rs_text.specs.declared.faults.Wanted.TheVariants as wanted
 use Rattle.rs_text.specs.Faults.{kind_of}
 use Rattle.rs_text.specs.declared.messages.MessagePlace.TheVariants as place
-use Rattle.rs_text.specs.Messages.{Message, goes_on, ends, feed_label, feed_message}
+use Rattle.rs_text.specs.Messages.{MessageFed, goes_on, ends, feed_label, feed_message}
 use Rattle.rs_model.specs.Data.{Names_data}
 use Rattle.rs_text.specs.Lexemes.{Lexeme, signs_of}
 use Rattle.rs_text.specs.Lexing.{Lexed}
@@ -30,7 +30,7 @@ use Rattle.rs_bodies.specs.declared.reading.Mode.TheVariants as mode
 use Rattle.rs_text.specs.declared.reading.Stop.{Stop}
 use Rattle.rs_text.specs.declared.reading.Stop.TheVariants as stops
 use Rattle.rs_bodies.specs.Data.{Reader_data, Draft_data, Spelling_data}
-use Rattle.rs_text.specs.Readings.{Automaton, Reading, fault, expected, read_all, ReadsBy, last_of, Fails}
+use Rattle.rs_text.specs.Readings.{Automaton, Reading, fault, expected, read_all, ReadsBy, StopsBy, last_of, Fails}
 use Rattle.rs_bodies.specs.Drafts.{with_arm, spelling_read, names_read}
 use Rattle.rs_bodies.specs.Faults.{labels_among}
 
@@ -50,7 +50,8 @@ first_mode Acts = mode.Machine
 
 -- nothing was met yet
 abbrev pub start_of_part : Dialect → Names_data → Reader_data
-start_of_part d old = record { roles = first_roles d old; labels = old.labels; role = record { 0 = 0 }; drafts = []; start = None; ended = false; bound = []; depth = 0; frames = []; mode = first_mode d }
+start_of_part d old =
+    record { roles = first_roles d old; labels = old.labels; role = record { 0 = 0 }; drafts = []; start = None; ended = false; bound = []; depth = 0; frames = []; mode = first_mode d }
 
 -- the reader goes on in that mode
 abbrev pub in_mode : Mode → Reader_data → Fed
@@ -61,12 +62,12 @@ abbrev pub start_behind_link : Link → Option ℕ → Option ℕ → Option ℕ
 start_behind_link link.Start target start = target
 start_behind_link (link.OfArm act label sort) target start = start
 
--- .. where it is the body of an arm
+-- the heads with the arm whose body begins here
 abbrev pub drafts_behind_link : Link → Option ℕ → List Draft_data → List Draft_data
 drafts_behind_link link.Start target drafts = drafts
 drafts_behind_link (link.OfArm act label sort) target drafts = with_arm (record { label = label; sort = sort; next = target }) (slice_get drafts act) drafts act
 
--- .. be it that of an arm or of the whole part
+-- the reader where a body begins, of an arm or of the whole part
 abbrev pub reader_behind_link : Link → Option ℕ → Reader_data → Reader_data
 reader_behind_link from target r = record r { start = start_behind_link from target r.start; drafts = drafts_behind_link from target r.drafts }
 
@@ -96,12 +97,12 @@ feed_line t at r = if is_text (codes "protocol") (plain_text t) then in_mode (mo
 abbrev pub feed_machine : Sign → ℕ → Reader_data → Fed
 feed_machine t at r = if is_text (codes "machine") (plain_text t) then in_mode mode.AtRole r else expected wanted.PartOrEnd at
 
--- .. where there is such a role
+-- the role of the part, where there is such a role
 abbrev pub role_by : Option ℕ → ℕ → Reader_data → Fed
 role_by None at r = fault kind.UnknownRole at
 role_by (Some k) at r = Ok (record r { role = record { 0 = k }; mode = mode.AtColon })
 
--- .. by its name
+-- the role of the part, by its name
 abbrev pub feed_role : Option (List ℕ) → ℕ → Reader_data → Fed
 feed_role None at r = expected wanted.Role at
 feed_role (Some word) at r = role_by (place_of word r.roles) at r
@@ -153,7 +154,7 @@ reader_at_head from h r =
     let l : Reader_data = reader_behind_link from (Some (length r.drafts)) r in
     record l { drafts = l.drafts ++ record { head = h; arms = [] } ∷ []; mode = mode.AtArms (length r.drafts) }
 
--- .. where there is room for one more
+-- a new head, where there is room for one more
 abbrev pub feed_new_head : Dialect → Link → Head → ℕ → Reader_data → Fed
 feed_new_head d from h at r = if nat_le (most d) (length r.drafts) then fault kind.TooManyNodes at else Ok (reader_at_head from h r)
 
@@ -184,7 +185,7 @@ abbrev pub feed_brace : ℕ → ℕ → Reader_data → Fed
 feed_brace act at r = if nat_le MOST_NESTING r.depth then fault kind.TooDeep at else Ok (reader_in_braces act r)
 
 -- a message of an arm of that act, behind a token
-abbrev pub in_message : ℕ → Result Message TextFault → Reader_data → Fed
+abbrev pub in_message : ℕ → Result MessageFed TextFault → Reader_data → Fed
 in_message act (Err f) r = Err f
 in_message act (Ok (goes_on labels p)) r = Ok (record r { labels = labels; mode = mode.InMessage act p })
 in_message act (Ok (ends label s)) r = in_mode (mode.ArmDot act label s) r
@@ -216,7 +217,7 @@ feed_next (f ∷ fs) comma at r = Ok (record (reader_behind_frame f r) { mode = 
 feed_next (f ∷ fs) close_brace at r = Ok (record (reader_behind_frame f r) { mode = mode.Next; frames = fs })
 feed_next (f ∷ fs) _ at r = expected wanted.CommaOrCloseBrace at
 
--- .. where those of the reader are open
+-- behind a body, in the braces of the reader
 abbrev pub feed_behind : Sign → ℕ → Reader_data → Fed
 feed_behind t at r = feed_next r.frames t at r
 
@@ -240,7 +241,7 @@ feed_at d (mode.InMessage act p) t at next r = in_message act (feed_message p t 
 feed_at d (mode.ArmDot act label s) t at next r = feed_arm_dot act label s t at r
 feed_at d mode.Next t at next r = feed_behind t at r
 
--- .. in the mode of the reader
+-- a token in the mode of the reader
 abbrev pub feed_of : Dialect → Sign → ℕ → Lexeme → Reader_data → Fed
 feed_of d t at next r = feed_at d r.mode t at next r
 
@@ -290,6 +291,17 @@ HasLabels Acts old labels bytes at = (before : List Lexeme) × (others : List Le
 abbrev pub Leaves : Dialect → Stop → Reader_data → List ℕ → ℕ → List (List ℕ) → Type 0
 Leaves d stops.Memory r bytes at labels = HasLabels d r.labels labels bytes at
 Leaves d (stops.Fault f) r bytes at labels = (lexemes : List Lexeme) → Lexed bytes at lexemes → (last_of (feeding d) r (Ok r) lexemes).labels ≡ labels
+
+-- the reader has read a part, with no more heads than there may be, up to an offset within the bytes
+pub record HasRead (d : Dialect) (bytes : List ℕ) (at : ℕ) (old new : Reader_data) (until : ℕ) : Type 0 where
+  pub reads : Reads d old bytes at (Ok (record { reader = new; until = until }))
+  pub bounded : length new.drafts ≤ most d
+  pub within : until ≤ length bytes
+
+-- the reader has stopped, and has these labels
+pub record HasStopped (d : Dialect) (bytes : List ℕ) (at : ℕ) (old new : Reader_data) (stop : Stop) : Type 0 where
+  pub stops : StopsBy (feeding d) stop old bytes at
+  pub leaves : Leaves d stop old bytes at new.labels
 
 -- a method takes one step of the reader; where it stops the names are as before
 abbrev pub Feeds : Result (Unit {0}) Stop → Fed → (old new : Reader_data) → Type 0

@@ -4,7 +4,7 @@ use Rattle.rs_model.specs.declared.limits.TheConstants.{MOST_ACTS, MOST_LABELS, 
 use Rattle.rs_text.specs.Names.{nearest_binding, is_among}
 use Rattle.rs_bodies.specs.declared.dialects.Dialect.{Dialect}
 use Rattle.rs_bodies.specs.declared.dialects.Dialect.TheVariants.{Talks, Acts}
-use Rattle.rs_bodies.specs.Dialects.{Turn, sends_to, with_mark}
+use Rattle.rs_bodies.specs.Dialects.{BehindRole, sends_to, with_mark}
 use Rattle.rs_bodies.specs.Scenes.{Scene, with_label, in_act, in_braces, in_rec, behind}
 use Rattle.rs_bodies.specs.Trees.{Body, ends, again, binds, acts, offers, Branches, one, more}
 
@@ -18,7 +18,7 @@ abbrev pub has_room_for : List ℕ → Scene → Bool
 has_room_for label s = is_among label s.labels || nat_lt (length s.labels) MOST_LABELS
 
 -- the roles of a head are known, and there is room for it
-abbrev pub head_fits : (d : Dialect) → List ℕ → Turn d → Scene → Bool
+abbrev pub head_fits : (d : Dialect) → List ℕ → BehindRole d → Scene → Bool
 head_fits Talks p (sends_to r) s = is_among p s.roles && nat_lt s.acts MOST_TALKS && is_among r s.roles
 head_fits Acts p (with_mark m) s = is_among p s.roles && nat_lt s.acts MOST_ACTS
 

@@ -6,9 +6,9 @@ use Rattle.rs_model.specs.declared.graph.Role.{Role}
 use Rattle.rs_model.specs.declared.graph.Label.{Label}
 use Rattle.rs_model.specs.declared.values.Sort.{Sort}
 use Rattle.rs_text.specs.Arms.{sort_or_unit}
-use Rattle.rs_text.specs.Names.{number_or, place_of, Bound, nearest_binding}
+use Rattle.rs_text.specs.Names.{number_or, place_of, BoundNames, nearest_binding}
 use Rattle.rs_bodies.specs.declared.dialects.Dialect.{Dialect}
-use Rattle.rs_bodies.specs.Dialects.{Turn}
+use Rattle.rs_bodies.specs.Dialects.{BehindRole}
 use Rattle.rs_bodies.specs.Trees.{Body, ends, again, binds, acts, offers, Branches, one, more}
 
 -- the labels of a body, in order of text
@@ -52,7 +52,7 @@ abbrev mutual
 
 -- the first place of a body with `count` heads before it, `bound` the recursion names round it, each with the number of
 -- the first head of its body, and `last` the number of the end, which stands behind all heads
-abbrev pub first_of : (d : Dialect) → Body d → Bound → (count last : ℕ) → ℕ
+abbrev pub first_of : (d : Dialect) → Body d → BoundNames → (count last : ℕ) → ℕ
 first_of d ends bound count last = last
 first_of d (again name) bound count last = number_or (nearest_binding name bound)
 first_of d (binds name body) bound count last = first_of d body ((name, count) ∷ bound) count last
@@ -65,31 +65,31 @@ pub record Numbering : Type 0 where
   pub last : ℕ
 
 -- the role with that name
-abbrev pub role_of : Numbering → List ℕ → Role
-role_of n name = record { 0 = number_or (place_of name n.names.roles) }
+abbrev pub role_by_name : Numbering → List ℕ → Role
+role_by_name n name = record { 0 = number_or (place_of name n.names.roles) }
 
 -- the label with that name
-abbrev pub label_of : Numbering → List ℕ → Label
-label_of n name = record { 0 = number_or (place_of name n.names.labels) }
+abbrev pub label_by_name : Numbering → List ℕ → Label
+label_by_name n name = record { 0 = number_or (place_of name n.names.labels) }
 
 -- the arm with that label and sort, to that state
-abbrev pub arm_of : Numbering → List ℕ → Option Sort → ℕ → Arm
-arm_of n l sort next = record { label = label_of n l; sort = sort_or_unit sort; next = next }
+abbrev pub arm_spelt : Numbering → List ℕ → Option Sort → ℕ → Arm
+arm_spelt n l sort next = record { label = label_by_name n l; sort = sort_or_unit sort; next = next }
 
 -- the arms in braces, with `count` acts before the first one's body
-abbrev pub arms_of : (d : Dialect) → Numbering → Branches d → Bound → ℕ → List Arm
-arms_of d n (one l sort body) bound count = arm_of n l sort (first_of d body bound count n.last) ∷ []
-arms_of d n (more l sort body arms) bound count = arm_of n l sort (first_of d body bound count n.last) ∷ arms_of d n arms bound (count + acts_in d body)
+abbrev pub arms_of : (d : Dialect) → Numbering → Branches d → BoundNames → ℕ → List Arm
+arms_of d n (one l sort body) bound count = arm_spelt n l sort (first_of d body bound count n.last) ∷ []
+arms_of d n (more l sort body arms) bound count = arm_spelt n l sort (first_of d body bound count n.last) ∷ arms_of d n arms bound (count + acts_in d body)
 
 -- what is made of the heads of a body, in order of text, each of its first word, its turn and its arms
 abbrev mutual
-  pub heads_of : {X : Type 0} (d : Dialect) → (made : List ℕ → Turn d → List Arm → X) → Numbering → Body d → Bound → ℕ → List X
+  pub heads_of : {X : Type 0} (d : Dialect) → (made : List ℕ → BehindRole d → List Arm → X) → Numbering → Body d → BoundNames → ℕ → List X
   heads_of d made n ends bound count = []
   heads_of d made n (again name) bound count = []
   heads_of d made n (binds name body) bound count = heads_of d made n body ((name, count) ∷ bound) count
-  heads_of d made n (acts p t l sort body) bound count = made p t (arm_of n l sort (first_of d body bound (suc count) n.last) ∷ []) ∷ heads_of d made n body bound (suc count)
+  heads_of d made n (acts p t l sort body) bound count = made p t (arm_spelt n l sort (first_of d body bound (suc count) n.last) ∷ []) ∷ heads_of d made n body bound (suc count)
   heads_of d made n (offers p t arms) bound count = made p t (arms_of d n arms bound (suc count)) ∷ heads_in d made n arms bound (suc count)
 
-  pub heads_in : {X : Type 0} (d : Dialect) → (made : List ℕ → Turn d → List Arm → X) → Numbering → Branches d → Bound → ℕ → List X
+  pub heads_in : {X : Type 0} (d : Dialect) → (made : List ℕ → BehindRole d → List Arm → X) → Numbering → Branches d → BoundNames → ℕ → List X
   heads_in d made n (one l sort body) bound count = heads_of d made n body bound count
   heads_in d made n (more l sort body arms) bound count = heads_of d made n body bound count ++ heads_in d made n arms bound (count + acts_in d body)

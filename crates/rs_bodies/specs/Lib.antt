@@ -12,10 +12,15 @@ pub mod Shapes
 pub mod Bodied
 pub mod Fits
 pub mod Spells
+pub mod Spellings
+pub mod Read
 pub mod Leads
 pub mod Texts
 pub mod Writable
 pub mod Canonical
+pub mod CanonicalGraphs
+pub mod GraphKinds
+pub mod GraphAnswers
 pub mod Printing
 pub mod Faults
 pub mod Drafts

@@ -27,4 +27,4 @@ opening_signs Acts (of_role r) = plain (codes "machine") ∷ plain r ∷ colon �
 -- the roles that count in the body
 abbrev pub roles_in : (d : Dialect) → Names_data → Opening d → List (List ℕ)
 roles_in Talks old (of_roles f s xs) = f ∷ s ∷ xs
-roles_in Acts old (of_role r) = old.roles
+roles_in Acts old o = old.roles

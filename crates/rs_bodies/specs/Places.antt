@@ -33,7 +33,7 @@ place_of_state (state.Takes peer arms) = choice (head.Act peer mark.Takes) arms
 abbrev pub places_of_protocol : Protocol_data → List Place
 places_of_protocol p = map place_of_node p.nodes
 
--- .. and of a machine
+-- the places of a machine
 abbrev pub places_of_machine : Machine_data → List Place
 places_of_machine m = map place_of_state m.states
 

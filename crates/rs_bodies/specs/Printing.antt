@@ -1,5 +1,6 @@
 -- Steps: how the body of a canonical text is written, step by step: braces that are open are kept on a stack.
-use Rattle.std.specs.Prelude.{◌≡◌, ℕ, ◌+◌, List, [], ◌∷◌, ◌++◌, codes, length, Option, Some, None, Bool, true, false, get_or, replicate, slice_get, slice_set, nat_lt, nat_le, ◌&&◌, ◌||◌, is_some, if◌then◌else◌, ◌↔◌}
+use Rattle.std.specs.Prelude.{◌≡◌, ℕ, ◌+◌, List, [], ◌∷◌, ◌++◌, codes, length, Option, Some, None, Bool, true, false, get_or, replicate, slice_get, slice_set, nat_lt, nat_le, ◌&&◌, ◌||◌, is_some}
+use Rattle.std.specs.Prelude.{if◌then◌else◌, ◌↔◌}
 use Rattle.rs_model.specs.Data.{Names_data}
 use Rattle.rs_model.specs.declared.graph.Arm.{Arm}
 use Rattle.rs_text.specs.Shown.{shown_sort, arm_text}
@@ -9,7 +10,7 @@ use Rattle.rs_bodies.specs.declared.dialects.Head.{Head}
 use Rattle.rs_bodies.specs.declared.dialects.Head.TheVariants as head
 use Rattle.rs_bodies.specs.declared.places.Place.{Place}
 use Rattle.rs_bodies.specs.declared.places.Place.TheVariants as place
-use Rattle.rs_bodies.specs.declared.printing.Target.{Target}
+use Rattle.rs_bodies.specs.declared.printing.PlaceToWrite.{PlaceToWrite}
 use Rattle.rs_bodies.specs.Places.{name_of_place, IsGoneBackTo}
 use Rattle.rs_bodies.specs.Texts.{mark_text, lone_text}
 
@@ -20,12 +21,12 @@ abbrev pub flags_behind_arms : ℕ → List Arm → List Bool → List Bool
 flags_behind_arms n [] flags = flags
 flags_behind_arms n (a ∷ more) flags = flags_behind_arms n more (if nat_le a.next n && nat_lt a.next (length flags) then slice_set flags a.next true else flags)
 
--- .. of what stands at the number n
+-- the flags with those of what stands at the number n
 abbrev pub marked_place : ℕ → Place → List Bool → List Bool
 marked_place n place.End flags = flags
 marked_place n (place.Point p) flags = flags_behind_arms n p.arms flags
 
--- .. where anything does
+-- the flags with those of what stands there, where anything does
 abbrev pub flags_behind_place : ℕ → Option Place → List Bool → List Bool
 flags_behind_place n None flags = flags
 flags_behind_place n (Some p) flags = marked_place n p flags
@@ -75,10 +76,10 @@ pub record Brace_data : Type 0 where
 pub record PrintStep : Type 0 where
   pub written : List ℕ
   pub opened : List Brace_data
-  pub next : Option Target
+  pub next : Option PlaceToWrite
 
 -- the step that writes this, opens these braces and goes on there
-abbrev pub step : List ℕ → List Brace_data → Option Target → PrintStep
+abbrev pub step : List ℕ → List Brace_data → Option PlaceToWrite → PrintStep
 step written opened next = record { written = written; opened = opened; next = next }
 
 -- braces in which these arms are still to be written
@@ -86,7 +87,7 @@ abbrev pub braces_with : ℕ → List Arm → List Brace_data
 braces_with from arms = record { from = from; arms = arms } ∷ []
 
 -- that place is to be written next
-abbrev pub target : ℕ → ℕ → Option Target
+abbrev pub target : ℕ → ℕ → Option PlaceToWrite
 target from number = Some (record { from = from; number = number })
 
 -- the arms behind a head, where a single one stands behind `lone`: the first one of several opens braces
@@ -106,7 +107,7 @@ whole_step names back n (Some place.End) = step (codes "end") [] None
 whole_step names back n (Some (place.Point p)) = point_step names back n p.head p.arms
 
 -- a place: below `from` by its name
-abbrev pub place_step : Names_data → List Place → List Bool → Target → PrintStep
+abbrev pub place_step : Names_data → List Place → List Bool → PlaceToWrite → PrintStep
 place_step names places flags t = if nat_lt t.number t.from then step (name_of_place t.number) [] None else whole_step names (get_or flags t.number false) t.number (slice_get places t.number)
 
 -- what comes next in open braces: a further arm, or their end
@@ -114,7 +115,7 @@ abbrev further_step : Names_data → ℕ → List Arm → PrintStep
 further_step names from [] = step (codes "}") [] None
 further_step names from (a ∷ more) = step (codes ", " ++ label_text names a) (braces_with from more) (target from a.next)
 
--- .. in these braces
+-- the next step in these braces
 abbrev pub brace_step : Names_data → Brace_data → PrintStep
 brace_step names brace = further_step names brace.from brace.arms
 
@@ -124,7 +125,7 @@ pub record Printer_data : Type 0 where
   pub names : Names_data
   pub flags : List Bool
   pub text : List ℕ
-  pub next : Option Target
+  pub next : Option PlaceToWrite
   pub braces : List Brace_data
 
 -- the printer behind that step
@@ -132,12 +133,12 @@ abbrev pub printer_behind : PrintStep → Printer_data → Printer_data
 printer_behind s p = record p { text = p.text ++ s.written; next = s.next; braces = s.opened ++ p.braces }
 
 -- one step on: the next place, or what comes next in the innermost braces
-abbrev pub printer_from : List Place → Option Target → List Brace_data → Printer_data → Printer_data
+abbrev pub printer_from : List Place → Option PlaceToWrite → List Brace_data → Printer_data → Printer_data
 printer_from places (Some t) braces p = printer_behind (place_step p.names places p.flags t) p
 printer_from places None (brace ∷ outer) p = printer_behind (brace_step p.names brace) (record p { braces = outer })
 printer_from places None [] p = p
 
--- .. from where the printer stands
+-- where the printer goes on from where it stands
 abbrev pub next_printer : List Place → Printer_data → Printer_data
 next_printer places p = printer_from places p.next p.braces p
 

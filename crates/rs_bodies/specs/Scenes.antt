@@ -1,6 +1,6 @@
 -- Believed: what the faults of names and limits hang on.
 use Rattle.std.specs.Prelude.{ℕ, suc, ◌+◌, List, [], ◌∷◌}
-use Rattle.rs_text.specs.Names.{Bound, names_with}
+use Rattle.rs_text.specs.Names.{BoundNames, names_with}
 use Rattle.rs_bodies.specs.declared.dialects.Dialect.{Dialect}
 use Rattle.rs_bodies.specs.Trees.{Body}
 use Rattle.rs_bodies.specs.Graph.{labels_of, acts_in}
@@ -8,7 +8,7 @@ use Rattle.rs_bodies.specs.Graph.{labels_of, acts_in}
 -- the roles, the recursion names round a place, the count of rec and braces round it, the heads and the labels before it
 pub record Scene : Type 0 where
   pub roles : List (List ℕ)
-  pub bound : Bound
+  pub bound : BoundNames
   pub depth : ℕ
   pub acts : ℕ
   pub labels : List (List ℕ)

@@ -3,18 +3,15 @@ use Rattle.std.specs.Prelude.{◌≡◌, ℕ, ◌≤◌, List, [], ◌∷◌, �
 use Rattle.rs_model.specs.declared.limits.TheConstants.{MOST_ROLES}
 use Rattle.rs_model.specs.Data.{Names_data}
 use Rattle.rs_text.specs.Lexemes.{Lexeme, signs_of}
-use Rattle.rs_text.specs.Lexing.{Lexed}
+use Rattle.rs_text.specs.Tokens.{AreTokens}
 use Rattle.rs_text.specs.Names.{is_among, names_with, differ}
 use Rattle.rs_text.specs.Signs.{Sign}
 use Rattle.rs_bodies.specs.declared.dialects.Dialect.{Dialect}
 use Rattle.rs_bodies.specs.declared.dialects.Dialect.TheVariants.{Talks, Acts}
-use Rattle.rs_model.specs.declared.graph.Role.{Role}
-use Rattle.rs_bodies.specs.Data.{Spelling_data}
 use Rattle.rs_bodies.specs.Openings.{Opening, of_roles, of_role, opening_signs, roles_in}
 use Rattle.rs_bodies.specs.Trees.{Body, body_signs, ends_by_name, ends_a_name}
 use Rattle.rs_bodies.specs.Fits.{body_fits}
-use Rattle.rs_bodies.specs.Graph.{labels_of, acts_in, has_end, first_of, Numbering, role_of}
-use Rattle.rs_bodies.specs.Points.{points_of}
+use Rattle.rs_bodies.specs.Graph.{labels_of, acts_in, Numbering}
 use Rattle.rs_bodies.specs.Scenes.{first_scene}
 
 -- a part: what stands before the body, and the body
@@ -44,25 +41,16 @@ names_of d old t = record { roles = roles_in d old t.opening; labels = names_wit
 abbrev pub numbering : (d : Dialect) → Names_data → Tree d → Numbering
 numbering d old t = record { names = names_of d old t; last = acts_in d t.body }
 
--- the role of a machine; a protocol has none of its own
-abbrev pub own_role : (d : Dialect) → Numbering → Opening d → Role
-own_role Talks n (of_roles f s xs) = record { 0 = 0 }
-own_role Acts n (of_role r) = role_of n r
-
--- what the tree spells
-abbrev pub spelling_of : (d : Dialect) → Names_data → Tree d → Spelling_data
-spelling_of d old t = record { role = own_role d (numbering d old t) t.opening; points = points_of d (numbering d old t) t.body [] 0; ended = has_end d t.body; start = first_of d t.body [] 0 (acts_in d t.body) }
-
--- the bytes from `at` on, read with the old names, spell this with the new ones, and go on at `until`
-pub record Spells (d : Dialect) (bytes : List ℕ) (at : ℕ) (old new : Names_data) (spelling : Spelling_data) (until : ℕ) : Type 0 where
+-- the bytes from `at` on, read with the old names, spell a tree with this meaning and with the new names, and go on at `until`
+pub record SpellsBy (d : Dialect) {X : Type 0} (meaning : Names_data → Tree d → X) (bytes : List ℕ) (at : ℕ) (old new : Names_data) (x : X) (until : ℕ) : Type 0 where
   pub tree : Tree d
   pub lexemes : List Lexeme
   pub behind : Lexeme
   pub others : List Lexeme
-  pub lexed : Lexed bytes at (lexemes ++ behind ∷ others)
+  pub tokens : AreTokens bytes at (lexemes ++ behind ∷ others)
   pub spelt : signs_of lexemes ≡ tree_signs d tree
   pub settled : ends_by_name d tree.body ≡ true → ends_a_name d behind.sign ≡ true
   pub fits : Fits d old tree
   pub names_are : new ≡ names_of d old tree
-  pub spelling_is : spelling ≡ spelling_of d old tree
+  pub meaning_is : x ≡ meaning old tree
   pub goes_on : until ≡ behind.from

@@ -5,7 +5,7 @@ use Rattle.rs_bodies.specs.declared.dialects.Dialect.{Dialect}
 use Rattle.rs_bodies.specs.declared.dialects.Dialect.TheVariants.{Talks, Acts}
 use Rattle.rs_bodies.specs.declared.dialects.Mark.{Mark}
 use Rattle.rs_bodies.specs.declared.dialects.Mark.TheVariants as mark
-use Rattle.rs_bodies.specs.Dialects.{Turn, sends_to, with_mark}
+use Rattle.rs_bodies.specs.Dialects.{BehindRole, sends_to, with_mark}
 use Rattle.rs_bodies.specs.Openings.{Opening, of_roles, of_role}
 use Rattle.rs_bodies.specs.Spells.{Tree}
 use Rattle.rs_bodies.specs.Trees.{Body, ends, again, binds, acts, offers, Branches, one, more}
@@ -16,7 +16,7 @@ mark_text mark.Puts = codes "!"
 mark_text mark.Takes = codes "?"
 
 -- behind the first role of a head
-abbrev pub turn_text : (d : Dialect) → Turn d → List ℕ
+abbrev pub turn_text : (d : Dialect) → BehindRole d → List ℕ
 turn_text Talks (sends_to r) = codes "->" ++ r
 turn_text Acts (with_mark m) = mark_text m
 

@@ -4,7 +4,7 @@ use Rattle.rs_model.specs.declared.values.Sort.{Sort}
 use Rattle.rs_text.specs.Signs.{Sign, broken, rec_word, end_word, plain, dot, comma, open_brace, close_brace}
 use Rattle.rs_text.specs.Arms.{arm_signs}
 use Rattle.rs_bodies.specs.declared.dialects.Dialect.{Dialect}
-use Rattle.rs_bodies.specs.Dialects.{Turn, turn_signs, lone_signs, turns}
+use Rattle.rs_bodies.specs.Dialects.{BehindRole, turn_signs, lone_signs, turns}
 
 -- a body: the end, a recursion name, a body whose name is bound, a head with one arm, or one with arms in braces
 mutual
@@ -12,8 +12,8 @@ mutual
     ends : Body d
     again : (name : List ℕ) → Body d
     binds : (name : List ℕ) → (body : Body d) → Body d
-    acts : (first : List ℕ) → (turn : Turn d) → (label : List ℕ) → (sort : Option Sort) → (body : Body d) → Body d
-    offers : (first : List ℕ) → (turn : Turn d) → (arms : Branches d) → Body d
+    acts : (first : List ℕ) → (turn : BehindRole d) → (label : List ℕ) → (sort : Option Sort) → (body : Body d) → Body d
+    offers : (first : List ℕ) → (turn : BehindRole d) → (arms : Branches d) → Body d
 
   pub data Branches (d : Dialect) : Type 0 where
     one : (label : List ℕ) → (sort : Option Sort) → (body : Body d) → Branches d

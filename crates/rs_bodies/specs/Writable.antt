@@ -4,13 +4,13 @@ use Rattle.std.specs.List.{All}
 use Rattle.rs_text.specs.Words.{is_word, is_role_word}
 use Rattle.rs_bodies.specs.declared.dialects.Dialect.{Dialect}
 use Rattle.rs_bodies.specs.declared.dialects.Dialect.TheVariants.{Talks, Acts}
-use Rattle.rs_bodies.specs.Dialects.{Turn, sends_to, with_mark}
+use Rattle.rs_bodies.specs.Dialects.{BehindRole, sends_to, with_mark}
 use Rattle.rs_bodies.specs.Openings.{Opening, of_roles, of_role}
 use Rattle.rs_bodies.specs.Spells.{Tree}
 use Rattle.rs_bodies.specs.Trees.{Body, ends, again, binds, acts, offers, Branches, one, more}
 
 -- a receiver is a word other than rec and end
-abbrev pub IsWordInTurn : (d : Dialect) → Turn d → Type 0
+abbrev pub IsWordInTurn : (d : Dialect) → BehindRole d → Type 0
 IsWordInTurn Talks (sends_to r) = is_role_word r ≡ true
 IsWordInTurn Acts (with_mark m) = Unit {0}
 
@@ -32,7 +32,7 @@ abbrev pub AreWordsInOpening : (d : Dialect) → Opening d → Type 0
 AreWordsInOpening Talks (of_roles f s xs) = All (λ x. is_role_word x ≡ true) (f ∷ s ∷ xs)
 AreWordsInOpening Acts (of_role r) = is_role_word r ≡ true
 
--- .. and all names of a part
+-- all names of a part are words
 pub record AreWords (d : Dialect) (t : Tree d) : Type 0 where
   pub opening : AreWordsInOpening d t.opening
   pub body : AreWordsIn d t.body

@@ -14,7 +14,7 @@ mod shapes;
 
 pub use dialects::{Dialect, Head, Mark};
 pub use parts::read_part;
-pub use places::{Numbered, Place, PointRef};
+pub use places::{NumberedGraph, Place, PointRef};
 pub use points::{Point, Spelling};
 pub use printing::print_body;
 pub use shapes::has_body;

@@ -1,13 +1,13 @@
-ghost use Rattle.std.specs.Prelude.{◌≡◌, ◌≤◌, length, IfOk, IfErr, ◌⊎◌, Ok};
-ghost use Rattle.rs_model.specs.declared.limits.TheConstants.{MOST_LABELS, MOST_ROLES};
-ghost use Rattle.rs_text.specs.declared.faults.TextKind.TheVariants as kind;
-ghost use Rattle.rs_text.specs.Readings.{StopsBy};
-ghost use Rattle.rs_text.specs.Sound.{IsSound};
+//! The reader of a part of either dialect.
+
+ghost use Rattle.std.specs.Prelude.{◌≡◌, ◌≤◌, length, IfOk, IfErr};
+ghost use Rattle.rs_text.specs.FirstFaults.{IsRefusal};
+ghost use Rattle.rs_text.specs.Sound.{AreReadable, IsSound};
 ghost use Rattle.rs_bodies.specs.Dialects.{most};
 ghost use Rattle.rs_bodies.specs.Drafts.{names_read, spelling_read};
 ghost use Rattle.rs_bodies.specs.Faults.{FirstFault, KeepsBy, LeavesBy};
-ghost use Rattle.rs_bodies.specs.Feeding.{start_of_part, feeding, first_roles, HasLabels, Leaves, Reads};
-ghost use Rattle.rs_bodies.specs.Spells.{Spells};
+ghost use Rattle.rs_bodies.specs.Feeding.{start_of_part, first_roles, HasLabels, HasRead, HasStopped};
+ghost use Rattle.rs_bodies.specs.Read.{IsPartRead};
 
 use crate::dialects::Dialect;
 use crate::points::{Spelling, points, settled_number};
@@ -36,20 +36,13 @@ pub fn read_part(
     names: &mut Names,
 ) -> Result<(Spelling, usize), TextFault>
     requires at { at ≤ length bytes.now }
-    requires sound { IsSound names.old }
-    requires roles { length names.old.roles ≤ MOST_ROLES }
-    requires labels { length names.old.labels ≤ MOST_LABELS }
+    requires names { AreReadable names.old }
     requires first { names.old.roles ≡ first_roles dialect names.old }
-    ensures ok { IfOk result (λ r. Spells dialect bytes.now at names.old names.new r.0 r.1) }
-    ensures err { IfErr result (λ e. (e.kind ≡ kind.NoMemory) ⊎ FirstFault dialect names.old bytes.now at e.kind e.at) }
+    ensures ok { IfOk result (λ r. IsPartRead dialect bytes.now at names.old names.new r.0 r.1) }
+    ensures err { IfErr result (λ e. IsRefusal (FirstFault dialect names.old bytes.now at) bytes.now e) }
     ensures left { IfErr result (λ e. LeavesBy dialect names.old names.new bytes.now at e.kind e.at) }
-    ensures sound { IsSound names.new }
-    ensures roles { length names.new.roles ≤ MOST_ROLES }
-    ensures labels { length names.new.labels ≤ MOST_LABELS }
+    ensures names { AreReadable names.new }
     ensures kept { KeepsBy dialect names.old names.new }
-    ensures few { IfOk result (λ r. length r.0.points ≤ most dialect) }
-    ensures within { IfOk result (λ r. r.1 ≤ length bytes.now) }
-    ensures place { IfErr result (λ e. e.at ≤ length bytes.now) }
 {
     let roles = mem::replace(&mut names.roles, Vec::new(alloc));
     let labels = mem::replace(&mut names.labels, Vec::new(alloc));
@@ -74,12 +67,9 @@ fn read_with<'a>(
     requires at { at ≤ length bytes.now }
     requires sound { IsSound (names_read reader.old) }
     requires begun { reader.old ≡ start_of_part dialect (names_read reader.old) }
-    ensures ok { IfOk result (λ r. Reads dialect reader.old bytes.now at (Ok (record { reader = reader.new; until = r.1 }))) }
-    ensures spelling { IfOk result (λ r. r.0 ≡ spelling_read reader.new) }
-    ensures few { IfOk result (λ r. length r.0.points ≤ most dialect) }
-    ensures within { IfOk result (λ r. r.1 ≤ length bytes.now) }
-    ensures err { IfErr result (λ e. StopsBy (feeding dialect) e reader.old bytes.now at) }
-    ensures left { IfErr result (λ e. Leaves dialect e reader.old bytes.now at reader.new.labels) }
+    ensures ok { IfOk result (λ r. HasRead dialect bytes.now at reader.old reader.new r.1) }
+    ensures spelling { IfOk result (λ r. (r.0 ≡ spelling_read reader.new) × (length r.0.points ≤ most dialect)) }
+    ensures err { IfErr result (λ e. HasStopped dialect bytes.now at reader.old reader.new e) }
     ensures sound { IsSound (names_read reader.new) }
     ensures kept { KeepsBy dialect (names_read reader.old) (names_read reader.new) }
 {
@@ -111,12 +101,9 @@ fn read<'a>(
     requires at { at ≤ length bytes.now }
     requires sound { IsSound (names_read reader.old) }
     requires begun { reader.old ≡ start_of_part dialect (names_read reader.old) }
-    ensures ok { IfOk result (λ until. Reads dialect reader.old bytes.now at (Ok (record { reader = reader.new; until = until }))) }
-    ensures few { IfOk result (λ until. length reader.new.drafts ≤ most dialect) }
+    ensures ok { IfOk result (λ until. HasRead dialect bytes.now at reader.old reader.new until) }
+    ensures err { IfErr result (λ e. HasStopped dialect bytes.now at reader.old reader.new e) }
     ensures labels { HasLabels dialect reader.old.labels reader.new.labels bytes.now at }
-    ensures within { IfOk result (λ until. until ≤ length bytes.now) }
-    ensures err { IfErr result (λ e. StopsBy (feeding dialect) e reader.old bytes.now at) }
-    ensures left { IfErr result (λ e. Leaves dialect e reader.old bytes.now at reader.new.labels) }
     ensures sound { IsSound (names_read reader.new) }
     ensures kept { KeepsBy dialect (names_read reader.old) (names_read reader.new) }
 {

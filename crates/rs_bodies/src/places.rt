@@ -1,3 +1,5 @@
+//! The places of a graph, seen alike in protocols and machines.
+
 ghost use Rattle.std.specs.Prelude.{◌≡◌, List, ℕ, length, slice_get};
 ghost use Rattle.rs_bodies.specs.declared.dialects.Dialect.{Dialect};
 ghost use Rattle.rs_bodies.specs.declared.dialects.Dialect.TheVariants.{Talks, Acts};
@@ -33,7 +35,7 @@ pub enum Place<'a> {
 }
 
 /// The graph of a body, its places numbered from 0.
-pub trait Numbered {
+pub trait NumberedGraph {
     // The dialect of the body.
     ghost dialect: { Dialect };
 
@@ -56,7 +58,7 @@ pub trait Numbered {
         ensures { result ≡ root self.now };
 }
 
-impl Numbered for Protocol {
+impl NumberedGraph for Protocol {
     ghost dialect = { Talks };
 
     ghost places = { λ p. places_of_protocol p };
@@ -76,7 +78,7 @@ impl Numbered for Protocol {
     }
 }
 
-impl Numbered for Machine {
+impl NumberedGraph for Machine {
     ghost dialect = { Acts };
 
     ghost places = { λ m. places_of_machine m };

@@ -1,3 +1,5 @@
+//! What a part spells: its heads with their arms.
+
 ghost use Rattle.std.specs.Prelude.{◌≡◌, ◌≤◌, length, map, take, IfOk};
 ghost use Rattle.rs_bodies.specs.Drafts.{point_of_draft, settled_arm, settled_target};
 

@@ -1,3 +1,5 @@
+//! The printer of canonical bodies.
+
 ghost use Rattle.std.specs.Prelude.{◌≡◌, ◌<◌, ◌≤◌, ◌^◌, ◌+◌, ◌++◌, ◌∷◌, [], List, ℕ, drop, false, get_or, length, replicate, slice_get, IfNone, IfOk, IfSome, None, OnOk};
 ghost use Rattle.rs_model.specs.declared.limits.TheConstants.{MOST_TALKS};
 ghost use Rattle.rs_text.specs.NamePlaces.{name_at};
@@ -11,7 +13,7 @@ ghost use Rattle.rs_bodies.specs.Texts.{body_text};
 ghost use Rattle.rs_bodies.specs.Trees.{Body};
 
 use crate::dialects::{Head, Mark};
-use crate::places::{Numbered, Place, PointRef};
+use crate::places::{NumberedGraph, Place, PointRef};
 use rs_model::{Arm, Name, Names, NoMemory, Sort};
 use rs_text::Text;
 use std::alloc::Global;
@@ -19,7 +21,7 @@ use std::marker::Model;
 
 /// A place to be written: whole where its number is `from` or above, else by its name.
 #[derive(Clone, Copy)]
-pub(crate) struct Target {
+pub(crate) struct PlaceToWrite {
     pub from: usize,
     pub number: u32,
 }
@@ -40,7 +42,7 @@ impl<'a> Model for Brace<'a> {
 }
 
 /// For each place whether an arm of it or of a later one leads to it.
-fn gone_back_to<G: Numbered>(alloc: Global, graph: &G) -> Result<Vec<bool>, NoMemory>
+fn gone_back_to<G: NumberedGraph>(alloc: Global, graph: &G) -> Result<Vec<bool>, NoMemory>
     requires { length (G.places graph.now) ≤ MOST_TALKS + 1 }
     ensures { IfOk result (λ flags. flags.items ≡ spec.back_flags (G.places graph.now)) }
 {
@@ -49,7 +51,7 @@ fn gone_back_to<G: Numbered>(alloc: Global, graph: &G) -> Result<Vec<bool>, NoMe
     Ok(flags)
 }
 
-fn mark_all<G: Numbered>(flags: &mut [bool], graph: &G)
+fn mark_all<G: NumberedGraph>(flags: &mut [bool], graph: &G)
     requires { length (G.places graph.now) ≤ MOST_TALKS + 1 }
     ensures { flags.new ≡ flags_behind_places 0 (G.places graph.now) flags.old }
 {
@@ -183,7 +185,7 @@ struct Printer<'a> {
     names: &'a Names,
     flags: Vec<bool>,
     text: Text,
-    next: Option<Target>,
+    next: Option<PlaceToWrite>,
     braces: Vec<Brace<'a>>,
 }
 
@@ -204,7 +206,7 @@ impl<'a> Printer<'a> {
             names,
             flags,
             text,
-            next: Some(Target {
+            next: Some(PlaceToWrite {
                 from: 0,
                 number: root,
             }),
@@ -217,7 +219,7 @@ impl<'a> Printer<'a> {
         ensures { OnOk result (self.new ≡ record self.old { text = self.old.text ++ label_text self.old.names arm; next = spec.target from arm.next }) }
     {
         push_label(&mut self.text, self.names, arm)?;
-        self.next = Some(Target {
+        self.next = Some(PlaceToWrite {
             from,
             number: arm.next,
         });
@@ -274,7 +276,11 @@ impl<'a> Printer<'a> {
         }
     }
 
-    fn place<G: Numbered>(&mut self, graph: &'a G, target: Target) -> Result<(), NoMemory>
+    fn place<G: NumberedGraph>(
+        &mut self,
+        graph: &'a G,
+        target: PlaceToWrite,
+    ) -> Result<(), NoMemory>
         ensures { OnOk result (self.new ≡ spec.printer_behind (place_step self.old.names (G.places graph.now) self.old.flags target) self.old) }
     {
         if (target.number as usize) < target.from {
@@ -323,7 +329,7 @@ impl<'a> Printer<'a> {
     }
 
     /// Writes one step on.
-    fn turn<G: Numbered>(&mut self, graph: &'a G) -> Result<(), NoMemory>
+    fn turn<G: NumberedGraph>(&mut self, graph: &'a G) -> Result<(), NoMemory>
         ensures state { OnOk result (self.new ≡ spec.next_printer (G.places graph.now) self.old) }
         ensures size { length self.old.text < 2 ^ 64 }
     {
@@ -339,7 +345,7 @@ impl<'a> Printer<'a> {
 }
 
 /// Writes the body of a canonical text behind a text. Refused memory is the only error.
-pub fn print_body<G: Numbered>(
+pub fn print_body<G: NumberedGraph>(
     alloc: Global,
     names: &Names,
     graph: &G,

@@ -1,4 +1,7 @@
-ghost use Rattle.std.specs.Prelude.{◌≡◌, ◌≤◌, ◌<◌, ◌+◌, ◌++◌, ◌∷◌, [], length, OnOk, OnErr, IfOk, IfErr, IfSome, IfNone, Some, None, Option, Ok, Err, true, false, drop, reverse, codes, suc, nat_le, if◌then◌else◌};
+//! The reader of bodies, token by token.
+
+ghost use Rattle.std.specs.Prelude.{◌≡◌, ◌≤◌, ◌<◌, ◌+◌, ◌++◌, ◌∷◌, [], length, OnOk, OnErr, IfOk, IfErr, IfSome, IfNone};
+ghost use Rattle.std.specs.Prelude.{Some, None, Option, Ok, Err, true, false, drop, reverse, codes, suc, nat_le, if◌then◌else◌};
 ghost use Rattle.std.specs.Option.{option_map};
 ghost use Rattle.rs_model.specs.declared.limits.TheConstants.{MOST_LABELS, MOST_ROLES, MOST_TALKS};
 ghost use Rattle.rs_text.specs.Lexing.{next_lexeme};
@@ -90,7 +93,18 @@ impl<'a> Model for Reader<'a> {
 
     ghost Value = { Reader_data };
 
-    ghost view = { λ r. record { roles = r.roles; labels = r.labels; role = r.role; drafts = r.drafts.items; start = r.start; ended = r.ended; bound = reverse r.bound.items; depth = r.depth; frames = reverse r.frames.items; mode = r.mode } };
+    ghost view = { λ r. record {
+      roles = r.roles;
+      labels = r.labels;
+      role = r.role;
+      drafts = r.drafts.items;
+      start = r.start;
+      ended = r.ended;
+      bound = reverse r.bound.items;
+      depth = r.depth;
+      frames = reverse r.frames.items;
+      mode = r.mode;
+    } };
 
     ghost invariant = { λ r. (length r.roles ≤ MOST_ROLES) × ((length r.labels ≤ MOST_LABELS) × (length r.drafts.items ≤ MOST_TALKS)) };
 }
@@ -98,7 +112,7 @@ impl<'a> Model for Reader<'a> {
 /// Heads at most.
 pub(crate) fn most_heads(dialect: Dialect) -> usize
     ensures number { result ≡ most dialect }
-    ensures few { result ≤ MOST_TALKS }
+    ensures bounded { result ≤ MOST_TALKS }
 {
     match dialect {
         Dialect::Talks => MOST_TALKS,
@@ -665,7 +679,8 @@ impl<'a> Reader<'a> {
         at: usize,
         next: &TextToken,
     ) -> Result<(), Stop>
-        ensures { spec.Feeds result (if turns dialect next.now.sign then spec.feed_head_role dialect (place_of word.now self.old.roles) from at self.old else spec.feed_bound_name (nearest_binding word.now self.old.bound) from at self.old) self.old self.new }
+        ensures { spec.Feeds result (if turns dialect next.now.sign then spec.feed_head_role dialect (place_of word.now self.old.roles) from at self.old else spec.feed_bound_name
+            (nearest_binding word.now self.old.bound) from at self.old) self.old self.new }
     {
         if is_turn(dialect, next) {
             let first = role_named(&self.roles, word);

@@ -1,3 +1,5 @@
+//! The test whether some body spells a graph.
+
 ghost use Rattle.std.specs.Prelude.{◌≡◌, ◌≤◌, ◌<◌, ◌+◌, length, Some, None, nat_lt, replicate, if◌then◌else◌, ◌↔◌, IsTrue};
 ghost use Rattle.rs_model.specs.declared.limits.TheConstants.{MOST_LABELS, MOST_NESTING, MOST_ROLES, MOST_TALKS};
 ghost use Rattle.rs_bodies.specs.Bodied.{HasBody};
@@ -6,7 +8,7 @@ ghost use Rattle.rs_bodies.specs.Shapes.{IsTrailOf, AreReaches, outline, reach_o
 ghost use Rattle.rs_bodies.specs.declared.places.Place.TheVariants as place;
 
 use crate::dialects::{Dialect, Head};
-use crate::places::{Numbered, Place, PointRef};
+use crate::places::{NumberedGraph, Place, PointRef};
 use crate::reading::most_heads;
 use rs_model::{Arm, MOST_LABELS, MOST_NESTING, MOST_TALKS};
 
@@ -14,7 +16,7 @@ const MOST_PLACES: usize = MOST_TALKS + 1;
 
 /// What a walk over the heads has met so far.
 #[derive(Clone, Copy)]
-pub struct Walk {
+pub struct HeadsMet {
     pub count: u32,
     pub labels: u32,
     pub ended: bool,
@@ -34,7 +36,7 @@ pub struct Trail {
 /// in order of text, each arm leads to a head round it, to the next new head or to the end, which is the last place and
 /// is there where something leads to it, new labels are numbered in order of their first places, and roles, heads,
 /// labels and the nesting of the canonical text are within their limits.
-pub fn has_body<G: Numbered>(graph: &G, dialect: Dialect, roles: u32, labels: u32) -> bool
+pub fn has_body<G: NumberedGraph>(graph: &G, dialect: Dialect, roles: u32, labels: u32) -> bool
     requires roles { roles ≤ MOST_ROLES }
     requires labels { labels ≤ MOST_LABELS }
     ensures { IsTrue result ↔ HasBody dialect roles labels (G.places graph.now) (G.root graph.now) }
@@ -43,7 +45,7 @@ pub fn has_body<G: Numbered>(graph: &G, dialect: Dialect, roles: u32, labels: u3
 }
 
 /// Whether a walk over the places in order of text meets them all.
-fn is_walked<G: Numbered>(graph: &G, dialect: Dialect, roles: u32, labels: u32) -> bool
+fn is_walked<G: NumberedGraph>(graph: &G, dialect: Dialect, roles: u32, labels: u32) -> bool
     ensures { result ≡ spec.is_walked dialect (record { roles = roles; places = G.places graph.now }) (G.root graph.now) labels }
 {
     if graph.size() > MOST_PLACES {
@@ -62,11 +64,11 @@ fn is_walked<G: Numbered>(graph: &G, dialect: Dialect, roles: u32, labels: u32) 
     walks(graph, &trail, labels)
 }
 
-fn walks<G: Numbered>(graph: &G, trail: &Trail, labels: u32) -> bool
+fn walks<G: NumberedGraph>(graph: &G, trail: &Trail, labels: u32) -> bool
     requires { IsTrailOf (G.places graph.now) trail.now }
     ensures { result ≡ spec.is_whole (G.places graph.now) (spec.walk_from trail.now.dialect (outline (G.places graph.now) trail.now) (G.root graph.now) labels) }
 {
-    let begin = Walk {
+    let begin = HeadsMet {
         count: 0,
         labels,
         ended: false,
@@ -76,8 +78,8 @@ fn walks<G: Numbered>(graph: &G, trail: &Trail, labels: u32) -> bool
 }
 
 /// Whether all heads were met, and an end where there is one.
-fn is_whole<G: Numbered>(graph: &G, walk: Option<Walk>) -> bool
-    requires few { length (G.places graph.now) ≤ MOST_TALKS + 1 }
+fn is_whole<G: NumberedGraph>(graph: &G, walk: Option<HeadsMet>) -> bool
+    requires bounded { length (G.places graph.now) ≤ MOST_TALKS + 1 }
     ensures { result ≡ spec.is_whole (G.places graph.now) walk }
 {
     match walk {
@@ -102,16 +104,16 @@ fn is_end(place: Option<Place>) -> bool
     }
 }
 
-fn ends_last<G: Numbered>(graph: &G) -> bool
-    requires few { length (G.places graph.now) ≤ MOST_TALKS + 1 }
+fn ends_last<G: NumberedGraph>(graph: &G) -> bool
+    requires bounded { length (G.places graph.now) ≤ MOST_TALKS + 1 }
     ensures { result ≡ spec.ends_last (G.places graph.now) }
 {
     is_end(graph.place(graph.size().saturating_sub(1) as u32))
 }
 
 /// The number of the end, which is the count of heads.
-fn number_of_end<G: Numbered>(graph: &G) -> usize
-    requires few { length (G.places graph.now) ≤ MOST_TALKS + 1 }
+fn number_of_end<G: NumberedGraph>(graph: &G) -> usize
+    requires bounded { length (G.places graph.now) ≤ MOST_TALKS + 1 }
     ensures number { result ≡ spec.number_of_end (G.places graph.now) }
     ensures within { result ≤ MOST_TALKS + 1 }
 {
@@ -123,8 +125,8 @@ fn number_of_end<G: Numbered>(graph: &G) -> usize
 }
 
 /// For each place one more than the number of the last place that leads to it.
-fn reaches<G: Numbered>(graph: &G) -> [u32; MOST_PLACES]
-    requires few { length (G.places graph.now) ≤ MOST_TALKS + 1 }
+fn reaches<G: NumberedGraph>(graph: &G) -> [u32; MOST_PLACES]
+    requires bounded { length (G.places graph.now) ≤ MOST_TALKS + 1 }
     ensures { result ≡ spec.reaches_behind_places 0 (G.places graph.now) (replicate (MOST_TALKS + 1) 0) }
 {
     let mut reaches = [0; MOST_PLACES];
@@ -135,7 +137,7 @@ fn reaches<G: Numbered>(graph: &G) -> [u32; MOST_PLACES]
 }
 
 fn mark_place(reaches: &mut [u32; MOST_PLACES], number: u32, place: Option<Place>)
-    requires few { number < MOST_TALKS + 1 }
+    requires bounded { number < MOST_TALKS + 1 }
     ensures { reaches.new ≡ spec.there_reached number place.entry reaches.old }
 {
     if let Some(Place::Point(point)) = place {
@@ -145,7 +147,7 @@ fn mark_place(reaches: &mut [u32; MOST_PLACES], number: u32, place: Option<Place
 
 /// Marks where the arms of a place lead.
 fn mark(reaches: &mut [u32; MOST_PLACES], number: u32, arms: &[Arm])
-    requires few { number < MOST_TALKS + 1 }
+    requires bounded { number < MOST_TALKS + 1 }
     ensures { reaches.new ≡ spec.reaches_behind_arms number arms.now reaches.old }
 {
     for arm in arms {
@@ -163,14 +165,14 @@ fn leads_from(trail: &Trail, from: u32, to: u32) -> bool
     from < trail.reaches[to as usize]
 }
 
-fn walk_behind_label(label: u16, walk: Walk) -> Option<Walk>
+fn walk_behind_label(label: u16, walk: HeadsMet) -> Option<HeadsMet>
     ensures { result ≡ spec.walk_behind_label label walk }
 {
     let label = u32::from(label);
     if label < walk.labels {
         Some(walk)
     } else if label == walk.labels && (label as usize) < MOST_LABELS {
-        Some(Walk {
+        Some(HeadsMet {
             labels: walk.labels + 1,
             ..walk
         })
@@ -181,7 +183,7 @@ fn walk_behind_label(label: u16, walk: Walk) -> Option<Walk>
 
 fn nesting_within(trail: &Trail, depth: u32, n: u32, arms: &[Arm]) -> u32
     requires shallow { depth ≤ MOST_NESTING }
-    requires there { n < MOST_TALKS + 1 }
+    requires present { n < MOST_TALKS + 1 }
     ensures { result ≡ spec.deeper (spec.are_more arms.now) (spec.deeper (nat_lt n (reach_of trail.now.reaches n)) depth) }
 {
     let mut depth = depth;
@@ -214,15 +216,15 @@ fn is_fit(trail: &Trail, nesting: u32, point: &PointRef) -> bool
 }
 
 #[cycle(walking)]
-fn walk_behind_next<G: Numbered>(
+fn walk_behind_next<G: NumberedGraph>(
     graph: &G,
     trail: &Trail,
     fuel: u32,
     depth: u32,
     from: u32,
     next: u32,
-    walk: Walk,
-) -> Option<Walk>
+    walk: HeadsMet,
+) -> Option<HeadsMet>
     requires shallow { depth ≤ MOST_NESTING }
     requires trail { IsTrailOf (G.places graph.now) trail.now }
     requires fuelled { fuel ≤ MOST_TALKS + 2 }
@@ -233,7 +235,7 @@ fn walk_behind_next<G: Numbered>(
     } else if next == walk.count && next < trail.last {
         walk_behind_head(graph, trail, fuel, depth, next, walk)
     } else if next == trail.last {
-        Some(Walk {
+        Some(HeadsMet {
             ended: true,
             ..walk
         })
@@ -243,19 +245,20 @@ fn walk_behind_next<G: Numbered>(
 }
 
 #[cycle(walking)]
-fn walk_behind_arms<G: Numbered>(
+fn walk_behind_arms<G: NumberedGraph>(
     graph: &G,
     trail: &Trail,
     fuel: u32,
     depth: u32,
     from: u32,
     arms: &[Arm],
-    walk: Walk,
-) -> Option<Walk>
+    walk: HeadsMet,
+) -> Option<HeadsMet>
     requires shallow { depth ≤ MOST_NESTING }
     requires trail { IsTrailOf (G.places graph.now) trail.now }
     requires fuelled { fuel ≤ MOST_TALKS + 2 }
-    ensures { result ≡ spec.walk_behind_arms (spec.walk_behind_head fuel trail.now.dialect (outline (G.places graph.now) trail.now) depth) (spec.number_of_end (G.places graph.now)) from arms.now walk }
+    ensures { result ≡ spec.walk_behind_arms (spec.walk_behind_head fuel trail.now.dialect (outline (G.places graph.now) trail.now) depth) (spec.number_of_end (G.places graph.now))
+        from arms.now walk }
 {
     let mut walk = walk;
     for arm in arms {
@@ -266,7 +269,7 @@ fn walk_behind_arms<G: Numbered>(
 }
 
 /// No later arm leads back to head `n`.
-fn walk_where_closed(trail: &Trail, n: u32, walk: Walk) -> Option<Walk>
+fn walk_where_closed(trail: &Trail, n: u32, walk: HeadsMet) -> Option<HeadsMet>
     requires { n < MOST_TALKS + 1 }
     ensures { result ≡ (if nat_lt walk.count (reach_of trail.now.reaches n) then None else Some walk) }
 {
@@ -278,27 +281,28 @@ fn walk_where_closed(trail: &Trail, n: u32, walk: Walk) -> Option<Walk>
 }
 
 #[cycle(walking)]
-fn walk_behind_point<G: Numbered>(
+fn walk_behind_point<G: NumberedGraph>(
     graph: &G,
     trail: &Trail,
     fuel: u32,
     depth: u32,
     n: u32,
-    walk: Walk,
+    walk: HeadsMet,
     point: &PointRef,
-) -> Option<Walk>
+) -> Option<HeadsMet>
     requires shallow { depth ≤ MOST_NESTING }
     requires trail { IsTrailOf (G.places graph.now) trail.now }
     requires fuelled { fuel ≤ MOST_TALKS + 2 }
     requires counted { walk.count ≤ MOST_TALKS + 1 }
-    requires there { n < MOST_TALKS + 1 }
-    ensures { result ≡ spec.walk_behind_place (λ inner next v. spec.walk_behind_head fuel trail.now.dialect (outline (G.places graph.now) trail.now) inner next v) trail.now.dialect (outline (G.places graph.now) trail.now) depth n walk (Some (place.Point point.now)) }
+    requires present { n < MOST_TALKS + 1 }
+    ensures { result ≡ spec.walk_behind_place (λ inner next v. spec.walk_behind_head fuel trail.now.dialect (outline (G.places graph.now) trail.now) inner next v) trail.now.dialect
+        (outline (G.places graph.now) trail.now) depth n walk (Some (place.Point point.now)) }
 {
     let inner = nesting_within(trail, depth, n, point.arms);
     if !is_fit(trail, inner, point) {
         return None;
     }
-    let begin = Walk {
+    let begin = HeadsMet {
         count: walk.count + 1,
         ..walk
     };
@@ -308,19 +312,19 @@ fn walk_behind_point<G: Numbered>(
 
 /// Head `n` and what stands behind its arms.
 #[cycle(walking)]
-fn walk_behind_head<G: Numbered>(
+fn walk_behind_head<G: NumberedGraph>(
     graph: &G,
     trail: &Trail,
     fuel: u32,
     depth: u32,
     n: u32,
-    walk: Walk,
-) -> Option<Walk>
+    walk: HeadsMet,
+) -> Option<HeadsMet>
     requires shallow { depth ≤ MOST_NESTING }
     requires trail { IsTrailOf (G.places graph.now) trail.now }
     requires fuelled { fuel ≤ MOST_TALKS + 2 }
     requires counted { walk.count ≤ MOST_TALKS + 1 }
-    requires there { n < MOST_TALKS + 1 }
+    requires present { n < MOST_TALKS + 1 }
     ensures { result ≡ spec.walk_behind_head fuel trail.now.dialect (outline (G.places graph.now) trail.now) depth n walk }
 {
     if fuel == 0 {

@@ -8,28 +8,29 @@ use Rattle.rs_core.specs.Actors.{Behaviour}
 use Rattle.rs_core.specs.Choices.{AreWellFormed}
 use Rattle.rs_core.specs.Configurations.{Configuration}
 use Rattle.rs_core.specs.Histories.{Sent, Got, History, transcript_of}
-use Rattle.rs_core.specs.Plain.{Moment, BySend, ByReceive, HasEnded, Waits, FindsFull, LimitedTurn, Turns, Ending, Ended, Stopped, Stuck, PlainFrom, AllDone, Stops, NoneMoves, GoesOn, IsPlain, FirstFull}
+use Rattle.rs_core.specs.Plain.{Moment, BySend, ByReceive, HasEnded, Waits, FindsFull, LimitedTurn, Turns, Ending, Ended, Stopped, Stuck, PlainFrom, AllDone, Stops, NoneMoves, GoesOn, IsPlain}
+use Rattle.rs_core.specs.Plain.{FirstFull}
 use Rattle.rs_core.specs.Runs.{sent_to, got_from}
-use Rattle.rs_core.proofs.Compared.{told-fifo}
-use Rattle.rs_core.proofs.Ends.{sound-round}
+use Rattle.rs_core.proofs.Compared.{told_fifo}
+use Rattle.rs_core.proofs.Ends.{sound_round}
 use Rattle.rs_core.proofs.Fifo.{sents, gots}
-use Rattle.rs_core.proofs.Rounds.{Sound, sound-start}
-use Rattle.rs_core.proofs.Stands.{here-is, peered}
+use Rattle.rs_core.proofs.Rounds.{Sound, sound_start}
+use Rattle.rs_core.proofs.Stands.{here_is, peered}
 
-pub sent-many : (q : ℕ) (h : History) → sent_to q (transcript_of h) ≡ length (sents q h)
-sent-many q [] = refl
-sent-many q (Got r l v ∷ h) = sent-many q h
-sent-many q (Sent r l v ∷ h) = elim (eqb_tells r.0 q) [
-  | inl t ↦ rw t.0 (ap suc (sent-many q h))
-  | inr t ↦ rw t.0 (sent-many q h)
+pub sent_many : (q : ℕ) (h : History) → sent_to q (transcript_of h) ≡ length (sents q h)
+sent_many q [] = refl
+sent_many q (Got r l v ∷ h) = sent_many q h
+sent_many q (Sent r l v ∷ h) = elim (eqb_tells r.0 q) [
+  | inl t ↦ rw t.0 (ap suc (sent_many q h))
+  | inr t ↦ rw t.0 (sent_many q h)
 ]
 
-pub got-many : (q : ℕ) (h : History) → got_from q (transcript_of h) ≡ length (gots q h)
-got-many q [] = refl
-got-many q (Sent r l v ∷ h) = got-many q h
-got-many q (Got r l v ∷ h) = elim (eqb_tells r.0 q) [
-  | inl t ↦ rw t.0 (ap suc (got-many q h))
-  | inr t ↦ rw t.0 (got-many q h)
+pub got_many : (q : ℕ) (h : History) → got_from q (transcript_of h) ≡ length (gots q h)
+got_many q [] = refl
+got_many q (Sent r l v ∷ h) = got_many q h
+got_many q (Got r l v ∷ h) = elim (eqb_tells r.0 q) [
+  | inl t ↦ rw t.0 (ap suc (got_many q h))
+  | inr t ↦ rw t.0 (got_many q h)
 ]
 
 -- no queue holds more
@@ -37,9 +38,9 @@ IsWithin : ℕ → Configuration → Type 0
 IsWithin capacity c = (a q : ℕ) → length (c.queue a q) ≤ capacity
 
 module _ {A : Type 0} (b : Behaviour A) where
-  within-turn : (ms : List Machine_data) (limit capacity p : ℕ) (l k : Moment A) (moved : Bool) → LimitedTurn ms b limit (Some capacity) p l k moved → IsWithin capacity l.at → IsWithin capacity k.at
+  within_turn : (ms : List Machine_data) (limit capacity p : ℕ) (l k : Moment A) (moved : Bool) → LimitedTurn ms b limit (Some capacity) p l k moved → IsWithin capacity l.at → IsWithin capacity k.at
   unfolding IsWithin
-  within-turn ms limit capacity p l k true (below, BySend t) w a q = elim (eqb_tells a p) [
+  within_turn ms limit capacity p l k true (below, BySend t) w a q = elim (eqb_tells a p) [
     | inl u ↦ elim (eqb_tells q t.step.peer.0) [
       | inl v ↦ (let P : ℕ → ℕ → Type 0 = λ x y. length (k.at.queue x y) ≤ capacity in
           let room = t.room in
@@ -50,7 +51,7 @@ module _ {A : Type 0} (b : Behaviour A) where
     ]
     | inr u ↦ (let e = ap length (t.step.other_queues a q (inl u.1)) in let h = w a q in omega (arith, e))
   ]
-  within-turn ms limit capacity p l k true (below, ByReceive t) w a q = elim (eqb_tells a t.step.peer.0) [
+  within_turn ms limit capacity p l k true (below, ByReceive t) w a q = elim (eqb_tells a t.step.peer.0) [
     | inl u ↦ elim (eqb_tells q p) [
       | inl v ↦ (let P : ℕ → ℕ → Type 0 = λ x y. length (k.at.queue x y) ≤ capacity in
           let e = ap length t.step.removes in
@@ -61,13 +62,14 @@ module _ {A : Type 0} (b : Behaviour A) where
     ]
     | inr u ↦ (let e = ap length (t.step.other_queues a q (inl u.1)) in let h = w a q in omega (arith, e))
   ]
-  within-turn ms limit capacity p l k false (below, HasEnded d e) w a q = let s = ap (λ (z : Moment A). length (z.at.queue a q)) e in let h = w a q in omega (arith, s)
-  within-turn ms limit capacity p l k false (below, Waits peer arms takes empty e) w a q = let s = ap (λ (z : Moment A). length (z.at.queue a q)) e in let h = w a q in omega (arith, s)
-  within-turn ms limit capacity p l k false (below, FindsFull t) w a q = let s = ap (λ (z : Configuration). length (z.queue a q)) t.at in let h = w a q in omega (arith, s)
+  within_turn ms limit capacity p l k false (below, HasEnded d e) w a q = let s = ap (λ (z : Moment A). length (z.at.queue a q)) e in let h = w a q in omega (arith, s)
+  within_turn ms limit capacity p l k false (below, Waits peer arms takes empty e) w a q = let s = ap (λ (z : Moment A). length (z.at.queue a q)) e in let h = w a q in omega (arith, s)
+  within_turn ms limit capacity p l k false (below, FindsFull t) w a q = let s = ap (λ (z : Configuration). length (z.queue a q)) t.at in let h = w a q in omega (arith, s)
 
-  within-turns : (ms : List Machine_data) (limit capacity many p : ℕ) (l k : Moment A) (moved : Bool) → Turns (LimitedTurn ms b limit (Some capacity)) many p l k moved → IsWithin capacity l.at → IsWithin capacity k.at
-  within-turns ms limit capacity zero p l k moved t w = let P : Moment A → Type 0 = λ z. IsWithin capacity z.at in subst P (sym t.0) w
-  within-turns ms limit capacity (suc many) p l k moved t w = within-turns ms limit capacity many (suc p) t.0 k t.2 t.4 (within-turn ms limit capacity p l t.0 t.1 t.3 w)
+  within_turns : (ms : List Machine_data) (limit capacity many p : ℕ) (l k : Moment A) (moved : Bool) → Turns (LimitedTurn ms b limit (Some capacity)) many p l k moved → IsWithin capacity l.at
+      → IsWithin capacity k.at
+  within_turns ms limit capacity zero p l k moved t w = let P : Moment A → Type 0 = λ z. IsWithin capacity z.at in subst P (sym t.0) w
+  within_turns ms limit capacity (suc many) p l k moved t w = within_turns ms limit capacity many (suc p) t.0 k t.2 t.4 (within_turn ms limit capacity p l t.0 t.1 t.3 w)
 
   -- what holds of a stuck run
   OfStuck : List Machine_data → (ℕ → A) → ℕ → ℕ → Ending A → Type 0
@@ -75,15 +77,16 @@ module _ {A : Type 0} (b : Behaviour A) where
   OfStuck ms actors limit capacity (Stopped p k) = Unit {0}
   OfStuck ms actors limit capacity (Stuck k) = Sound b ms actors limit k × IsWithin capacity k.at
 
-  of-stuck : (ms : List Machine_data) (actors : ℕ → A) (limit capacity : ℕ) (l : Moment A) (o : Ending A) → Sound b ms actors limit l → IsWithin capacity l.at → PlainFrom ms b limit (Some capacity) l o
+  of_stuck : (ms : List Machine_data) (actors : ℕ → A) (limit capacity : ℕ) (l : Moment A) (o : Ending A) → Sound b ms actors limit l → IsWithin capacity l.at
+      → PlainFrom ms b limit (Some capacity) l o
       → OfStuck ms actors limit capacity o
   unfolding OfStuck
-  of-stuck ms actors limit capacity _ _ s w (AllDone l all) = tt
-  of-stuck ms actors limit capacity _ _ s w (Stops p l k moved there ts at) = tt
-  of-stuck ms actors limit capacity _ _ s w (NoneMoves p l k there goes ts) =
-      (sound-round b ms actors limit (Some capacity) (length ms) l k false s ts, within-turns ms limit capacity (length ms) 0 l k false ts w)
-  of-stuck ms actors limit capacity _ _ s w (GoesOn l m o ts rest) =
-      of-stuck ms actors limit capacity m o (sound-round b ms actors limit (Some capacity) (length ms) l m true s ts) (within-turns ms limit capacity (length ms) 0 l m true ts w) rest
+  of_stuck ms actors limit capacity _ _ s w (AllDone l all) = tt
+  of_stuck ms actors limit capacity _ _ s w (Stops p l k moved there ts at) = tt
+  of_stuck ms actors limit capacity _ _ s w (NoneMoves p l k there goes ts) =
+      (sound_round b ms actors limit (Some capacity) (length ms) l k false s ts, within_turns ms limit capacity (length ms) 0 l k false ts w)
+  of_stuck ms actors limit capacity _ _ s w (GoesOn l m o ts rest) =
+      of_stuck ms actors limit capacity m o (sound_round b ms actors limit (Some capacity) (length ms) l m true s ts) (within_turns ms limit capacity (length ms) 0 l m true ts w) rest
 
   -- the first sender at a full queue has sent as many messages as its receiver has taken, and the capacity
   pub apart : (ms : List Machine_data) (actors : ℕ → A) (limit capacity : ℕ) (k : Moment A) (sender : ℕ) (receiver : Role) → AreWellFormed ms → IsPlain ms b actors limit (Some capacity) (Stuck k)
@@ -92,13 +95,14 @@ module _ {A : Type 0} (b : Behaviour A) where
   unfolding OfStuck IsWithin
   apart ms actors limit capacity k sender receiver wf is f =
       let start : IsWithin capacity is.first.at = λ a q. (let e = ap length (is.starts.at.queues a q) in omega (arith, e)) in
-      let of = of-stuck ms actors limit capacity is.first (Stuck k) (sound-start b ms actors limit is.first is.starts) start is.run in
-      let at = here-is (slice_get ms sender) (k.at.at sender) (Puts receiver f.arms) f.puts in
+      let of = of_stuck ms actors limit capacity is.first (Stuck k) (sound_start b ms actors limit is.first is.starts) start is.run in
+      let at = here_is (slice_get ms sender) (k.at.at sender) (Puts receiver f.arms) f.puts in
       let peer = (peered ms wf).puts sender at.0 (k.at.at sender) receiver f.arms at.1 at.2 in
-      let fifo : gots sender (k.history receiver.0) ++ k.at.queue sender receiver.0 ≡ sents receiver.0 (k.history sender) = told-fifo b ms k.history k.at of.0.told sender receiver.0 (λ e. peer.1 (sym e)) in
+      let fifo : gots sender (k.history receiver.0) ++ k.at.queue sender receiver.0 ≡ sents receiver.0 (k.history sender) =
+      told_fifo b ms k.history k.at of.0.told sender receiver.0 (λ e. peer.1 (sym e)) in
       let sum = sym (length-append (gots sender (k.history receiver.0)) (k.at.queue sender receiver.0)) ∙ ap length fifo in
       let most = of.1 sender receiver.0 in
       let least = f.full in
-      let s = sent-many receiver.0 (k.history sender) in
-      let g = got-many sender (k.history receiver.0) in
+      let s = sent_many receiver.0 (k.history sender) in
+      let g = got_many sender (k.history receiver.0) in
       omega (arith, sum, s, g)

@@ -10,8 +10,8 @@ use Rattle.rs_core.specs.Configurations.{Configuration, state_at}
 use Rattle.rs_core.specs.Safety.{CanMove, MaySend, MayReceive, IsSafe}
 use Rattle.rs_core.specs.Actors.{Behaviour, ChoosesWell}
 use Rattle.rs_core.specs.Plain.{Moment, IsFull, Rests, HasEnded, Waits, FindsFull, LimitedTurn, Turns, Ending, Ended, Stopped, Stuck, PlainFrom, AllDone, Stops, NoneMoves, GoesOn, IsPlain, FirstFull}
-use Rattle.rs_core.proofs.Rounds.{Sound, sound-start}
-use Rattle.rs_core.proofs.Ends.{Given, reached, sound-round}
+use Rattle.rs_core.proofs.Rounds.{Sound, sound_start}
+use Rattle.rs_core.proofs.Ends.{Given, reached, sound_round}
 
 module _ {A : Type 0} (b : Behaviour A) where
   -- role q waits at a full queue
@@ -51,10 +51,10 @@ module _ {A : Type 0} (b : Behaviour A) where
     full : AtFull ms room c at
     first : (r : ℕ) → p ≤ r → r < at → Idles ms c r
 
-  search-full : (ms : List Machine_data) (limit : ℕ) (room : Option ℕ) (many p : ℕ) (l k : Moment A) (moved : Bool) → moved ≡ false → Turns (LimitedTurn ms b limit room) many p l k moved
+  search_full : (ms : List Machine_data) (limit : ℕ) (room : Option ℕ) (many p : ℕ) (l k : Moment A) (moved : Bool) → moved ≡ false → Turns (LimitedTurn ms b limit room) many p l k moved
       → (k.at ≡ l.at) × (First ms room many p l.at ⊎ ((r : ℕ) → p ≤ r → r < p + many → Idles ms l.at r))
-  search-full ms limit room zero p l k moved no-move t = (ap (λ (z : Moment A). z.at) t.0, inr (λ r low high. absurd (omega arith)))
-  search-full ms limit room (suc many) p l k moved no-move t = go t.1 t.2 t.3 (λ e. search-full ms limit room many (suc p) t.0 k t.2 e t.4) (sym t.5 ∙ no-move)
+  search_full ms limit room zero p l k moved no_move t = (ap (λ (z : Moment A). z.at) t.0, inr (λ r low high. absurd (omega arith)))
+  search_full ms limit room (suc many) p l k moved no_move t = go t.1 t.2 t.3 (λ e. search_full ms limit room many (suc p) t.0 k t.2 e t.4) (sym t.5 ∙ no_move)
     where
       join : (t.0.at ≡ l.at) → AtFull ms room l.at p ⊎ Idles ms l.at p → First ms room many (suc p) t.0.at ⊎ ((r : ℕ) → suc p ≤ r → r < suc p + many → Idles ms t.0.at r)
           → First ms room (suc many) p l.at ⊎ ((r : ℕ) → p ≤ r → r < p + suc many → Idles ms l.at r)
@@ -87,12 +87,12 @@ module _ {A : Type 0} (b : Behaviour A) where
   FullEnding ms room (Stopped p k) = Unit {0}
   FullEnding ms room (Stuck k) = (sender : ℕ) × (receiver : Role) × FirstFull ms room k sender receiver
 
-  full-ending : (ms : List Machine_data) (actors : ℕ → A) (limit : ℕ) (room : Option ℕ) (l : Moment A) (o : Ending A) → Given b ms → Sound b ms actors limit l → PlainFrom ms b limit room l o
+  full_ending : (ms : List Machine_data) (actors : ℕ → A) (limit : ℕ) (room : Option ℕ) (l : Moment A) (o : Ending A) → Given b ms → Sound b ms actors limit l → PlainFrom ms b limit room l o
       → FullEnding ms room o
   unfolding FullEnding
-  full-ending ms actors limit room _ _ given s (AllDone l all) = tt
-  full-ending ms actors limit room _ _ given s (Stops p l k moved there ts at) = tt
-  full-ending ms actors limit room _ _ given s (NoneMoves p l k there goes ts) = by (search-full ms limit room (length ms) 0 l k false refl ts)
+  full_ending ms actors limit room _ _ given s (AllDone l all) = tt
+  full_ending ms actors limit room _ _ given s (Stops p l k moved there ts at) = tt
+  full_ending ms actors limit room _ _ given s (NoneMoves p l k there goes ts) = by (search_full ms limit room (length ms) 0 l k false refl ts)
     where
       by : (k.at ≡ l.at) × (First ms room (length ms) 0 l.at ⊎ ((r : ℕ) → 0 ≤ r → r < 0 + length ms → Idles ms l.at r)) → (sender : ℕ) × (receiver : Role) × FirstFull ms room k sender receiver
       by (e, inl f) =
@@ -102,7 +102,7 @@ module _ {A : Type 0} (b : Behaviour A) where
             f.full.peer,
             record {
               arms = f.full.arms;
-              there = (let h = f.high in omega arith);
+              present = (let h = f.high in omega arith);
               puts = subst P (sym e) f.full.puts;
               full = subst Q (sym e) f.full.full;
               first = λ r peer arms less h. let R : Configuration → Type 0 = λ z. state_at ms z r ≡ Some (Puts peer arms) in (f.first r (omega arith) less).puts peer arms (subst R e h);
@@ -112,34 +112,34 @@ module _ {A : Type 0} (b : Behaviour A) where
         | inl can ↦ (idle can.0 (omega arith) (omega (arith, can.1))).moves can.2
         | inr all ↦ goes (all.done p there)
       ])
-  full-ending ms actors limit room _ _ given s (GoesOn l m o ts rest) = full-ending ms actors limit room m o given (sound-round b ms actors limit room (length ms) l m true s ts) rest
+  full_ending ms actors limit room _ _ given s (GoesOn l m o ts rest) = full_ending ms actors limit room m o given (sound_round b ms actors limit room (length ms) l m true s ts) rest
 
-  pub stuck-is-full : ChoosesWell b → (ms : List Machine_data) (actors : ℕ → A) (limit : ℕ) (room : Option ℕ) (k : Moment A) → IsSafe ms → AreWellFormed ms → IsPlain ms b actors limit room (Stuck k)
+  pub stuck_is_full : ChoosesWell b → (ms : List Machine_data) (actors : ℕ → A) (limit : ℕ) (room : Option ℕ) (k : Moment A) → IsSafe ms → AreWellFormed ms → IsPlain ms b actors limit room (Stuck k)
       → (sender : ℕ) × (receiver : Role) × FirstFull ms room k sender receiver
   unfolding FullEnding
-  stuck-is-full well ms actors limit room k safe wf is =
-      full-ending ms actors limit room is.first (Stuck k) record { safe = safe; wf = wf; well = well } (sound-start b ms actors limit is.first is.starts) is.run
+  stuck_is_full well ms actors limit room k safe wf is =
+      full_ending ms actors limit room is.first (Stuck k) record { safe = safe; wf = wf; well = well } (sound_start b ms actors limit is.first is.starts) is.run
 
   -- a round in which no role made an act leaves the configuration
-  pub idle-at : (ms : List Machine_data) (limit : ℕ) (room : Option ℕ) (l k : Moment A) → Turns (LimitedTurn ms b limit room) (length ms) 0 l k false → k.at ≡ l.at
-  idle-at ms limit room l k ts = (search-full ms limit room (length ms) 0 l k false refl ts).0
+  pub idle_at : (ms : List Machine_data) (limit : ℕ) (room : Option ℕ) (l k : Moment A) → Turns (LimitedTurn ms b limit room) (length ms) 0 l k false → k.at ≡ l.at
+  idle_at ms limit room l k ts = (search_full ms limit room (length ms) 0 l k false refl ts).0
 
-  -- .. and where all have ended it changes nothing
-  done-turn : (ms : List Machine_data) (limit : ℕ) (room : Option ℕ) (p : ℕ) (l k : Moment A) → state_at ms l.at p ≡ Some Done → Rests ms b room p l k → k ≡ l
-  done-turn ms limit room p l k done (HasEnded d e) = e
-  done-turn ms limit room p l k done (Waits peer arms takes empty e) = e
-  done-turn ms limit room p l k done (FindsFull t) = let puts = t.puts in absurd (cc (puts, done))
+  -- a turn changes nothing where all have ended
+  done_turn : (ms : List Machine_data) (limit : ℕ) (room : Option ℕ) (p : ℕ) (l k : Moment A) → state_at ms l.at p ≡ Some Done → Rests ms b room p l k → k ≡ l
+  done_turn ms limit room p l k done (HasEnded d e) = e
+  done_turn ms limit room p l k done (Waits peer arms takes empty e) = e
+  done_turn ms limit room p l k done (FindsFull t) = let puts = t.puts in absurd (cc (puts, done))
 
-  pub done-turns : (ms : List Machine_data) (limit : ℕ) (room : Option ℕ) (many p : ℕ) (l k : Moment A) (moved : Bool) → moved ≡ false → Turns (LimitedTurn ms b limit room) many p l k moved
+  pub done_turns : (ms : List Machine_data) (limit : ℕ) (room : Option ℕ) (many p : ℕ) (l k : Moment A) (moved : Bool) → moved ≡ false → Turns (LimitedTurn ms b limit room) many p l k moved
       → ((r : ℕ) → p ≤ r → r < p + many → state_at ms l.at r ≡ Some Done) → k ≡ l
-  done-turns ms limit room zero p l k moved none t done = t.0
-  done-turns ms limit room (suc many) p l k moved none t done = go t.1 t.2 t.3 (λ e all. done-turns ms limit room many (suc p) t.0 k t.2 e t.4 all) (sym t.5 ∙ none)
+  done_turns ms limit room zero p l k moved none t done = t.0
+  done_turns ms limit room (suc many) p l k moved none t done = go t.1 t.2 t.3 (λ e all. done_turns ms limit room many (suc p) t.0 k t.2 e t.4 all) (sym t.5 ∙ none)
     where
       go : (acted later : Bool) → LimitedTurn ms b limit room p l t.0 acted → (later ≡ false → ((r : ℕ) → suc p ≤ r → r < suc p + many → state_at ms t.0.at r ≡ Some Done) → k ≡ t.0)
           → (acted || later) ≡ false → k ≡ l
       go true later u on e = absurd (cc (e))
       go false later u on e =
-          let here = done-turn ms limit room p l t.0 (done p (omega arith) (omega arith)) u.1 in
+          let here = done_turn ms limit room p l t.0 (done p (omega arith) (omega arith)) u.1 in
           let P : Moment A → Type 0 = λ z. (r : ℕ) → suc p ≤ r → r < suc p + many → state_at ms z.at r ≡ Some Done in
           let all : (r : ℕ) → suc p ≤ r → r < suc p + many → state_at ms l.at r ≡ Some Done = λ r low high. done r (omega arith) (omega arith) in
           on e (subst P (sym here) all) ∙ here

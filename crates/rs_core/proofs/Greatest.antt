@@ -10,16 +10,16 @@ use Rattle.rs_core.specs.Safety.{CanMove, MaySend, MayReceive}
 use Rattle.rs_core.specs.Choices.{AreWellFormed}
 use Rattle.rs_core.specs.Histories.{Action, History, action_of}
 use Rattle.rs_core.specs.Actors.{Behaviour, PlaysFrom}
-use Rattle.rs_core.proofs.Stands.{machine-at, peered}
-use Rattle.rs_core.proofs.Stories.{Histories, Story, Told, no-histories, story-grows}
-use Rattle.rs_core.proofs.Fifo.{sents, gots, sents-append, Fifo, fifo-step, fifo-start, Comparable, same-place}
-use Rattle.rs_core.proofs.Played.{plays-same}
-use Rattle.rs_core.proofs.Compared.{mover, AllPlay, told-fifo, compare, AtHere, at-step, at-start, told-at}
+use Rattle.rs_core.proofs.Stands.{machine_at, peered}
+use Rattle.rs_core.proofs.Stories.{Histories, Story, Told, no_histories, story_grows}
+use Rattle.rs_core.proofs.Fifo.{sents, gots, sents_append, Fifo, fifo_step, fifo_start, Comparable, same_place}
+use Rattle.rs_core.proofs.Played.{plays_same}
+use Rattle.rs_core.proofs.Compared.{mover, AllPlay, told_fifo, compare, AtHere, at_step, at_start, told_at}
 
 -- a machine's state is the role's state
-pub state-of : (ms : List Machine_data) (c : Configuration) (p : ℕ) (m : Machine_data) (st : State) → slice_get ms p ≡ Some m
+pub state_of : (ms : List Machine_data) (c : Configuration) (p : ℕ) (m : Machine_data) (st : State) → slice_get ms p ≡ Some m
     → slice_get m.states (c.at p) ≡ Some st → state_at ms c p ≡ Some st
-state-of ms c p m st is h = rw is h
+state_of ms c p m st is h = rw is h
 
 -- h of role r is a beginning of ks
 abbrev pub Begins : Histories → Histories → ℕ → Type 0
@@ -34,16 +34,16 @@ module _ {A : Type 0} (b : Behaviour A) where
     at : AtHere b ms actors d ks
     compared : (p : ℕ) → p < length ms → Comparable (hs p) (ks p)
     still : (p : ℕ) → p < length ms → length (ks p) < limit → CanMove ms d p → ⊥
-    few : (p : ℕ) → p < length ms → length (hs p) ≤ limit
+    bounded : (p : ℕ) → p < length ms → length (hs p) ≤ limit
 
   -- where ks has no more of r than h, d and c have one state of r
-  state-same : (ms : List Machine_data) (actors : ℕ → A) (c d : Configuration) (h ks : Histories) (r : ℕ) (m : Machine_data) → AreWellFormed ms
+  state_same : (ms : List Machine_data) (actors : ℕ → A) (c d : Configuration) (h ks : Histories) (r : ℕ) (m : Machine_data) → AreWellFormed ms
       → AtHere b ms actors d ks → AtHere b ms actors c h → slice_get ms r ≡ Some m → ks r ≡ h r → d.at r ≡ c.at r
-  state-same ms actors c d h ks r m wf atd atc is eq =
+  state_same ms actors c d h ks r m wf atd atc is eq =
       let a = atd r m is in
       let o = atc r m is in
       let P : History → Type 0 = λ w. PlaysFrom b m m.start (actors r) w (d.at r) a.0 in
-      (plays-same b m (length ms) m.start (actors r) (h r) (d.at r) (c.at r) a.0 o.0 (wf.fits r m is) (subst P eq a.1) o.1).0
+      (plays_same b m (length ms) m.start (actors r) (h r) (d.at r) (c.at r) a.0 o.0 (wf.fits r m is) (subst P eq a.1) o.1).0
 
   -- where ks has no more of the event's role than h, that role can go on in d
   moves : (ms : List Machine_data) (actors : ℕ → A) (limit : ℕ) (hs ks : Histories) (c d : Configuration) (e : Event) (n : Configuration) (h : Histories) → Fixed ms actors limit hs ks d
@@ -51,30 +51,33 @@ module _ {A : Type 0} (b : Behaviour A) where
       → CanMove ms d (role_of e)
   moves ms actors limit hs ks c d (Send r place v) n h f fc atc pre step eq =
       let m = mover ms c (Send r place v) n step in
-      let st = machine-at ms c r.0 (Puts step.peer step.arms) m.0 step.puts m.1 in
-      MaySend step.peer step.arms (state-of ms d r.0 m.0 (Puts step.peer step.arms) m.1 (rw (state-same ms actors c d h ks r.0 m.0 f.wf f.at atc m.1 eq) st))
+      let st = machine_at ms c r.0 (Puts step.peer step.arms) m.0 step.puts m.1 in
+      MaySend step.peer step.arms (state_of ms d r.0 m.0 (Puts step.peer step.arms) m.1 (rw (state_same ms actors c d h ks r.0 m.0 f.wf f.at atc m.1 eq) st))
   moves ms actors limit hs ks c d (Receive r) n h f fc atc pre step eq =
       let m = mover ms c (Receive r) n step in
       let q : ℕ = step.peer.0 in
-      let st = machine-at ms c r.0 (Takes step.peer step.arms) m.0 step.takes m.1 in
+      let st = machine_at ms c r.0 (Takes step.peer step.arms) m.0 step.takes m.1 in
       let peer = (peered ms f.wf).takes r.0 m.0 (c.at r.0) step.peer step.arms m.1 st in
       let pq = pre step.peer.0 peer.0 in
       let f0 : gots step.peer.0 (h r.0) ++ c.queue step.peer.0 r.0 ≡ sents r.0 (h step.peer.0) = fc step.peer.0 r.0 peer.1 in
       let f1 : gots step.peer.0 (ks r.0) ++ d.queue step.peer.0 r.0 ≡ sents r.0 (ks step.peer.0) = f.fifo step.peer.0 r.0 peer.1 in
-      let e1 : sents r.0 (ks step.peer.0) ≡ sents r.0 (h step.peer.0) ++ sents r.0 pq.0 = ap (λ (z : History). sents r.0 z) pq.1 ∙ sents-append r.0 (h step.peer.0) pq.0 in
+      let e1 : sents r.0 (ks step.peer.0) ≡ sents r.0 (h step.peer.0) ++ sents r.0 pq.0 = ap (λ (z : History). sents r.0 z) pq.1 ∙ sents_append r.0 (h step.peer.0) pq.0 in
       let e2 : gots step.peer.0 (h r.0) ++ d.queue step.peer.0 r.0 ≡ gots step.peer.0 (h r.0) ++ (c.queue step.peer.0 r.0 ++ sents r.0 pq.0) =
-      ap (λ (z : History). gots step.peer.0 z ++ d.queue step.peer.0 r.0) (sym eq) ∙ f1 ∙ e1 ∙ ap (λ (z : List Message). z ++ sents r.0 pq.0) (sym f0) ∙ append_assoc (gots step.peer.0 (h r.0)) (c.queue step.peer.0 r.0) (sents r.0 pq.0) in
-      let e3 : d.queue step.peer.0 r.0 ≡ c.queue step.peer.0 r.0 ++ sents r.0 pq.0 = append_cancel_left (gots step.peer.0 (h r.0)) (d.queue step.peer.0 r.0) (c.queue step.peer.0 r.0 ++ sents r.0 pq.0) e2 in
+      ap (λ (z : History). gots step.peer.0 z ++ d.queue step.peer.0 r.0) (sym eq) ∙ f1 ∙ e1 ∙ ap (λ (z : List Message). z ++ sents r.0 pq.0) (sym f0)
+      ∙ append_assoc (gots step.peer.0 (h r.0)) (c.queue step.peer.0 r.0) (sents r.0 pq.0) in
+      let e3 : d.queue step.peer.0 r.0 ≡ c.queue step.peer.0 r.0 ++ sents r.0 pq.0 =
+      append_cancel_left (gots step.peer.0 (h r.0)) (d.queue step.peer.0 r.0) (c.queue step.peer.0 r.0 ++ sents r.0 pq.0) e2 in
       let e4 : d.queue step.peer.0 r.0 ≡ step.message ∷ (n.queue step.peer.0 r.0 ++ sents r.0 pq.0) = e3 ∙ ap (λ (z : List Message). z ++ sents r.0 pq.0) step.removes in
-      MayReceive step.peer step.arms step.message (n.queue step.peer.0 r.0 ++ sents r.0 pq.0) (state-of ms d r.0 m.0 (Takes step.peer step.arms) m.1 (rw (state-same ms actors c d h ks r.0 m.0 f.wf f.at atc m.1 eq) st)) e4
+      MayReceive step.peer step.arms step.message (n.queue step.peer.0 r.0 ++ sents r.0 pq.0)
+      (state_of ms d r.0 m.0 (Takes step.peer step.arms) m.1 (rw (state_same ms actors c d h ks r.0 m.0 f.wf f.at atc m.1 eq) st)) e4
 
-  greatest-from : (ms : List Machine_data) (actors : ℕ → A) (limit : ℕ) (hs ks : Histories) (c c1 d : Configuration) (es : List Event) (h : Histories) → Fixed ms actors limit hs ks d
+  greatest_from : (ms : List Machine_data) (actors : ℕ → A) (limit : ℕ) (hs ks : Histories) (c c1 d : Configuration) (es : List Event) (h : Histories) → Fixed ms actors limit hs ks d
       → Story ms c h es c1 hs → Fifo c h → AtHere b ms actors c h → ((p : ℕ) → p < length ms → Begins h ks p)
       → (p : ℕ) → p < length ms → Begins hs ks p
-  greatest-from ms actors limit hs ks c c1 d [] h f s fc atc pre p hp = let P : History → Type 0 = λ w. (zs : History) × (ks p ≡ w ++ zs) in subst P (sym (s.1 p)) (pre p hp)
-  greatest-from ms actors limit hs ks c c1 d (e ∷ es) h f s fc atc pre p hp =
-      greatest-from ms actors limit hs ks s.0 c1 d es s.1 f s.3 (fifo-step ms c s.0 e h s.1 s.2 fc)
-      (at-step b ms actors c s.0 e h s.1 hs f.wf f.play s.2 grows atc) after p hp
+  greatest_from ms actors limit hs ks c c1 d [] h f s fc atc pre p hp = let P : History → Type 0 = λ w. (zs : History) × (ks p ≡ w ++ zs) in subst P (sym (s.1 p)) (pre p hp)
+  greatest_from ms actors limit hs ks c c1 d (e ∷ es) h f s fc atc pre p hp =
+      greatest_from ms actors limit hs ks s.0 c1 d es s.1 f s.3 (fifo_step ms c s.0 e h s.1 s.2 fc)
+      (at_step b ms actors c s.0 e h s.1 hs f.wf f.play s.2 grows atc) after p hp
     where
       r : ℕ
       r = role_of e
@@ -83,13 +86,13 @@ module _ {A : Type 0} (b : Behaviour A) where
       x = action_of ms c e s.0 s.2.0
 
       grows : (p : ℕ) → (more : History) × (hs p ≡ s.1 p ++ more)
-      grows = story-grows ms s.0 c1 es s.1 hs s.3
+      grows = story_grows ms s.0 c1 es s.1 hs s.3
 
       -- the action x of r stands in ks too, since r could still go on in d
       longer : role_of e < length ms → (zs : History) → ks (role_of e) ≡ h (role_of e) ++ zs → Begins s.1 ks (role_of e)
       longer hr [] eq =
           let g = grows (role_of e) in
-          let fw = f.few (role_of e) hr in
+          let fw = f.bounded (role_of e) hr in
           let eq' : ks (role_of e) ≡ h (role_of e) = eq ∙ append-nil (h (role_of e)) in
           let l1 : length (hs (role_of e)) ≡ length (h (role_of e) ++ (action_of ms c e s.0 s.2.0 ∷ [])) + length g.0 =
           ap length (g.1 ∙ ap (λ (z : History). z ++ g.0) s.2.1) ∙ length-append (h (role_of e) ++ (action_of ms c e s.0 s.2.0 ∷ [])) g.0 in
@@ -97,9 +100,10 @@ module _ {A : Type 0} (b : Behaviour A) where
           absurd (f.still (role_of e) hr (omega (arith, length-append (h (role_of e)) (action_of ms c e s.0 s.2.0 ∷ []))) (moves ms actors limit hs ks c d e s.0 h f fc atc pre s.2.0 eq'))
       longer hr (y ∷ zs) eq =
           let g = grows (role_of e) in
-          let hs' : hs (role_of e) ≡ h (role_of e) ++ (action_of ms c e s.0 s.2.0 ∷ g.0) = g.1 ∙ ap (λ (z : History). z ++ g.0) s.2.1 ∙ append_assoc (h (role_of e)) (action_of ms c e s.0 s.2.0 ∷ []) g.0 in
+          let hs' : hs (role_of e) ≡ h (role_of e) ++ (action_of ms c e s.0 s.2.0 ∷ g.0) = g.1 ∙ ap (λ (z : History). z ++ g.0) s.2.1
+          ∙ append_assoc (h (role_of e)) (action_of ms c e s.0 s.2.0 ∷ []) g.0 in
           let S : History → History → Type 0 = λ u w. Comparable u w in
-          let same : action_of ms c e s.0 s.2.0 ≡ y = same-place (h (role_of e)) (action_of ms c e s.0 s.2.0) y g.0 zs (subst₂ S hs' eq (f.compared (role_of e) hr)) in
+          let same : action_of ms c e s.0 s.2.0 ≡ y = same_place (h (role_of e)) (action_of ms c e s.0 s.2.0) y g.0 zs (subst₂ S hs' eq (f.compared (role_of e) hr)) in
           (zs, eq ∙ ap (λ (z : Action). h (role_of e) ++ (z ∷ zs)) (sym same) ∙ sym (append_assoc (h (role_of e)) (action_of ms c e s.0 s.2.0 ∷ []) zs) ∙ ap (λ (z : History). z ++ zs) (sym s.2.1))
 
       after : (q : ℕ) → q < length ms → Begins s.1 ks q
@@ -116,6 +120,14 @@ module _ {A : Type 0} (b : Behaviour A) where
       → ((p : ℕ) → p < length ms → length (ks p) < limit → CanMove ms d p → ⊥) → ((p : ℕ) → p < length ms → length (hs p) ≤ limit)
       → (p : ℕ) → p < length ms → Begins hs ks p
   greatest ms actors limit hs ks c d wf l1 l2 play1 play2 still few =
-      greatest-from ms actors limit hs ks l1.first c d l1.events no-histories
-      record { wf = wf; play = play1; fifo = told-fifo b ms ks d l2; at = told-at b ms actors ks d wf l2 play2; compared = compare b ms actors ks hs d c wf l2 l1 play2 play1; still = still; few = few }
-      l1.story (fifo-start ms l1.first l1.starts) (at-start b ms actors l1.first l1.starts) (λ p hp. (ks p, refl))
+      greatest_from ms actors limit hs ks l1.first c d l1.events no_histories
+      record {
+        wf = wf;
+        play = play1;
+        fifo = told_fifo b ms ks d l2;
+        at = told_at b ms actors ks d wf l2 play2;
+        compared = compare b ms actors ks hs d c wf l2 l1 play2 play1;
+        still = still;
+        bounded = few;
+      }
+      l1.story (fifo_start ms l1.first l1.starts) (at_start b ms actors l1.first l1.starts) (λ p hp. (ks p, refl))

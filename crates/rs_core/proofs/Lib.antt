@@ -26,4 +26,4 @@ pub mod Filled
 pub mod Shown
 pub mod Drawing
 pub mod Guards
-pub mod Apart
+pub mod Alike

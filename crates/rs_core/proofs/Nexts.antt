@@ -1,6 +1,5 @@
 -- Where safe machines can step, there is a step.
 use Rattle.std.proofs.Common.{◌≡◌, ◌⊎◌, inl, inr, ℕ, zero, suc, Bool, true, false, List, [], ◌∷◌, Some, slice_get, refl, ap, subst, sym}
-use Rattle.std.specs.Prelude.{pos}
 use Rattle.std.proofs.lemmas.Bool.Decides.{eqb_tells}
 use Rattle.rs_model.specs.Data.{Machine_data}
 use Rattle.rs_model.specs.Sorts.{fits, HasSort}
@@ -12,12 +11,12 @@ use Rattle.rs_model.specs.declared.values.Sort.TheVariants as sort
 use Rattle.rs_model.specs.declared.values.Value.{Value}
 use Rattle.rs_model.specs.declared.values.Value.TheVariants as value
 use Rattle.rs_model.specs.Values.{empty_value}
-use Rattle.rs_model.proofs.EmptyValues.{empty-fits}
+use Rattle.rs_model.proofs.EmptyValues.{empty_fits}
 use Rattle.rs_core.specs.Configurations.{Message, Configuration, Event, Send, Receive, Step, IsReachable}
 use Rattle.rs_core.specs.Safety.{CanMove, MaySend, MayReceive, CanStep, IsSafe}
 use Rattle.rs_core.specs.Choices.{HaveArms}
-use Rattle.rs_core.proofs.Moves.{after_send, after_receive, send-step, receive-step}
-use Rattle.rs_core.proofs.Stands.{here-is}
+use Rattle.rs_core.proofs.Moves.{after_send, after_receive, send_step, receive_step}
+use Rattle.rs_core.proofs.Stands.{here_is}
 
 -- an arm takes the message
 abbrev pub Fitting : Arm → Message → Type 0
@@ -67,16 +66,16 @@ find (x ∷ xs) m = elim (one x m) [
 next : (machines : List Machine_data) → IsSafe machines → HaveArms machines → (c : Configuration) → IsReachable machines c
     → (p : ℕ) → CanMove machines c p → (e : Event) × (d : Configuration) × Step machines c e d
 next machines safe arms' c reachable p (MaySend peer [] puts) =
-    let at = here-is (slice_get machines p) (c.at p) (Puts peer []) puts in
+    let at = here_is (slice_get machines p) (c.at p) (Puts peer []) puts in
     absurd (arms' p (c.at p) at.0 peer at.1 at.2)
 next machines safe arms' c reachable p (MaySend peer (x ∷ xs) puts) =
     let v = empty_value x.sort in
-    (Send (record { 0 = p }) 0 v, after_send c p peer x v, send-step machines c p 0 v peer (x ∷ xs) x puts refl (empty-fits x.sort))
+    (Send (record { 0 = p }) 0 v, after_send c p peer x v, send_step machines c p 0 v peer (x ∷ xs) x puts refl (empty_fits x.sort))
 next machines safe arms' c reachable p (MayReceive peer arms message later takes oldest) = elim (find arms message) [
-  | inl t ↦ (Receive (record { 0 = p }), after_receive c p peer t.1 later, receive-step machines c p peer arms t.0 t.1 message later takes oldest t.2 t.3.0 t.3.1)
+  | inl t ↦ (Receive (record { 0 = p }), after_receive c p peer t.1 later, receive_step machines c p peer arms t.0 t.1 message later takes oldest t.2 t.3.0 t.3.1)
   | inr none ↦ absurd (safe.fits c reachable record { role = p; peer = peer; arms = arms; message = message; later = later; takes = takes; oldest = oldest; no_arm = none })
 ]
 
-pub can-step : (machines : List Machine_data) → IsSafe machines → HaveArms machines → (c : Configuration)
+pub can_step : (machines : List Machine_data) → IsSafe machines → HaveArms machines → (c : Configuration)
     → IsReachable machines c → CanStep machines c → (e : Event) × (d : Configuration) × Step machines c e d
-can-step machines safe arms' c reachable can = next machines safe arms' c reachable can.0 can.2
+can_step machines safe arms' c reachable can = next machines safe arms' c reachable can.0 can.2

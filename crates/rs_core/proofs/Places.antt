@@ -4,7 +4,7 @@ use Rattle.std.proofs.lemmas.Bool.Decides.{eqb_tells}
 use Rattle.rs_model.specs.declared.graph.Arm.{Arm}
 use Rattle.rs_model.specs.declared.graph.Label.{Label}
 use Rattle.rs_core.specs.Turns.{label_of}
-use Rattle.rs_core.proofs.Ends.{get-there}
+use Rattle.rs_core.proofs.Ends.{get_there}
 
 -- f without m and n: what f takes to n goes where m went
 abbrev without : (ℕ → ℕ) → ℕ → ℕ → ℕ → ℕ
@@ -48,19 +48,19 @@ number_at None = 0
 number_at (Some a) = a.label.0
 
 -- the first n arms, whose labels are below many
-pub few-labels : (arms : List Arm) (n many : ℕ)
+pub few_labels : (arms : List Arm) (n many : ℕ)
     → ((i j : ℕ) (a b : Arm) → slice_get arms i ≡ Some a → slice_get arms j ≡ Some b → a.label ≡ b.label → i ≡ j)
     → ((k : ℕ) (a : Arm) → k < n → slice_get arms k ≡ Some a → a.label.0 < many) → n ≤ length arms → n ≤ many
 unfolding number_at
-few-labels arms n many once small there = pigeons many n (λ k. number_at (slice_get arms k)) low differ
+few_labels arms n many once small there = pigeons many n (λ k. number_at (slice_get arms k)) low differ
   where
     low : (k : ℕ) → k < n → number_at (slice_get arms k) < many
-    low k hk = let a = get-there arms k (omega arith) in rw a.1 (small k a.0 hk a.1)
+    low k hk = let a = get_there arms k (omega arith) in rw a.1 (small k a.0 hk a.1)
 
     differ : (i j : ℕ) → i < n → j < n → number_at (slice_get arms i) ≡ number_at (slice_get arms j) → i ≡ j
     differ i j hi hj e =
-        let a = get-there arms i (omega arith) in
-        let b = get-there arms j (omega arith) in
+        let a = get_there arms i (omega arith) in
+        let b = get_there arms j (omega arith) in
         let label : ℕ → Label = λ x. record { 0 = x } in
         let same : a.0.label.0 ≡ b.0.label.0 = sym (ap number_at a.1) ∙ e ∙ ap number_at b.1 in
         once i j a.0 b.0 a.1 b.1 (ap label same)

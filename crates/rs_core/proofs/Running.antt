@@ -2,6 +2,7 @@
 use Rattle.std.proofs.Common.{◌≡◌, inl, inr, ℕ, zero, suc, ◌*◌, ◌<◌, ◌≤◌, true, false, List, [], ◌∷◌, Option, Some, None, map, slice_get, length, refl, sym, ap, ◌∙◌, subst, subst₂, arith}
 use Rattle.std.proofs.lemmas.Bool.{cases_lt}
 use Rattle.std.proofs.lemmas.List.{length-map}
+use Rattle.std.proofs.lemmas.Option.{slice_get_within}
 use Rattle.rs_model.specs.Data.{Machine_data}
 use Rattle.rs_model.specs.declared.graph.Arm.{Arm}
 use Rattle.rs_model.specs.declared.graph.Role.{Role}
@@ -11,38 +12,46 @@ use Rattle.rs_core.specs.Choices.{AreWellFormed}
 use Rattle.rs_core.specs.Configurations.{Configuration, StartsAt, state_at}
 use Rattle.rs_core.specs.Core.{Core_data, configuration_of}
 use Rattle.rs_core.specs.Plain.{Moment, LimitedTurn, Turns, Ending, Ended, Stopped, Stuck, AllDone, Stops, NoneMoves, GoesOn, PlainFrom, IsPlain, FirstFull}
-use Rattle.rs_core.specs.Runs.{ArePlayers, Matches, acts_of, HasRound, NoneSends, IsFirstSender, EndTells, IsAmong, IsGiven, RoundTells, EndShows, RunSoFar}
+use Rattle.rs_core.specs.Queues.{AreTranscripts, KnownTranscripts}
+use Rattle.rs_core.specs.Runs.{ArePlayers, Matches, acts_of, HasRound, NoneSends, IsFirstSender, EndTells, IsAmong, IsGiven, RoundTells, EndsAs, RunSoFar}
 use Rattle.rs_core.specs.Safety.{IsSafe}
 use Rattle.rs_core.specs.declared.players.Player.{Player}
 use Rattle.rs_core.specs.declared.playing.End.{End}
 use Rattle.rs_core.specs.declared.playing.End.TheVariants as end
 use Rattle.rs_core.specs.declared.playing.Rounded.TheVariants as rounded
-use Rattle.rs_core.proofs.Ends.{all-done}
-use Rattle.rs_core.proofs.Stands.{here-is, peered}
-use Rattle.rs_core.proofs.Full.{stuck-is-full, idle-at, done-turns}
+use Rattle.rs_core.proofs.Ends.{all_done}
+use Rattle.rs_core.proofs.Stands.{here_is, peered}
+use Rattle.rs_core.proofs.Full.{stuck_is_full, idle_at, done_turns}
 
 -- the player of an actor that has done nothing yet
 abbrev pub fresh : {A : Type 0} → A → Player A
 fresh x = record { actor = x; kept = None; transcript = [] }
 
-fresh-get : {A : Type 0} (xs : List A) (p : ℕ) (x : Player A) → slice_get (map (λ (z : A). fresh z) xs) p ≡ Some x → (a : A) × (slice_get xs p ≡ Some a) × (fresh a ≡ x)
-fresh-get [] p x e = absurd (cc (e))
-fresh-get (a ∷ xs) zero x e = (a, refl, cc (e))
-fresh-get (a ∷ xs) (suc p) x e = fresh-get xs p x e
+fresh_get : {A : Type 0} (xs : List A) (p : ℕ) (x : Player A) → slice_get (map (λ (z : A). fresh z) xs) p ≡ Some x → (a : A) × (slice_get xs p ≡ Some a) × (fresh a ≡ x)
+fresh_get [] p x e = absurd (cc (e))
+fresh_get (a ∷ xs) zero x e = (a, refl, cc (e))
+fresh_get (a ∷ xs) (suc p) x e = fresh_get xs p x e
+
+-- who has done nothing yet has the empty transcript
+pub fresh_noted : {A : Type 0} (notes : KnownTranscripts) (n : ℕ) (xs : List A) → length xs ≡ n → ((r : ℕ) → r < n → notes r []) → AreTranscripts notes (map (λ (z : A). fresh z) xs)
+fresh_noted {A} notes n xs many nothing p x e =
+    let f = fresh_get xs p x e in
+    let low = slice_get_within xs p f.0 f.1 in
+    subst (λ (z : Player A). notes p z.transcript) f.2 (nothing p (omega (arith, low, many)))
 
 module _ {A : Type 0} (b : Behaviour A) where
-  acts-most : (limit : ℕ) (xs : List (Player A)) → ((p : ℕ) (x : Player A) → slice_get xs p ≡ Some x → length x.transcript ≤ limit) → acts_of xs ≤ length xs * limit
-  acts-most limit [] few = omega arith
-  acts-most limit (x ∷ xs) few = let one = few 0 x refl in let ih = acts-most limit xs (λ p y is. few (suc p) y is) in omega arith
+  acts_most : (limit : ℕ) (xs : List (Player A)) → ((p : ℕ) (x : Player A) → slice_get xs p ≡ Some x → length x.transcript ≤ limit) → acts_of xs ≤ length xs * limit
+  acts_most limit [] few = omega arith
+  acts_most limit (x ∷ xs) few = let one = few 0 x refl in let ih = acts_most limit xs (λ p y is. few (suc p) y is) in omega arith
 
-  pub run-start : (ms : List Machine_data) (limit : ℕ) (capacity : Option ℕ) (xs : List A) (c : Core_data) → c.machines ≡ ms → StartsAt ms (configuration_of c) → length xs ≡ length ms
+  pub run_start : (ms : List Machine_data) (limit : ℕ) (capacity : Option ℕ) (xs : List A) (c : Core_data) → c.machines ≡ ms → StartsAt ms (configuration_of c) → length xs ≡ length ms
       → RunSoFar b ms limit capacity xs c (map (λ (z : A). fresh z) xs)
-  run-start ms limit capacity xs c same starts ex = record {
+  run_start ms limit capacity xs c same starts ex = record {
     machines = same;
     ready = record {
       many = length-map xs (λ (z : A). fresh z) ∙ ex ∙ ap length (sym same);
-      keeps = λ p x is choice e. (let f = fresh-get xs p x is in let k = ap (λ (z : Player A). z.kept) f.2 in absurd (cc (k, e)));
-      few = λ p x is. (let f = fresh-get xs p x is in let k = ap (λ (z : Player A). length z.transcript) f.2 in omega (arith, k));
+      keeps = λ p x is choice e. (let f = fresh_get xs p x is in let k = ap (λ (z : Player A). z.kept) f.2 in absurd (cc (k, e)));
+      bounded = λ p x is. (let f = fresh_get xs p x is in let k = ap (λ (z : Player A). length z.transcript) f.2 in omega (arith, k));
     };
     runs = λ given is.
         let k : Moment A = record { at = configuration_of c; history = λ p. []; actor = given; kept = λ p. None } in (
@@ -52,18 +61,18 @@ module _ {A : Type 0} (b : Behaviour A) where
             machines = same;
             players = record {
               many = length-map xs (λ (z : A). fresh z) ∙ ex;
-              actor = λ p x e. (let f = fresh-get xs p x e in is p f.0 f.1 ∙ ap (λ (z : Player A). z.actor) f.2);
-              kept = λ p x e. (let f = fresh-get xs p x e in ap (λ (z : Player A). z.kept) f.2);
-              transcript = λ p x e. (let f = fresh-get xs p x e in ap (λ (z : Player A). z.transcript) f.2);
+              actor = λ p x e. (let f = fresh_get xs p x e in is p f.0 f.1 ∙ ap (λ (z : Player A). z.actor) f.2);
+              kept = λ p x e. (let f = fresh_get xs p x e in ap (λ (z : Player A). z.kept) f.2);
+              transcript = λ p x e. (let f = fresh_get xs p x e in ap (λ (z : Player A). z.transcript) f.2);
             };
           },
           λ o run. record { first = k; starts = record { at = starts; history = λ p. refl; actor = λ p. refl; kept = λ p. refl }; run = run },
         );
   }
 
-  pub run-moves : (ms : List Machine_data) (limit : ℕ) (capacity : Option ℕ) (xs0 : List A) (c d : Core_data) (xs ys : List (Player A)) → RunSoFar b ms limit capacity xs0 c xs
+  pub run_moves : (ms : List Machine_data) (limit : ℕ) (capacity : Option ℕ) (xs0 : List A) (c d : Core_data) (xs ys : List (Player A)) → RunSoFar b ms limit capacity xs0 c xs
       → HasRound b limit capacity c xs d ys rounded.Moved → RunSoFar b ms limit capacity xs0 d ys
-  run-moves ms limit capacity xs0 c d xs ys s r = record {
+  run_moves ms limit capacity xs0 c d xs ys s r = record {
     machines = r.machines ∙ s.machines;
     ready = r.ready;
     runs = λ given is.
@@ -74,10 +83,10 @@ module _ {A : Type 0} (b : Behaviour A) where
   }
 
   -- a round that moves leaves fewer acts up to the limits
-  pub run-less : (ms : List Machine_data) (limit : ℕ) (capacity : Option ℕ) (xs0 : List A) (c d : Core_data) (xs ys : List (Player A)) → RunSoFar b ms limit capacity xs0 c xs
+  pub run_less : (ms : List Machine_data) (limit : ℕ) (capacity : Option ℕ) (xs0 : List A) (c d : Core_data) (xs ys : List (Player A)) → RunSoFar b ms limit capacity xs0 c xs
       → HasRound b limit capacity c xs d ys rounded.Moved → (acts_of xs < acts_of ys) × (acts_of ys ≤ length ms * limit)
-  run-less ms limit capacity xs0 c d xs ys s r =
-      let most = acts-most limit ys r.ready.few in
+  run_less ms limit capacity xs0 c d xs ys s r =
+      let most = acts_most limit ys r.ready.bounded in
       let many : length ys ≡ length ms = r.ready.many ∙ ap length (r.machines ∙ s.machines) in
       let P : ℕ → Type 0 = λ z. acts_of ys ≤ z * limit in
       (r.more refl, subst P many most)
@@ -99,50 +108,58 @@ module _ {A : Type 0} (b : Behaviour A) where
       record { before = m.0; after = t.0; matches = t.1; turns = t.2; on = m.2 }
 
   -- the session's states are those of the moment
-  puts-at : (ms : List Machine_data) (k : Moment A) (d : Core_data) (ys : List (Player A)) (p : ℕ) (peer : Role) (arms : List Arm) → Matches ms k d ys
+  puts_at : (ms : List Machine_data) (k : Moment A) (d : Core_data) (ys : List (Player A)) (p : ℕ) (peer : Role) (arms : List Arm) → Matches ms k d ys
       → state_at ms k.at p ≡ Some (Puts peer arms) → state_at d.machines (configuration_of d) p ≡ Some (Puts peer arms)
-  puts-at ms k d ys p peer arms m puts =
+  puts_at ms k d ys p peer arms m puts =
       let P : List Machine_data → Configuration → Type 0 = λ z w. state_at z w p ≡ Some (Puts peer arms) in
       subst₂ P (sym m.machines) (sym m.at) puts
 
-  all-ended : (ms : List Machine_data) (limit : ℕ) (capacity : Option ℕ) (given : ℕ → A) (d : Core_data) (ys : List (Player A)) → ChoosesWell b → IsSafe ms → AreWellFormed ms → Idled ms limit capacity given d ys
-      → NoneSends d (length d.machines) → (o : Ending A) × IsPlain ms b given limit capacity o × EndShows ms capacity o end.Ended ys
-  all-ended ms limit capacity given d ys well safe wf i none = elim (all-done b ms i.before (length ms)) [
+  all_ended : (ms : List Machine_data) (limit : ℕ) (capacity : Option ℕ) (given : ℕ → A) (d : Core_data) (ys : List (Player A)) → ChoosesWell b → IsSafe ms → AreWellFormed ms
+      → Idled ms limit capacity given d ys
+      → NoneSends d (length d.machines) → EndsAs b ms given limit capacity d end.Ended ys
+  all_ended ms limit capacity given d ys well safe wf i none = elim (all_done b ms i.before (length ms)) [
     | inl all ↦ (
-        let still = done-turns b ms limit capacity (length ms) 0 i.before i.after false refl i.turns (λ r low high. all r (omega arith) (omega arith)) in
+        let still = done_turns b ms limit capacity (length ms) 0 i.before i.after false refl i.turns (λ r low high. all r (omega arith) (omega arith)) in
         let Q : Moment A → Type 0 = λ z. ArePlayers (length ms) z.history z.actor z.kept ys in
-        (Ended i.before, i.on (Ended i.before) (AllDone i.before (λ p hp. all p hp hp)), subst Q still i.matches.players))
+        record {
+          outcome = Ended i.before;
+          plain = i.on (Ended i.before) (AllDone i.before (λ p hp. all p hp hp));
+          shows = subst Q still i.matches.players;
+          last = i.matches.at ∙ ap (λ (z : Moment A). z.at) still;
+        })
     | inr some ↦ (
         let stuck = i.on (Stuck i.after) (NoneMoves some.0 i.before i.after some.1 some.2 i.turns) in
-        let full = stuck-is-full b well ms given limit capacity i.after safe wf stuck in
-        let there = full.2.there in
+        let full = stuck_is_full b well ms given limit capacity i.after safe wf stuck in
+        let there = full.2.present in
         let same = ap length i.matches.machines in
-        absurd (none full.0 full.1 full.2.arms (omega (arith, same)) (puts-at ms i.after d ys full.0 full.1 full.2.arms i.matches full.2.puts)))
+        absurd (none full.0 full.1 full.2.arms (omega (arith, same)) (puts_at ms i.after d ys full.0 full.1 full.2.arms i.matches full.2.puts)))
   ]
 
-  at-full : (ms : List Machine_data) (limit : ℕ) (capacity : Option ℕ) (given : ℕ → A) (d : Core_data) (ys : List (Player A)) (sender receiver : Role) → ChoosesWell b → IsSafe ms → AreWellFormed ms → Idled ms limit capacity given d ys
-      → IsFirstSender d sender.0 receiver → (o : Ending A) × IsPlain ms b given limit capacity o × EndShows ms capacity o (end.Full sender receiver) ys
-  at-full ms limit capacity given d ys sender receiver well safe wf i first =
+  at_full : (ms : List Machine_data) (limit : ℕ) (capacity : Option ℕ) (given : ℕ → A) (d : Core_data) (ys : List (Player A)) (sender receiver : Role) → ChoosesWell b → IsSafe ms → AreWellFormed ms
+      → Idled ms limit capacity given d ys
+      → IsFirstSender d sender.0 receiver → EndsAs b ms given limit capacity d (end.Full sender receiver) ys
+  at_full ms limit capacity given d ys sender receiver well safe wf i first =
       let P : List Machine_data → Configuration → Type 0 = λ z w. state_at z w sender.0 ≡ Some (Puts receiver first.arms) in
       let puts : state_at ms i.after.at sender.0 ≡ Some (Puts receiver first.arms) = subst₂ P i.matches.machines i.matches.at first.puts in
       let Q : Configuration → Type 0 = λ w. state_at ms w sender.0 ≡ Some (Puts receiver first.arms) in
-      let before : state_at ms i.before.at sender.0 ≡ Some (Puts receiver first.arms) = subst Q (idle-at b ms limit capacity i.before i.after i.turns) puts in
-      let there : sender.0 < length ms = (let h = first.there in let e = ap length i.matches.machines in omega (arith, e)) in
+      let before : state_at ms i.before.at sender.0 ≡ Some (Puts receiver first.arms) = subst Q (idle_at b ms limit capacity i.before i.after i.turns) puts in
+      let there : sender.0 < length ms = (let h = first.present in let e = ap length i.matches.machines in omega (arith, e)) in
       let stuck = i.on (Stuck i.after) (NoneMoves sender.0 i.before i.after there (λ e. cc (before, e)) i.turns) in
-      let full = stuck-is-full b well ms given limit capacity i.after safe wf stuck in
+      let full = stuck_is_full b well ms given limit capacity i.after safe wf stuck in
       let same : full.0 ≡ sender.0 = one full.0 full.1 full.2 puts in
-      (Stuck i.after, stuck, (found full.0 full.1 full.2 same puts, i.matches.players))
+      record { outcome = Stuck i.after; plain = stuck; shows = (found full.0 full.1 full.2 same puts, i.matches.players); last = i.matches.at }
     where
       one : (s : ℕ) (r : Role) → FirstFull ms capacity i.after s r → state_at ms i.after.at sender.0 ≡ Some (Puts receiver first.arms) → s ≡ sender.0
       one s r f puts = elim (cases_lt s sender.0) [
-        | inl less ↦ absurd (first.first s r f.arms less (puts-at ms i.after d ys s r f.arms i.matches f.puts))
+        | inl less ↦ absurd (first.first s r f.arms less (puts_at ms i.after d ys s r f.arms i.matches f.puts))
         | inr high ↦ elim (cases_lt sender.0 s) [
           | inl less ↦ absurd (f.first sender.0 receiver first.arms less puts)
           | inr low ↦ omega arith
         ]
       ]
 
-      found : (s : ℕ) (r : Role) → FirstFull ms capacity i.after s r → s ≡ sender.0 → state_at ms i.after.at sender.0 ≡ Some (Puts receiver first.arms) → FirstFull ms capacity i.after sender.0 receiver
+      found : (s : ℕ) (r : Role) → FirstFull ms capacity i.after s r → s ≡ sender.0 → state_at ms i.after.at sender.0 ≡ Some (Puts receiver first.arms)
+          → FirstFull ms capacity i.after sender.0 receiver
       found s r f e puts =
           let S : ℕ → Type 0 = λ z. state_at ms i.after.at z ≡ Some (Puts r f.arms) in
           let here : state_at ms i.after.at sender.0 ≡ Some (Puts r f.arms) = subst S e f.puts in
@@ -151,28 +168,30 @@ module _ {A : Type 0} (b : Behaviour A) where
           let F : ℕ → Role → Type 0 = λ z w. FirstFull ms capacity i.after z w in
           subst₂ F e peer f
 
-  pub run-ends : (ms : List Machine_data) (limit : ℕ) (capacity : Option ℕ) (xs0 : List A) (c d : Core_data) (xs ys : List (Player A)) (e : End) → ChoosesWell b → IsSafe ms → AreWellFormed ms
+  pub run_ends : (ms : List Machine_data) (limit : ℕ) (capacity : Option ℕ) (xs0 : List A) (c d : Core_data) (xs ys : List (Player A)) (e : End) → ChoosesWell b → IsSafe ms → AreWellFormed ms
       → RunSoFar b ms limit capacity xs0 c xs → HasRound b limit capacity c xs d ys rounded.Idle → EndTells d e
-      → (given : ℕ → A) → IsGiven given xs0 → (o : Ending A) × IsPlain ms b given limit capacity o × EndShows ms capacity o e ys
-  run-ends ms limit capacity xs0 c d xs ys end.Ended well safe wf s r t given is = all-ended ms limit capacity given d ys well safe wf (idled ms limit capacity xs0 c d xs ys s r given is) t
-  run-ends ms limit capacity xs0 c d xs ys (end.Stopped role) well safe wf s r t given is = absurd (t)
-  run-ends ms limit capacity xs0 c d xs ys (end.Full sender receiver) well safe wf s r t given is = at-full ms limit capacity given d ys sender receiver well safe wf (idled ms limit capacity xs0 c d xs ys s r given is) t
+      → (given : ℕ → A) → IsGiven given xs0 → EndsAs b ms given limit capacity d e ys
+  run_ends ms limit capacity xs0 c d xs ys end.Ended well safe wf s r t given is = all_ended ms limit capacity given d ys well safe wf (idled ms limit capacity xs0 c d xs ys s r given is) t
+  run_ends ms limit capacity xs0 c d xs ys (end.Stopped role) well safe wf s r t given is = absurd (t)
+  run_ends ms limit capacity xs0 c d xs ys (end.Full sender receiver) well safe wf s r t given is =
+      at_full ms limit capacity given d ys sender receiver well safe wf (idled ms limit capacity xs0 c d xs ys s r given is) t
 
-  pub run-among : (ms : List Machine_data) (limit : ℕ) (capacity : Option ℕ) (xs0 : List A) (c d : Core_data) (xs ys : List (Player A)) (e : End) → AreWellFormed ms → RunSoFar b ms limit capacity xs0 c xs
+  pub run_among : (ms : List Machine_data) (limit : ℕ) (capacity : Option ℕ) (xs0 : List A) (c d : Core_data) (xs ys : List (Player A)) (e : End) → AreWellFormed ms
+      → RunSoFar b ms limit capacity xs0 c xs
       → HasRound b limit capacity c xs d ys rounded.Idle → EndTells d e → IsAmong (length ms) e
-  run-among ms limit capacity xs0 c d xs ys end.Ended wf s r t = tt
-  run-among ms limit capacity xs0 c d xs ys (end.Stopped role) wf s r t = tt
-  run-among ms limit capacity xs0 c d xs ys (end.Full sender receiver) wf s r t =
-      let h = t.there in
+  run_among ms limit capacity xs0 c d xs ys end.Ended wf s r t = tt
+  run_among ms limit capacity xs0 c d xs ys (end.Stopped role) wf s r t = tt
+  run_among ms limit capacity xs0 c d xs ys (end.Full sender receiver) wf s r t =
+      let h = t.present in
       let e = ap length (r.machines ∙ s.machines) in
       let P : List Machine_data → Type 0 = λ z. state_at z (configuration_of d) sender.0 ≡ Some (Puts receiver t.arms) in
-      let at = here-is (slice_get ms sender.0) ((configuration_of d).at sender.0) (Puts receiver t.arms) (subst P (r.machines ∙ s.machines) t.puts) in
+      let at = here_is (slice_get ms sender.0) ((configuration_of d).at sender.0) (Puts receiver t.arms) (subst P (r.machines ∙ s.machines) t.puts) in
       (omega (arith, e), ((peered ms wf).puts sender.0 at.0 ((configuration_of d).at sender.0) receiver t.arms at.1 at.2).0)
 
-  pub run-stops : (ms : List Machine_data) (limit : ℕ) (capacity : Option ℕ) (xs0 : List A) (c d : Core_data) (xs ys : List (Player A)) (role : Role) → RunSoFar b ms limit capacity xs0 c xs
-      → HasRound b limit capacity c xs d ys (rounded.Stopped role) → (given : ℕ → A) → IsGiven given xs0 → (o : Ending A) × IsPlain ms b given limit capacity o × EndShows ms capacity o (end.Stopped role) ys
-  run-stops ms limit capacity xs0 c d xs ys role s r given is =
+  pub run_stops : (ms : List Machine_data) (limit : ℕ) (capacity : Option ℕ) (xs0 : List A) (c d : Core_data) (xs ys : List (Player A)) (role : Role) → RunSoFar b ms limit capacity xs0 c xs
+      → HasRound b limit capacity c xs d ys (rounded.Stopped role) → (given : ℕ → A) → IsGiven given xs0 → EndsAs b ms given limit capacity d (end.Stopped role) ys
+  run_stops ms limit capacity xs0 c d xs ys role s r given is =
       let m = s.runs given is in
       let P : List Machine_data → Type 0 = λ z. Matches z m.0 c xs → RoundTells z b limit capacity m.0 d ys (rounded.Stopped role) in
       let t = (subst P s.machines (r.tells m.0)) m.1 in
-      (Stopped role.0 t.0, m.2 (Stopped role.0 t.0) (Stops role.0 m.0 t.0 t.1 t.5 t.3 t.4), (refl, t.2.players))
+      record { outcome = Stopped role.0 t.0; plain = m.2 (Stopped role.0 t.0) (Stops role.0 m.0 t.0 t.1 t.5 t.3 t.4); shows = (refl, t.2.players); last = t.2.at }

@@ -18,17 +18,17 @@ abbrev pub Story : List Machine_data → Configuration → Histories → List Ev
 Story ms c h [] d k = (c ≡ d) × ((p : ℕ) → k p ≡ h p)
 Story ms c h (e ∷ es) d k = (m : Configuration) × (g : Histories) × Tells ms c e m h g × Story ms m g es d k
 
-abbrev pub no-histories : Histories
-no-histories p = []
+abbrev pub no_histories : Histories
+no_histories p = []
 
 -- the histories of legal events grow event by event
 abbrev grown : (ms : List Machine_data) (c : Configuration) (e : Event) (m : Configuration) (step : Step ms c e m) (h : Histories) (p : ℕ)
     → History
 grown ms c e m step h p = if role_of e == p then h p ++ (action_of ms c e m step ∷ []) else h p
 
-grown-tells : (ms : List Machine_data) (c : Configuration) (e : Event) (m : Configuration) (step : Step ms c e m) (h : Histories)
+grown_tells : (ms : List Machine_data) (c : Configuration) (e : Event) (m : Configuration) (step : Step ms c e m) (h : Histories)
     → Tells ms c e m h (grown ms c e m step h)
-grown-tells ms c e m step h = (step, here, others)
+grown_tells ms c e m step h = (step, here, others)
   where
     here : grown ms c e m step h (role_of e) ≡ h (role_of e) ++ (action_of ms c e m step ∷ [])
     here = elim (eqb_tells (role_of e) (role_of e)) [ inl t ↦ rw t.0 refl | inr t ↦ absurd (t.1 refl) ]
@@ -36,21 +36,21 @@ grown-tells ms c e m step h = (step, here, others)
     others : (r : ℕ) → r ≢ role_of e → grown ms c e m step h r ≡ h r
     others r ne = elim (eqb_tells (role_of e) r) [ inl t ↦ absurd (ne (sym t.1)) | inr t ↦ rw t.0 refl ]
 
-pub story-same : (ms : List Machine_data) (c : Configuration) (h : Histories) (es : List Event) (d : Configuration) (k k' : Histories)
+pub story_same : (ms : List Machine_data) (c : Configuration) (h : Histories) (es : List Event) (d : Configuration) (k k' : Histories)
     → Story ms c h es d k → ((p : ℕ) → k' p ≡ k p) → Story ms c h es d k'
-story-same ms c h [] d k k' s e = (s.0, λ p. e p ∙ s.1 p)
-story-same ms c h (x ∷ es) d k k' s e = (s.0, s.1, s.2, story-same ms s.0 s.1 es d k k' s.3 e)
+story_same ms c h [] d k k' s e = (s.0, λ p. e p ∙ s.1 p)
+story_same ms c h (x ∷ es) d k k' s e = (s.0, s.1, s.2, story_same ms s.0 s.1 es d k k' s.3 e)
 
-story-of : (ms : List Machine_data) (c : Configuration) (es : List Event) (d : Configuration) (steps : Steps ms c es d) (h : Histories)
+story_of : (ms : List Machine_data) (c : Configuration) (es : List Event) (d : Configuration) (steps : Steps ms c es d) (h : Histories)
     → Story ms c h es d (λ p. h p ++ history_of p ms c es d steps)
-story-of ms c [] d steps h = (steps, λ p. append-nil (h p))
-story-of ms c (e ∷ es) d steps h = (
+story_of ms c [] d steps h = (steps, λ p. append-nil (h p))
+story_of ms c (e ∷ es) d steps h = (
   steps.0,
   grown ms c e steps.0 steps.1 h,
-  grown-tells ms c e steps.0 steps.1 h,
-  story-same ms steps.0 (grown ms c e steps.0 steps.1 h) es d
+  grown_tells ms c e steps.0 steps.1 h,
+  story_same ms steps.0 (grown ms c e steps.0 steps.1 h) es d
       (λ p. grown ms c e steps.0 steps.1 h p ++ history_of p ms steps.0 es d steps.2) (λ p. h p ++ history_of p ms c (e ∷ es) d steps)
-      (story-of ms steps.0 es d steps.2 (grown ms c e steps.0 steps.1 h)) (λ p. same p),
+      (story_of ms steps.0 es d steps.2 (grown ms c e steps.0 steps.1 h)) (λ p. same p),
 )
   where
     same : (p : ℕ) → h p ++ history_of p ms c (e ∷ es) d steps ≡ grown ms c e steps.0 steps.1 h p ++ history_of p ms steps.0 es d steps.2
@@ -59,7 +59,7 @@ story-of ms c (e ∷ es) d steps h = (
       | inr t ↦ rw t.0 refl
     ]
 
--- .. and events that give histories are legal
+-- events that give histories are legal
 record Stepped (ms : List Machine_data) (c : Configuration) (h : Histories) (es : List Event) (d : Configuration) (k : Histories) : Type 0 where
   pub steps : Steps ms c es d
   pub gives : (p : ℕ) → k p ≡ h p ++ history_of p ms c es d steps
@@ -75,7 +75,8 @@ stepped ms c h (e ∷ es) d k s =
     gives : (r : Stepped ms s.0 s.1 es d k) → (p : ℕ) → k p ≡ h p ++ history_of p ms c (e ∷ es) d (s.0, s.2.0, r.steps)
     gives r p = elim (eqb_tells (role_of e) p) [
       | inl t ↦ (let P : ℕ → Type 0 = λ z. s.1 z ≡ h z ++ (action_of ms c e s.0 s.2.0 ∷ []) in
-          rw t.0 (r.gives p ∙ ap (λ (z : History). z ++ history_of p ms s.0 es d r.steps) (subst P t.1 s.2.1) ∙ append_assoc (h p) (action_of ms c e s.0 s.2.0 ∷ []) (history_of p ms s.0 es d r.steps)))
+          rw t.0 (r.gives p ∙ ap (λ (z : History). z ++ history_of p ms s.0 es d r.steps) (subst P t.1 s.2.1)
+          ∙ append_assoc (h p) (action_of ms c e s.0 s.2.0 ∷ []) (history_of p ms s.0 es d r.steps)))
       | inr t ↦ rw t.0 (r.gives p ∙ ap (λ (z : History). z ++ history_of p ms s.0 es d r.steps) (s.2.2 p (λ (z : p ≡ role_of e). t.1 (sym z))))
     ]
 
@@ -83,35 +84,35 @@ pub record Told (ms : List Machine_data) (hs : Histories) (c : Configuration) : 
   pub first : Configuration
   pub starts : StartsAt ms first
   pub events : List Event
-  pub story : Story ms first no-histories events c hs
+  pub story : Story ms first no_histories events c hs
 
-pub told-of-legal : (ms : List Machine_data) (hs : Histories) (c : Configuration) → IsLegal ms hs c → Told ms hs c
-told-of-legal ms hs c l = record {
+pub told_of_legal : (ms : List Machine_data) (hs : Histories) (c : Configuration) → IsLegal ms hs c → Told ms hs c
+told_of_legal ms hs c l = record {
   first = l.first;
   starts = l.starts;
   events = l.events;
-  story = story-same ms l.first no-histories l.events c (λ p. history_of p ms l.first l.events c l.steps) hs (story-of ms l.first l.events c l.steps no-histories) l.gives;
+  story = story_same ms l.first no_histories l.events c (λ p. history_of p ms l.first l.events c l.steps) hs (story_of ms l.first l.events c l.steps no_histories) l.gives;
 }
 
-pub legal-of-told : (ms : List Machine_data) (hs : Histories) (c : Configuration) → Told ms hs c → IsLegal ms hs c
-legal-of-told ms hs c t =
-    let s = stepped ms t.first no-histories t.events c hs t.story in
+pub legal_of_told : (ms : List Machine_data) (hs : Histories) (c : Configuration) → Told ms hs c → IsLegal ms hs c
+legal_of_told ms hs c t =
+    let s = stepped ms t.first no_histories t.events c hs t.story in
     record { first = t.first; events = t.events; starts = t.starts; steps = s.steps; gives = s.gives }
 
 -- one event more at the end
-pub story-snoc : (ms : List Machine_data) (c : Configuration) (h : Histories) (es : List Event) (d : Configuration) (k : Histories) (e : Event) (x : Configuration) (g : Histories)
+pub story_snoc : (ms : List Machine_data) (c : Configuration) (h : Histories) (es : List Event) (d : Configuration) (k : Histories) (e : Event) (x : Configuration) (g : Histories)
     → Story ms c h es d k → Tells ms d e x k g → Story ms c h (es ++ (e ∷ [])) x g
-story-snoc ms c h [] d k e x g s t =
+story_snoc ms c h [] d k e x g s t =
     let P : Configuration → Type 0 = λ z. Tells ms z e x h g in
     (x, g, subst P (sym s.0) (t.0, t.1 ∙ ap (λ (z : History). z ++ (action_of ms d e x t.0 ∷ [])) (s.1 (role_of e)), λ r ne. t.2 r ne ∙ s.1 r), (refl, λ p. refl))
-story-snoc ms c h (y ∷ es) d k e x g s t = (s.0, s.1, s.2, story-snoc ms s.0 s.1 es d k e x g s.3 t)
+story_snoc ms c h (y ∷ es) d k e x g s t = (s.0, s.1, s.2, story_snoc ms s.0 s.1 es d k e x g s.3 t)
 
 -- a history grows along a story
-pub story-grows : (ms : List Machine_data) (c d : Configuration) (es : List Event) (h k : Histories) → Story ms c h es d k → (p : ℕ)
+pub story_grows : (ms : List Machine_data) (c d : Configuration) (es : List Event) (h k : Histories) → Story ms c h es d k → (p : ℕ)
     → (more : History) × (k p ≡ h p ++ more)
-story-grows ms c d [] h k s p = ([], s.1 p ∙ sym (append-nil (h p)))
-story-grows ms c d (e ∷ es) h k s p =
-    let r = story-grows ms s.0 d es s.1 k s.3 p in
+story_grows ms c d [] h k s p = ([], s.1 p ∙ sym (append-nil (h p)))
+story_grows ms c d (e ∷ es) h k s p =
+    let r = story_grows ms s.0 d es s.1 k s.3 p in
     (one.0 ++ r.0, r.1 ∙ ap (λ (z : History). z ++ r.0) one.1 ∙ append_assoc (h p) one.0 r.0)
   where
     one : (more : History) × (s.1 p ≡ h p ++ more)

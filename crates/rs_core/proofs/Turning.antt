@@ -1,5 +1,5 @@
 -- What one turn does.
-use Rattle.std.proofs.Common.{rules, ◌≡◌, ℕ, ◌<◌, true, false, List, [], ◌∷◌, ◌++◌, Option, Some, None, slice_get, slice_index_or, length, refl, sym, ap, ◌∙◌, subst, subst₂}
+use Rattle.std.proofs.Common.{rules, ◌≡◌, ℕ, ◌<◌, false, List, [], ◌∷◌, ◌++◌, Option, Some, None, slice_get, slice_index_or, length, refl, sym, ap, ◌∙◌, subst, subst₂}
 use Rattle.std.proofs.lemmas.Option.{get_or_from_slice_get, slice_get_within}
 use Rattle.rs_model.specs.Sorts.{HasSort}
 use Rattle.rs_model.specs.declared.graph.Arm.{Arm}
@@ -9,34 +9,31 @@ use Rattle.rs_model.specs.declared.machines.State.TheVariants.{Puts, Takes}
 use Rattle.rs_model.specs.declared.values.Value.{Value}
 use Rattle.rs_core.specs.Actors.{Choice, Behaviour, ChoosesWell}
 use Rattle.rs_core.specs.Configurations.{Message, Sends, Receives, state_at}
-use Rattle.rs_core.specs.Core.{Core_data, IsReachedSession, HasReceived, configuration_of}
-use Rattle.rs_core.specs.Plain.{HasRoom, IsFull, offer_of}
+use Rattle.rs_core.specs.Choices.{AreWellFormed}
+use Rattle.rs_core.specs.Core.{Core_data, HasReceived, configuration_of}
+use Rattle.rs_core.specs.Plain.{HasRoom, offer_of}
 use Rattle.rs_core.specs.Turns.{CanChoose, KeepsWell, Offers, HasMoved, HasSent, HasGot, is_full}
 use Rattle.rs_core.specs.declared.players.Player.{Player}
 use Rattle.rs_core.specs.declared.transcripts.Entry.{Entry}
 use Rattle.rs_core.specs.declared.transcripts.Entry.TheVariants as entry
-use Rattle.rs_core.proofs.Stands.{here-is}
+use Rattle.rs_core.proofs.Stands.{here_is}
 
-pub has-room : (capacity : Option ℕ) (queue : List Message) → is_full capacity (length queue) ≡ false → HasRoom capacity queue
-has-room None queue e = tt
-has-room (Some many) queue e = search rules
-
-pub has-none : (capacity : Option ℕ) (queue : List Message) → is_full capacity (length queue) ≡ true → IsFull capacity queue
-has-none None queue e = cc (e)
-has-none (Some many) queue e = search rules
+pub has_room : (capacity : Option ℕ) (queue : List Message) → is_full capacity (length queue) ≡ false → HasRoom capacity queue
+has_room None queue e = tt
+has_room (Some many) queue e = search rules
 
 module _ {A : Type 0} (b : Behaviour A) where
   -- what a player offers at the arms of a state that sends is one of them, with a value of its sort
-  can-choose : (c : Core_data) (p : ℕ) (x : Player A) (peer : Role) (arms : List Arm) → ChoosesWell b → IsReachedSession c → KeepsWell c p x
+  can_choose : (c : Core_data) (p : ℕ) (x : Player A) (peer : Role) (arms : List Arm) → ChoosesWell b → AreWellFormed c.machines → KeepsWell c p x
       → state_at c.machines (configuration_of c) p ≡ Some (Puts peer arms) → (kept : Option Choice) → x.kept ≡ kept → (choice : Choice) (y : A) → offer_of b x.actor kept arms ≡ (choice, y)
       → (can : CanChoose c p choice peer) × (can.arms ≡ arms)
-  can-choose c p x peer arms well s keeps puts None e choice y o =
-      let at = here-is (slice_get c.machines p) ((configuration_of c).at p) (Puts peer arms) puts in
-      let g = well x.actor arms ((s.well_formed.fits p at.0 at.1).puts ((configuration_of c).at p) peer arms at.2).some in
+  can_choose c p x peer arms well s keeps puts None e choice y o =
+      let at = here_is (slice_get c.machines p) ((configuration_of c).at p) (Puts peer arms) puts in
+      let g = well x.actor arms ((s.fits p at.0 at.1).puts ((configuration_of c).at p) peer arms at.2).some in
       let same : b.chooses x.actor arms ≡ choice = ap (λ (z : Choice × A). z.0) o in
       let P : Choice → Type 0 = λ z. HasSort z.1 g.0.sort in
       (record { arms = arms; arm = g.0; puts = puts; picks = ap (λ (z : Choice). slice_get arms z.0) (sym same) ∙ g.1; has_sort = subst P same g.2 }, refl)
-  can-choose c p x peer arms well s keeps puts (Some ch) e choice y o =
+  can_choose c p x peer arms well s keeps puts (Some ch) e choice y o =
       let k = keeps ch e in
       let same : Some (Puts k.0 k.1.arms) ≡ Some (Puts peer arms) = sym k.1.puts ∙ puts in
       let one : ch ≡ choice = ap (λ (z : Choice × A). z.0) o in
@@ -45,33 +42,33 @@ module _ {A : Type 0} (b : Behaviour A) where
       let P : Choice → Type 0 = λ z. HasSort z.1 k.1.arm.sort in
       (record { arms = arms; arm = k.1.arm; puts = puts; picks = picks; has_sort = subst P one k.1.has_sort }, refl)
 
-  pub in-range : (c : Core_data) (p : ℕ) (x : Player A) (peer : Role) (arms : List Arm) (place : ℕ) (value : Value) (y : A) → ChoosesWell b → IsReachedSession c → KeepsWell c p x
+  pub in_range : (c : Core_data) (p : ℕ) (x : Player A) (peer : Role) (arms : List Arm) (place : ℕ) (value : Value) (y : A) → ChoosesWell b → AreWellFormed c.machines → KeepsWell c p x
       → state_at c.machines (configuration_of c) p ≡ Some (Puts peer arms) → offer_of b x.actor x.kept arms ≡ ((place, value), y) → place < length arms
-  in-range c p x peer arms place value y well s keeps puts o =
-      let can = can-choose c p x peer arms well s keeps puts x.kept refl (place, value) y o in
+  in_range c p x peer arms place value y well s keeps puts o =
+      let can = can_choose c p x peer arms well s keeps puts x.kept refl (place, value) y o in
       let P : List Arm → Type 0 = λ z. place < length z in
       subst P can.1 (slice_get_within can.0.arms place can.0.arm can.0.picks)
 
-  pub offering : (c : Core_data) (p : ℕ) (x y : Player A) (peer : Role) (arms : List Arm) (place : ℕ) (value : Value) (other : Arm) → ChoosesWell b → IsReachedSession c → KeepsWell c p x
+  pub offering : (c : Core_data) (p : ℕ) (x y : Player A) (peer : Role) (arms : List Arm) (place : ℕ) (value : Value) (other : Arm) → ChoosesWell b → AreWellFormed c.machines → KeepsWell c p x
       → state_at c.machines (configuration_of c) p ≡ Some (Puts peer arms) → offer_of b x.actor x.kept arms ≡ ((place, value), y.actor) → y.kept ≡ None → y.transcript ≡ x.transcript
       → Offers b c p x y peer (slice_index_or arms place other).label (place, value)
   offering c p x y peer arms place value other well s keeps puts o kept same =
-      let can = can-choose c p x peer arms well s keeps puts x.kept refl (place, value) y.actor o in
-      let at = here-is (slice_get c.machines p) ((configuration_of c).at p) (Puts peer arms) puts in
+      let can = can_choose c p x peer arms well s keeps puts x.kept refl (place, value) y.actor o in
+      let at = here_is (slice_get c.machines p) ((configuration_of c).at p) (Puts peer arms) puts in
       let P : List Arm → Type 0 = λ z. offer_of b x.actor x.kept z ≡ ((place, value), y.actor) in
       record {
         can = can.0;
-        there = ((s.well_formed.fits p at.0 at.1).puts ((configuration_of c).at p) peer arms at.2).known;
+        present = ((s.fits p at.0 at.1).puts ((configuration_of c).at p) peer arms at.2).known;
         same_label = ap (λ (z : Arm). z.label) (sym (get_or_from_slice_get can.0.arms place can.0.arm other can.0.picks)) ∙ ap (λ (z : List Arm). (slice_index_or z place other).label) can.1;
         offers = subst P (sym can.1) o;
         kept = kept;
         transcript = same;
       }
 
-  pub sent-turn : (capacity : Option ℕ) (c d : Core_data) (p : ℕ) (x y z : Player A) (peer : Role) (label : Label) (place : ℕ) (value : Value) → Offers b c p x y peer label (place, value)
+  pub sent_turn : (capacity : Option ℕ) (c d : Core_data) (p : ℕ) (x y z : Player A) (peer : Role) (label : Label) (place : ℕ) (value : Value) → Offers b c p x y peer label (place, value)
       → HasRoom capacity ((configuration_of c).queue p peer.0) → Sends c.machines (configuration_of c) p place value (configuration_of d)
       → z.actor ≡ y.actor → z.kept ≡ y.kept → z.transcript ≡ y.transcript ++ (entry.Sent peer label ∷ []) → HasMoved b capacity c x p d z
-  sent-turn capacity c d p x y z peer label place value n room step ea ek et =
+  sent_turn capacity c d p x y z peer label place value n room step ea ek et =
       let same : Some (Puts peer n.can.arms) ≡ Some (Puts step.peer step.arms) = sym n.can.puts ∙ step.puts in
       let peers : peer ≡ step.peer = cc (same) in
       let arms : n.can.arms ≡ step.arms = cc (same) in
@@ -88,11 +85,12 @@ module _ {A : Type 0} (b : Behaviour A) where
             subst₂ P peers labels (et ∙ ap (λ (w : List Entry). w ++ (entry.Sent peer label ∷ [])) n.transcript);
       }
 
-  pub got-turn : (capacity : Option ℕ) (c d : Core_data) (p : ℕ) (x y : Player A) (peer : Role) (arms : List Arm) (label : Label) (value : Value)
+  pub got_turn : (capacity : Option ℕ) (c d : Core_data) (p : ℕ) (x y : Player A) (peer : Role) (arms : List Arm) (label : Label) (value : Value)
       → state_at c.machines (configuration_of c) p ≡ Some (Takes peer arms) → HasReceived c.machines (configuration_of c) p (configuration_of d) record { label = label; value = value }
-      → ((peer : Role) (arms : List Arm) (place : ℕ) (arm : Arm) → state_at c.machines (configuration_of c) p ≡ Some (Takes peer arms) → slice_get arms place ≡ Some arm → arm.label ≡ label → b.told x.actor arms place value ≡ y.actor)
+      → ((peer : Role) (arms : List Arm) (place : ℕ) (arm : Arm) → state_at c.machines (configuration_of c) p ≡ Some (Takes peer arms) → slice_get arms place ≡ Some arm → arm.label ≡ label
+      → b.told x.actor arms place value ≡ y.actor)
       → y.kept ≡ x.kept → y.transcript ≡ x.transcript ++ (entry.Got peer label value ∷ []) → HasMoved b capacity c x p d y
-  got-turn capacity c d p x y peer arms label value takes got told kept e =
+  got_turn capacity c d p x y peer arms label value takes got told kept e =
       let step : Receives c.machines (configuration_of c) p (configuration_of d) = got.0 in
       let same : Some (Takes peer arms) ≡ Some (Takes got.0.peer got.0.arms) = sym takes ∙ got.0.takes in
       let peers : peer ≡ got.0.peer = cc (same) in

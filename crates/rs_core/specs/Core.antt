@@ -1,5 +1,5 @@
 -- Believed: a session as `Core` keeps it, and the configuration that it shows.
-use Rattle.std.specs.Prelude.{◌≡◌, ℕ, ◌<◌, List, [], ◌∷◌, ◌++◌, Option, Some, None, Result, Ok, Err, slice_get, slice_index_or, slice_set, length, if◌then◌else◌, ◌==◌, map, replicate}
+use Rattle.std.specs.Prelude.{◌≡◌, ℕ, ◌<◌, List, [], ◌∷◌, ◌++◌, Option, Some, None, Result, Ok, Err, slice_get, slice_index_or, slice_set, length, if◌then◌else◌, ◌==◌}
 use Rattle.rs_model.specs.Data.{Machine_data}
 use Rattle.rs_model.specs.Sorts.{fits}
 use Rattle.rs_model.specs.declared.graph.Arm.{Arm}
@@ -48,19 +48,19 @@ abbrev pub arm_fault : Option Arm → Value → Option StepFault
 arm_fault None value = Some NoArm
 arm_fault (Some arm) value = if fits value arm.sort then None else Some WrongSort
 
--- .. in that state, by the arm at that place
+-- what is wrong with a send in that state, by the arm at that place
 abbrev pub send_fault : Option State → ℕ → Value → Option StepFault
 send_fault None place value = Some NotSending
 send_fault (Some Done) place value = Some NotSending
 send_fault (Some (Takes peer arms)) place value = Some NotSending
 send_fault (Some (Puts peer arms)) place value = arm_fault (slice_get arms place) value
 
--- .. and with a receive: the state doesn't receive, or the queue from its peer is empty
+-- what is wrong with a receive from that queue: it is empty
 abbrev pub queue_fault : List Message → Option StepFault
 queue_fault [] = Some QueueEmpty
 queue_fault (message ∷ later) = None
 
--- .. in that state, with these queues to the role
+-- what is wrong with a receive in that state, with these queues to the role: the state doesn't receive, or the queue from its peer is empty
 abbrev pub receive_fault : Option State → (ℕ → List Message) → Option StepFault
 receive_fault None queue = Some NotReceiving
 receive_fault (Some Done) queue = Some NotReceiving
@@ -102,24 +102,24 @@ abbrev pub way_by : Role → Option Arm → Value → Result Way StepFault
 way_by peer None value = Err NoArm
 way_by peer (Some arm) value = if fits value arm.sort then Ok record { peer = peer; label = arm.label; next = arm.next } else Err WrongSort
 
--- .. in that state, by the arm at that place
+-- where a send goes in that state, by the arm at that place
 abbrev pub way_of : Option State → ℕ → Value → Result Way StepFault
 way_of None place value = Err NotSending
 way_of (Some Done) place value = Err NotSending
 way_of (Some (Takes peer arms)) place value = Err NotSending
 way_of (Some (Puts peer arms)) place value = way_by peer (slice_get arms place) value
 
--- .. and a receive; it is none where no arm has the label of the oldest message, which machines that are safe don't meet
+-- where a receive goes by that arm; it is none where no arm has the label of the oldest message, which machines that are safe don't meet
 abbrev pub next_by : Role → Option Arm → Option Way
 next_by peer None = None
 next_by peer (Some arm) = Some record { peer = peer; label = arm.label; next = arm.next }
 
--- .. by the oldest message of these
+-- where a receive goes by the oldest message of these
 abbrev pub front_by : Role → List Arm → List Message → Result (Option Way) StepFault
 front_by peer arms [] = Err QueueEmpty
 front_by peer arms (message ∷ later) = Ok (next_by peer (arm_with arms message.label))
 
--- .. in that state, with these queues to the role
+-- where a receive goes in that state, with these queues to the role
 abbrev pub way_in_front : Option State → (ℕ → List Message) → Result (Option Way) StepFault
 way_in_front None queue = Err NotReceiving
 way_in_front (Some Done) queue = Err NotReceiving
@@ -140,12 +140,4 @@ with_got c p q next later = record {
   machines = c.machines;
   states = slice_set c.states p next;
   queues = slice_set c.queues q (slice_set (slice_index_or c.queues q []) p later);
-}
-
--- the machines in their start states, with empty queues
-abbrev pub core_at_start : List Machine_data → Core_data
-core_at_start machines = record {
-  machines = machines;
-  states = map (λ (m : Machine_data). m.start) machines;
-  queues = replicate (length machines) (replicate (length machines) []);
 }

@@ -43,7 +43,7 @@ draw_value sort.Whole x = value.Whole (draw_whole x)
 draw_value sort.Octets x = value.Octets (draw_octets (draw x % 5) (after x))
 draw_value sort.Numbers x = value.Numbers (draw_numbers (draw x % 5) (after x))
 
--- .. and the number that is left
+-- the number that is left behind such a value
 abbrev pub after_value : Sort → ℕ → ℕ
 after_value sort.Unit x = x
 after_value sort.Flag x = after x
@@ -61,7 +61,7 @@ abbrev pub value_for : Option Arm → ℕ → Value
 value_for None x = value.Unit
 value_for (Some arm) x = draw_value arm.sort x
 
--- .. and the number that is left
+-- the number that is left behind a value for that arm
 abbrev pub after_arm : Option Arm → ℕ → ℕ
 after_arm None x = x
 after_arm (Some arm) x = after_value arm.sort x

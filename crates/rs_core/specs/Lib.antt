@@ -8,7 +8,7 @@ pub mod Plain
 pub mod Determined
 pub mod Core
 pub mod Turns
+pub mod Queues
 pub mod Runs
 pub mod Draws
 pub mod Choosing
-pub mod Kinds

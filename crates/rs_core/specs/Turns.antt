@@ -11,8 +11,8 @@ use Rattle.rs_core.specs.Core.{Core_data, configuration_of}
 use Rattle.rs_core.specs.Plain.{HasRoom, IsFull, offer_of}
 use Rattle.rs_core.specs.declared.players.Player.{Player}
 use Rattle.rs_core.specs.declared.transcripts.Entry.TheVariants as entry
-use Rattle.rs_core.specs.declared.turns.Next.{Next}
-use Rattle.rs_core.specs.declared.turns.Next.TheVariants as next
+use Rattle.rs_core.specs.declared.turns.NextAct.{NextAct}
+use Rattle.rs_core.specs.declared.turns.NextAct.TheVariants as next
 use Rattle.rs_core.specs.declared.turns.Turned.{Turned}
 use Rattle.rs_core.specs.declared.turns.Turned.TheVariants as turned
 
@@ -31,14 +31,14 @@ KeepsWell c p x = (choice : Choice) → x.kept ≡ Some choice → (peer : Role)
 -- role p's player offers this choice, of an arm with this label, and is then y
 pub record Offers {A : Type 0} (b : Behaviour A) (c : Core_data) (p : ℕ) (x y : Player A) (peer : Role) (label : Label) (choice : Choice) : Type 0 where
   pub can : CanChoose c p choice peer
-  pub there : peer.0 < length c.machines
+  pub present : peer.0 < length c.machines
   pub same_label : can.arm.label ≡ label
   pub offers : offer_of b x.actor x.kept can.arms ≡ (choice, y.actor)
   pub kept : y.kept ≡ None
   pub transcript : y.transcript ≡ x.transcript
 
 -- what role p can do next
-abbrev pub NextTells : {A : Type 0} → Behaviour A → ℕ → Core_data → ℕ → Player A → Player A → Next → Type 0
+abbrev pub NextTells : {A : Type 0} → Behaviour A → ℕ → Core_data → ℕ → Player A → Player A → NextAct → Type 0
 NextTells b limit c p x y next.Done = (state_at c.machines (configuration_of c) p ≡ Some Done) × (y ≡ x)
 NextTells b limit c p x y next.Limit = (state_at c.machines (configuration_of c) p ≢ Some Done) × (limit ≤ length x.transcript) × (y ≡ x)
 NextTells b limit c p x y (next.Sends peer label place value) = (length x.transcript < limit) × Offers b c p x y peer label (place, value)
@@ -82,7 +82,8 @@ TurnTells b limit capacity c x p d y turned.Ended = (state_at c.machines (config
 TurnTells b limit capacity c x p d y turned.AtLimit =
     (state_at c.machines (configuration_of c) p ≢ Some Done) × (limit ≤ length x.transcript) × (d ≡ c) × (y ≡ x)
 TurnTells b limit capacity c x p d y turned.Waits =
-    (length x.transcript < limit) × ((peer : Role) × (arms : List Arm) × (state_at c.machines (configuration_of c) p ≡ Some (Takes peer arms)) × ((configuration_of c).queue peer.0 p ≡ [])) × (d ≡ c) × (y ≡ x)
+    (length x.transcript < limit) × ((peer : Role) × (arms : List Arm) × (state_at c.machines (configuration_of c) p ≡ Some (Takes peer arms)) × ((configuration_of c).queue peer.0 p ≡ [])) × (d ≡ c)
+    × (y ≡ x)
 TurnTells b limit capacity c x p d y turned.Full = (length x.transcript < limit) × KeptTurn b capacity c x p y × (d ≡ c)
 TurnTells b limit capacity c x p d y turned.Moved = (length x.transcript < limit) × HasMoved b capacity c x p d y × (d.machines ≡ c.machines)
 

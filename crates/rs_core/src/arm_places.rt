@@ -1,3 +1,4 @@
+//! Where a label stands among arms.
 ghost use Rattle.std.specs.Prelude.{◌≡◌, ◌↔◌, ◌<◌, ◌^◌, IsTrue, ℕ, Some, slice_get};
 ghost use Rattle.rs_core.specs.Turns.{label_of};
 ghost use Rattle.rs_model.specs.declared.graph.Arm.{Arm};

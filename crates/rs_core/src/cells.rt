@@ -1,3 +1,4 @@
+//! The machines of a session, their states and their queues, of which nothing is asked.
 ghost use Rattle.std.specs.Prelude.{◌≡◌, ◌<◌, ◌++◌, ◌∷◌, [], List, Option, length, slice_index_or, slice_set, IfErr, OnErr, OnOk, OnSome, IfOk, MatchOption, Some, None, slice_get};
 ghost use Rattle.rs_model.specs.declared.graph.Arm.{Arm};
 ghost use Rattle.rs_model.specs.declared.graph.Role.{Role};
@@ -5,7 +6,7 @@ ghost use Rattle.rs_model.specs.declared.machines.State.TheVariants.{Takes};
 ghost use Rattle.rs_core.specs.Configurations.{state_at, state_of};
 ghost use Rattle.rs_core.specs.Core.{HasPlaces, arm_with, configuration_of, way_in_front, front_by, next_by, way_of, way_by, with_sent, with_got};
 
-use crate::rows::{Queue, Row};
+use crate::rows::{Queue, SenderQueues};
 use crate::{Message, StepFault};
 use rs_model::{Arm, Label, Machine, Role, State, Value};
 use std::marker::Model;
@@ -23,7 +24,7 @@ pub(crate) struct Way {
 pub(crate) struct Cells {
     pub machines: Vec<Machine>,
     pub states: Vec<u32>,
-    pub rows: Vec<Row>,
+    pub rows: Vec<SenderQueues>,
 }
 
 impl Model for Cells {
@@ -37,7 +38,7 @@ impl Model for Cells {
 impl Cells {
     /// The state in which the role's machine stands.
     pub(crate) fn state(&self, role: Role) -> Option<&State>
-        requires there { role.0 < length self.now.machines }
+        requires present { role.0 < length self.now.machines }
         requires places { HasPlaces self.now }
         ensures { MatchOption result (state_at self.now.machines (configuration_of self.now) role.0 ≡ None) (λ s. state_at self.now.machines (configuration_of self.now) role.0 ≡ Some s.now) }
     {
@@ -47,7 +48,7 @@ impl Cells {
 
     /// Where a send by the arm goes, or what is wrong with it.
     pub(crate) fn way(&self, role: Role, arm: u16, value: &Value) -> Result<Way, StepFault>
-        requires there { role.0 < length self.now.machines }
+        requires present { role.0 < length self.now.machines }
         requires places { HasPlaces self.now }
         ensures { result ≡ way_of (state_at self.now.machines (configuration_of self.now) role.0) arm value.now }
     {
@@ -59,7 +60,7 @@ impl Cells {
 
     /// Where the role's receive goes, or what is wrong with it. It goes nowhere where no arm has the message's label.
     pub(crate) fn front(&self, role: Role) -> Result<Option<Way>, StepFault>
-        requires there { role.0 < length self.now.machines }
+        requires present { role.0 < length self.now.machines }
         requires places { HasPlaces self.now }
         requires peers { (peer : Role) (arms : List Arm) → state_at self.now.machines (configuration_of self.now) role.0 ≡ Some (Takes peer arms) → peer.0 < length self.now.machines }
         ensures { result ≡ way_in_front (state_at self.now.machines (configuration_of self.now) role.0) (λ p. (configuration_of self.now).queue p role.0) }
@@ -81,7 +82,7 @@ impl Cells {
         next: u32,
         message: Message,
     ) -> Result<(), Message>
-        requires there { role.0 < length self.old.machines }
+        requires present { role.0 < length self.old.machines }
         requires peer { peer.0 < length self.old.machines }
         requires places { HasPlaces self.old }
         ensures ok { OnOk result (self.new ≡ with_sent self.old role.0 peer.0 next message) }
@@ -95,10 +96,11 @@ impl Cells {
 
     /// Takes the oldest message from `peer` to `role`, and puts the machine of `role` into the next state.
     pub(crate) fn receive(&mut self, role: Role, peer: Role, next: u32) -> Option<Message>
-        requires there { role.0 < length self.old.machines }
+        requires present { role.0 < length self.old.machines }
         requires peer { peer.0 < length self.old.machines }
         requires places { HasPlaces self.old }
-        ensures message { MatchOption result ((configuration_of self.old).queue peer.0 role.0 ≡ []) (λ m. (configuration_of self.old).queue peer.0 role.0 ≡ m ∷ (configuration_of self.new).queue peer.0 role.0) }
+        ensures message { MatchOption result ((configuration_of self.old).queue peer.0 role.0 ≡ [])
+            (λ m. (configuration_of self.old).queue peer.0 role.0 ≡ m ∷ (configuration_of self.new).queue peer.0 role.0) }
         ensures new { OnSome result (self.new ≡ with_got self.old role.0 peer.0 next ((configuration_of self.new).queue peer.0 role.0)) }
     {
         let message = self.rows[peer.0 as usize].pop(role.0 as usize)?;

@@ -1,4 +1,5 @@
-ghost use Rattle.std.specs.Prelude.{◌≡◌, ◌≢◌, ◌+◌, ◌<◌, ◌≤◌, ◌++◌, ◌∷◌, [], map, vec_capacity, vec_len, IfOk, OnOk};
+//! What takes the turns of the roles.
+ghost use Rattle.std.specs.Prelude.{◌≡◌, ◌≢◌, [], map, IfOk, OnOk};
 ghost use Rattle.rs_core.specs.Plain.{offer_of};
 
 use crate::Actor;
@@ -9,10 +10,10 @@ use std::alloc::Global;
 /// What takes a role's turns: its actor, the choice that it keeps from when it found its queue full, and what the role
 /// has done so far.
 #[derive(Drop)]
-pub(crate) struct Player<A: Drop> {
-    pub(crate) actor: A,
-    pub(crate) kept: Option<(u16, Value)>,
-    pub(crate) transcript: Transcript,
+pub struct Player<A: Drop> {
+    pub actor: A,
+    pub kept: Option<(u16, Value)>,
+    pub transcript: Transcript,
 }
 
 impl<A: Actor> Player<A> {
@@ -27,19 +28,6 @@ impl<A: Actor> Player<A> {
             Some(choice) => Ok(choice),
             None => self.actor.choose(alloc, arms),
         }
-    }
-
-    /// The actor and the transcript.
-    fn into_parts(self) -> (A, Transcript)
-        ensures actor { result.0 ≡ self.actor }
-        ensures transcript { result.1 ≡ self.transcript }
-    {
-        let Player {
-            actor,
-            transcript,
-            ..
-        } = self;
-        (actor, transcript)
     }
 }
 
@@ -69,39 +57,11 @@ pub(crate) fn parts_of<A: Actor>(
     ensures actors { IfOk result (λ r. r.0.items ≡ map (λ x. x.actor) players.items) }
     ensures transcripts { IfOk result (λ r. r.1.items ≡ map (λ x. x.transcript) players.items) }
 {
-    let actors = Vec::with_capacity(alloc, players.len())?;
-    let transcripts = Vec::with_capacity(alloc, players.len())?;
-    Ok(taken_apart(players, actors, transcripts))
-}
-
-/// The actors and the transcripts of the players, in the empty lists, which have room for them.
-fn taken_apart<A: Actor>(
-    players: Vec<Player<A>>,
-    mut actors: Vec<A>,
-    mut transcripts: Vec<Transcript>,
-) -> (Vec<A>, Vec<Transcript>)
-    requires empty { (actors.items ≡ []) × (transcripts.items ≡ []) }
-    requires room { (vec_len players ≤ vec_capacity actors) × (vec_len players ≤ vec_capacity transcripts) }
-    ensures actors { result.0.items ≡ map (λ x. x.actor) players.items }
-    ensures transcripts { result.1.items ≡ map (λ x. x.transcript) players.items }
-{
+    let mut actors = Vec::with_capacity(alloc, players.len())?;
+    let mut transcripts = Vec::with_capacity(alloc, players.len())?;
     for player in players {
-        let (actor, transcript) = player.into_parts();
-        put(&mut actors, actor);
-        put(&mut transcripts, transcript);
+        actors.push(player.actor)?;
+        transcripts.push(player.transcript)?;
     }
-    (actors, transcripts)
-}
-
-/// Appends an item for which there is room.
-fn put<T>(list: &mut Vec<T>, item: T)
-    requires room { vec_len list.old < vec_capacity list.old }
-    ensures items { list.new.items ≡ list.old.items ++ item ∷ [] }
-    ensures count { vec_len list.new ≡ vec_len list.old + 1 }
-    ensures room { vec_capacity list.old ≤ vec_capacity list.new }
-{
-    match list.push(item) {
-        Ok(()) => {}
-        Err(_) => unreachable!(),
-    }
+    Ok((actors, transcripts))
 }

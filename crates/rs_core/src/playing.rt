@@ -1,18 +1,18 @@
-ghost use Rattle.std.specs.Prelude.{◌≡◌, length, IfOk, ℕ};
-ghost use Rattle.rs_core.specs.Choices.{AreWellFormed};
-ghost use Rattle.rs_core.specs.Plain.{Ending, IsPlain};
-ghost use Rattle.rs_core.specs.Runs.{AreReady, HasRound, IsAmong, IsGiven, EndTells, EndShows};
-ghost use Rattle.rs_core.specs.Safety.{IsSafe};
+//! Rounds, in which each role has a turn, until the end.
+ghost use Rattle.std.specs.Prelude.{◌≡◌, length, IfOk, OnOk, ℕ};
+ghost use Rattle.rs_core.specs.Queues.{AreTranscripts, IsFresh};
+ghost use Rattle.rs_core.specs.Runs.{AreReady, EndTells, HasPlayed, HasRound};
 
+use crate::Actor;
 use crate::players::{Player, players_of};
-use crate::turns::{Turned, turn};
-use crate::{Actor, Core};
-use rs_model::{Machine, NoMemory, Role, State};
+use crate::queues::Queues;
+use crate::turns::{Turned, here, turn};
+use rs_model::{NoMemory, Role, State};
 use std::alloc::Global;
 
 /// What a round was.
 #[derive(Clone, Copy)]
-pub(crate) enum Rounded {
+enum Rounded {
     Moved,
     Idle,
     Stopped { role: Role },
@@ -21,7 +21,7 @@ pub(crate) enum Rounded {
 /// How the rounds came to their end: all roles have ended; a role is at its limit; or no role can go on, and the first
 /// sender in order finds its queue to the receiver full.
 #[derive(Clone, Copy)]
-pub(crate) enum End {
+pub enum End {
     Ended,
     Stopped(Role),
     Full { sender: Role, receiver: Role },
@@ -29,37 +29,34 @@ pub(crate) enum End {
 
 /// The end of the rounds, and the players in role order.
 #[derive(Drop)]
-pub(crate) struct Played<A: Drop> {
-    pub(crate) end: End,
-    pub(crate) players: Vec<Player<A>>,
+pub struct Finished<A: Drop> {
+    pub end: End,
+    pub players: Vec<Player<A>>,
 }
 
-/// Makes rounds, with queues of that capacity or of none, until the end.
-pub(crate) fn play<A: Actor>(
+/// Makes rounds over a session from its start until the end: all have ended, a role has made `limit` acts and hasn't ended, or
+/// no role moves in a round. There is one actor for each role. The one error is that memory was refused.
+pub fn play<Q: Queues, A: Actor>(
     alloc: Global,
-    machines: Vec<Machine>,
+    queues: &mut Q,
     actors: Vec<A>,
-    limit: usize,
-    capacity: Option<usize>,
-) -> Result<Played<A>, NoMemory>
-    requires safe { IsSafe machines.items }
-    requires well_formed { AreWellFormed machines.items }
-    requires actors { length actors.items ≡ length machines.items }
-    ensures plain { IfOk result (λ r. (given : ℕ → A) → IsGiven given actors.items → (o : Ending A) × IsPlain machines.items A.behaviour given limit capacity o × EndShows machines.items capacity o r.end r.players.items) }
-    ensures many { IfOk result (λ r. length r.players.items ≡ length machines.items) }
-    ensures among { IfOk result (λ r. IsAmong (length machines.items) r.end) }
+    limit: u32,
+) -> Result<Finished<A>, NoMemory>
+    requires fresh { IsFresh (Q.notes queues.old) (Q.core queues.old) }
+    requires actors { length actors.items ≡ length (Q.core queues.old).machines }
+    ensures played { IfOk result (λ r. HasPlayed A.behaviour (Q.core queues.old).machines limit (Q.capacity queues.old) actors.items (Q.core queues.new) r.end r.players.items) }
+    ensures noted { IfOk result (λ r. AreTranscripts (Q.notes queues.new) r.players.items) }
 {
     let mut players = players_of(alloc, actors)?;
-    let mut core = Core::begin(alloc, machines)?;
     loop {
-        match round(alloc, &mut core, &mut players, limit, capacity)? {
+        match round(alloc, queues, &mut players, limit)? {
             Rounded::Moved => {}
             Rounded::Idle => {
-                let end = end_of(&core);
-                return Ok(Played { end, players });
+                let end = end_of(queues);
+                return Ok(Finished { end, players });
             }
             Rounded::Stopped { role } => {
-                return Ok(Played {
+                return Ok(Finished {
                     end: End::Stopped(role),
                     players,
                 });
@@ -69,21 +66,23 @@ pub(crate) fn play<A: Actor>(
 }
 
 /// One turn of each role, in order, until one is at its limit.
-fn round<A: Actor>(
+fn round<Q: Queues, A: Actor>(
     alloc: Global,
-    core: &mut Core,
+    queues: &mut Q,
     players: &mut Vec<Player<A>>,
-    limit: usize,
-    capacity: Option<usize>,
+    limit: u32,
 ) -> Result<Rounded, NoMemory>
-    requires ready { AreReady limit core.old players.old.items }
-    ensures round { IfOk result (λ r. HasRound A.behaviour limit capacity core.old players.old.items core.new players.new.items r) }
+    requires ready { AreReady limit (Q.core queues.old) players.old.items }
+    requires noted { AreTranscripts (Q.notes queues.old) players.old.items }
+    ensures round { IfOk result (λ r. HasRound A.behaviour limit (Q.capacity queues.old) (Q.core queues.old) players.old.items (Q.core queues.new) players.new.items r) }
+    ensures noted { OnOk result (AreTranscripts (Q.notes queues.new) players.new.items) }
+    ensures capacity { OnOk result (Q.capacity queues.new ≡ Q.capacity queues.old) }
 {
-    let count = core.roles();
+    let count = queues.roles();
     let mut moved = false;
     for i in 0..count {
-        let role = core.role_at(i);
-        match turn(alloc, core, &mut players[i], role, limit, capacity)? {
+        let role = queues.role_at(i);
+        match turn(alloc, queues, &mut players[i], role, limit)? {
             Turned::Moved => moved = true,
             Turned::AtLimit => return Ok(Rounded::Stopped { role }),
             Turned::Waits => {}
@@ -99,12 +98,12 @@ fn round<A: Actor>(
 }
 
 /// The end after a round in which no role moved.
-fn end_of(core: &Core) -> End
-    ensures { EndTells core.now result }
+fn end_of<Q: Queues>(queues: &Q) -> End
+    ensures { EndTells (Q.core queues.now) result }
 {
-    for place in 0..core.roles() {
-        let role = core.role_at(place);
-        if let State::Puts { peer, .. } = core.here(role) {
+    for place in 0..queues.roles() {
+        let role = queues.role_at(place);
+        if let State::Puts { peer, .. } = here(queues, role) {
             return End::Full {
                 sender: role,
                 receiver: *peer,

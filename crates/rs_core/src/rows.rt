@@ -1,3 +1,4 @@
+//! Queues, and the row of those from one role.
 ghost use Rattle.std.specs.Prelude.{◌≡◌, ◌<◌, ◌++◌, ◌∷◌, [], length, slice_index_or, slice_set, IfErr, OnErr, OnOk, IfOk, MatchOption, IfSome, Some, slice_get, replicate};
 
 use crate::Message;
@@ -65,11 +66,11 @@ impl Queue {
 
 /// The queues of one sender, one for each receiver.
 #[derive(Drop)]
-pub(crate) struct Row {
+pub(crate) struct SenderQueues {
     pub queues: Vec<Queue>,
 }
 
-impl Model for Row {
+impl Model for SenderQueues {
     ghost use Rattle.std.specs.Prelude.{List};
     ghost use Rattle.rs_core.specs.Configurations.{Message};
 
@@ -78,16 +79,16 @@ impl Model for Row {
     ghost view = { λ r. r.queues.items };
 }
 
-impl Row {
+impl SenderQueues {
     /// Empty queues to so many receivers.
-    pub(crate) fn new(alloc: Global, count: usize) -> Result<Row, NoMemory>
+    pub(crate) fn new(alloc: Global, count: usize) -> Result<SenderQueues, NoMemory>
         ensures { IfOk result (λ r. r ≡ replicate count []) }
     {
         let mut queues = Vec::with_capacity(alloc, count)?;
         for _ in 0..count {
             queues.push(Queue::new(alloc))?;
         }
-        Ok(Row { queues })
+        Ok(SenderQueues { queues })
     }
 
     pub(crate) fn push(&mut self, to: usize, message: Message) -> Result<(), Message>

@@ -1,14 +1,15 @@
-ghost use Rattle.std.specs.Prelude.{◌≡◌, length, map, IfErr, IfOk, ℕ, None, Some};
+//! Runs of machines on one thread.
+ghost use Rattle.std.specs.Prelude.{◌≡◌, length, IfErr, IfOk, ℕ, None, Some};
 ghost use Rattle.rs_core.specs.Choices.{AreWellFormed};
 ghost use Rattle.rs_core.specs.Plain.{Ending, IsPlain};
-ghost use Rattle.rs_core.specs.Runs.{FaultTells, IsGiven, EndingShows, got_from, sent_to};
+ghost use Rattle.rs_core.specs.Runs.{EndingShows, FaultShows, FaultTells, IsAmong, IsGiven, RunShows, got_from, sent_to};
 ghost use Rattle.rs_core.specs.Safety.{IsSafe};
-ghost use Rattle.rs_core.specs.declared.runs.Outcome.TheVariants as outcome;
 
-use crate::Actor;
-use crate::players::{Player, parts_of};
-use crate::playing::{End, play};
+use crate::bounded::BoundedCore;
+use crate::players::parts_of;
+use crate::playing::{End, Finished, play};
 use crate::transcripts::{Entry, Transcripts};
+use crate::{Actor, Core};
 use rs_model::{Machine, NoMemory, Role};
 use std::alloc::Global;
 
@@ -66,13 +67,18 @@ pub fn run_plain<A: Actor>(
     requires safe { IsSafe machines.items }
     requires well_formed { AreWellFormed machines.items }
     requires actors { length actors.items ≡ length machines.items }
-    ensures plain { IfOk result (λ r. (given : ℕ → A) → IsGiven given actors.items → (o : Ending A) × IsPlain machines.items A.behaviour given limit None o × EndingShows (length machines.items) o r.outcome r.actors.items) }
+    ensures plain { IfOk result (λ r. (given : ℕ → A) → IsGiven given actors.items
+        → (o : Ending A) × IsPlain machines.items A.behaviour given limit None o × EndingShows (length machines.items) o r.outcome r.actors.items) }
 {
-    let played = play(alloc, machines, actors, limit as usize, None)?;
-    match played.end {
-        End::Ended => run_that_ended(alloc, played.players),
-        End::Stopped(role) => stopped(alloc, role, played.players),
-        End::Full { .. } => unreachable!(),
+    let mut queues = BoundedCore {
+        core: Core::begin(alloc, machines)?,
+        capacity: None,
+    };
+    let played = play(alloc, &mut queues, actors, limit)?;
+    match run_of(alloc, played) {
+        Ok(run) => Ok(run),
+        Err(RunFault::NoMemory) => Err(NoMemory),
+        Err(RunFault::Full { .. }) => unreachable!(),
     }
 }
 
@@ -91,48 +97,47 @@ pub fn run_bounded<A: Actor>(
     requires safe { IsSafe machines.items }
     requires well_formed { AreWellFormed machines.items }
     requires actors { length actors.items ≡ length machines.items }
-    ensures plain { IfOk result (λ r. (given : ℕ → A) → IsGiven given actors.items → (o : Ending A) × IsPlain machines.items A.behaviour given limit (Some capacity) o × EndingShows (length machines.items) o r.outcome r.actors.items) }
+    ensures plain { IfOk result (λ r. (given : ℕ → A) → IsGiven given actors.items
+        → (o : Ending A) × IsPlain machines.items A.behaviour given limit (Some capacity) o × EndingShows (length machines.items) o r.outcome r.actors.items) }
     ensures full { IfErr result (λ e. (given : ℕ → A) → IsGiven given actors.items → FaultTells machines.items A.behaviour given limit capacity e) }
 {
-    let played = play(alloc, machines, actors, limit as usize, Some(capacity))?;
-    match played.end {
-        End::Ended => Ok(run_that_ended(alloc, played.players)?),
-        End::Stopped(role) => Ok(stopped(alloc, role, played.players)?),
+    let mut queues = BoundedCore {
+        core: Core::begin(alloc, machines)?,
+        capacity: Some(capacity),
+    };
+    let played = play(alloc, &mut queues, actors, limit)?;
+    run_of(alloc, played)
+}
+
+/// The run that came to this end, or the fault of one in which no role could go on.
+pub fn run_of<A: Actor>(alloc: Global, played: Finished<A>) -> Result<Run<A>, RunFault>
+    requires among { IsAmong (length played.players.items) played.end }
+    ensures run { IfOk result (λ r. RunShows played.end played.players.items r.outcome r.actors.items) }
+    ensures full { IfErr result (λ e. FaultShows played.end played.players.items e) }
+{
+    let Finished { end, players } = played;
+    match end {
+        End::Ended => {
+            let (actors, transcripts) = parts_of(alloc, players)?;
+            Ok(Run {
+                outcome: Outcome::Ended(Transcripts::of(transcripts)),
+                actors,
+            })
+        }
+        End::Stopped(role) => {
+            let (actors, _) = parts_of(alloc, players)?;
+            Ok(Run {
+                outcome: Outcome::Stopped(role),
+                actors,
+            })
+        }
         End::Full { sender, receiver } => Err(RunFault::Full {
             sender,
             receiver,
-            sent: sent_to(
-                played.players[sender.0 as usize].transcript.as_slice(),
-                receiver,
-            ),
-            taken: got_from(
-                played.players[receiver.0 as usize].transcript.as_slice(),
-                sender,
-            ),
+            sent: sent_to(players[sender.0 as usize].transcript.as_slice(), receiver),
+            taken: got_from(players[receiver.0 as usize].transcript.as_slice(), sender),
         }),
     }
-}
-
-fn run_that_ended<A: Actor>(alloc: Global, players: Vec<Player<A>>) -> Result<Run<A>, NoMemory>
-    ensures outcome { IfOk result (λ r. r.outcome ≡ outcome.Ended (map (λ x. x.transcript) players.items)) }
-    ensures actors { IfOk result (λ r. r.actors.items ≡ map (λ x. x.actor) players.items) }
-{
-    let (actors, transcripts) = parts_of(alloc, players)?;
-    Ok(Run {
-        outcome: Outcome::Ended(Transcripts::of(transcripts)),
-        actors,
-    })
-}
-
-fn stopped<A: Actor>(alloc: Global, role: Role, players: Vec<Player<A>>) -> Result<Run<A>, NoMemory>
-    ensures outcome { IfOk result (λ r. r.outcome ≡ outcome.Stopped role) }
-    ensures actors { IfOk result (λ r. r.actors.items ≡ map (λ x. x.actor) players.items) }
-{
-    let (actors, _) = parts_of(alloc, players)?;
-    Ok(Run {
-        outcome: Outcome::Stopped(role),
-        actors,
-    })
 }
 
 /// How many messages the entries send to the role.

@@ -1,6 +1,7 @@
+//! An actor that draws what it chooses.
 ghost use Rattle.std.specs.Prelude.{◌≡◌, ◌+◌, ◌%◌, ◌^◌, ◌<◌, IfOk, OnOk};
 ghost use Rattle.rs_core.specs.Draws.{after, after_many, after_value, by_draws, draw, draw_numbers, draw_octets, draw_value, draw_whole};
-ghost use Rattle.rs_core.specs.Choosing.{draws-well};
+ghost use Rattle.rs_core.specs.Choosing.{draws_well};
 
 use crate::Actor;
 use rs_model::{Arm, NoMemory, Numbers, Octets, Role, Sort, Value};
@@ -122,5 +123,5 @@ impl Actor for SeededActor {
         Ok(())
     }
 
-    ghost chooses_well = { draws-well };
+    ghost chooses_well = { draws_well };
 }

@@ -1,14 +1,16 @@
-ghost use Rattle.std.specs.Prelude.{◌≡◌, ◌<◌, ◌∷◌, [], map, replicate, length, slice_index_or, IfErr, OnErr, OnOk, IfOk, MatchOption, None, Some, slice_get};
+//! A session over unbounded queues, and its steps.
+ghost use Rattle.std.specs.Prelude.{◌≡◌, ◌<◌, ◌∷◌, [], map, replicate, length, slice_index_or, IfErr, OnErr, OnOk, IfOk, Some, slice_get};
 ghost use Rattle.rs_core.specs.Choices.{AreWellFormed};
-ghost use Rattle.rs_core.specs.Configurations.{role_of, Sends, StartsAt, state_at, state_of};
-ghost use Rattle.rs_core.specs.Core.{IsReachedSession, HasReceived, HasStepped, StepIsRefused, IsUnsent, configuration_of, receive_fault, send_fault};
+ghost use Rattle.rs_core.specs.Configurations.{role_of, Sends, StartsAt, state_at};
+ghost use Rattle.rs_core.specs.Core.{HasReceived, HasStepped, StepIsRefused, IsUnsent, configuration_of, receive_fault, send_fault};
+ghost use Rattle.rs_core.specs.Queues.{IsStanding};
 ghost use Rattle.rs_core.specs.Safety.{IsSafe};
 ghost use Rattle.rs_core.specs.declared.messages.StepFault.TheVariants.{NoMemory};
 
 use crate::cells::Cells;
-use crate::rows::Row;
+use crate::rows::SenderQueues;
 use crate::{Event, Message, Refused, StepFault, Stepped};
-use rs_model::{Machine, NoMemory, Role, State, Value};
+use rs_model::{Machine, NoMemory, Role, Value};
 use std::alloc::Global;
 use std::marker::Model;
 
@@ -61,7 +63,7 @@ impl Core {
     /// The error is the first of [`StepFault`] that holds, the event comes back with it, and nothing changes; memory can
     /// be refused at a send alone.
     pub fn step(&mut self, event: Event) -> Result<Stepped, Refused>
-        requires there { role_of event < length self.old.machines }
+        requires present { role_of event < length self.old.machines }
         ensures step { IfOk result (λ s. HasStepped self.old.machines (configuration_of self.old) event (configuration_of self.new) s) }
         ensures refused { IfErr result (λ r. StepIsRefused self.old.machines (configuration_of self.old) event r.fault) }
         ensures back { IfErr result (λ r. r.event ≡ event) }
@@ -94,7 +96,7 @@ impl Core {
     }
 
     fn send(&mut self, role: Role, arm: u16, value: Value) -> Result<(), Unsent>
-        requires there { role.0 < length self.old.machines }
+        requires present { role.0 < length self.old.machines }
         ensures step { OnOk result (Sends self.old.machines (configuration_of self.old) role.0 arm value (configuration_of self.new)) }
         ensures refused { IfErr result (λ r. IsUnsent (send_fault (state_at self.old.machines (configuration_of self.old) role.0) arm value) r.fault) }
         ensures back { IfErr result (λ r. r.value ≡ value) }
@@ -119,7 +121,7 @@ impl Core {
     }
 
     fn receive(&mut self, role: Role) -> Result<Message, StepFault>
-        requires there { role.0 < length self.old.machines }
+        requires present { role.0 < length self.old.machines }
         ensures step { IfOk result (λ m. HasReceived self.old.machines (configuration_of self.old) role.0 (configuration_of self.new) m) }
         ensures refused { IfErr result (λ f. receive_fault (state_at self.old.machines (configuration_of self.old) role.0) (λ p. (configuration_of self.old).queue p role.0) ≡ Some f) }
         ensures same { OnErr result (self.new ≡ self.old) }
@@ -138,38 +140,32 @@ impl Core {
 
     /// The number of the state in which the role's machine stands.
     pub fn state(&self, role: Role) -> u32
-        requires there { role.0 < length self.now.machines }
+        requires present { role.0 < length self.now.machines }
         ensures { result ≡ (configuration_of self.now).at role.0 }
     {
         self.cells.states[role.0 as usize]
     }
 
-    /// The state in which the role's machine stands.
-    pub(crate) fn here(&self, role: Role) -> &State
-        requires there { role.0 < length self.now.machines }
-        ensures state { state_at self.now.machines (configuration_of self.now) role.0 ≡ Some result.now }
-        ensures session { IsReachedSession self.now }
+    /// The number of that state, which is there.
+    pub(crate) fn state_standing(&self, role: Role) -> u32
+        requires present { role.0 < length self.now.machines }
+        ensures state { result ≡ (configuration_of self.now).at role.0 }
+        ensures standing { IsStanding self.now }
     {
-        match self.cells.state(role) {
-            Some(state) => state,
-            None => unreachable!(),
-        }
+        self.cells.states[role.0 as usize]
     }
 
-    /// The state of that number of the role's machine.
-    pub(crate) fn state_numbered(&self, role: Role, number: u32) -> Option<&State>
-        requires there { role.0 < length self.now.machines }
-        ensures state { MatchOption result (state_of (slice_get self.now.machines role.0) number ≡ None) (λ s. state_of (slice_get self.now.machines role.0) number ≡ Some s.now) }
-        ensures session { IsReachedSession self.now }
+    /// The machine of the role.
+    pub(crate) fn machine(&self, role: Role) -> &Machine
+        requires present { role.0 < length self.now.machines }
+        ensures { slice_get self.now.machines role.0 ≡ Some result.now }
     {
-        self.cells.machines[role.0 as usize]
-            .states
-            .get(number as usize)
+        &self.cells.machines[role.0 as usize]
     }
 
     /// The role at a place among the machines, whose number it is.
     pub(crate) fn role_at(&self, place: usize) -> Role
-        requires there { place < length self.now.machines }
+        requires present { place < length self.now.machines }
         ensures { result.0 ≡ place }
     {
         self.cells.machines[place].role
@@ -192,7 +188,8 @@ impl Core {
     }
 }
 
-fn starts_of(alloc: Global, machines: &[Machine]) -> Result<Vec<u32>, NoMemory>
+/// The number of each machine's start state.
+pub fn starts_of(alloc: Global, machines: &[Machine]) -> Result<Vec<u32>, NoMemory>
     ensures { IfOk result (λ v. v.items ≡ map (λ m. m.start) machines.now) }
 {
     let mut states = Vec::with_capacity(alloc, machines.len())?;
@@ -202,12 +199,12 @@ fn starts_of(alloc: Global, machines: &[Machine]) -> Result<Vec<u32>, NoMemory>
     Ok(states)
 }
 
-fn rows_of(alloc: Global, count: usize) -> Result<Vec<Row>, NoMemory>
+fn rows_of(alloc: Global, count: usize) -> Result<Vec<SenderQueues>, NoMemory>
     ensures { IfOk result (λ v. v.items ≡ replicate count (replicate count [])) }
 {
     let mut rows = Vec::with_capacity(alloc, count)?;
     for _ in 0..count {
-        rows.push(Row::new(alloc, count)?)?;
+        rows.push(SenderQueues::new(alloc, count)?)?;
     }
     Ok(rows)
 }

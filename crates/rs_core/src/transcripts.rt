@@ -1,3 +1,4 @@
+//! What roles did: entries and transcripts.
 ghost use Rattle.std.specs.Prelude.{◌≡◌, ◌++◌, ◌∷◌, [], length, OnErr, OnOk};
 
 use rs_model::{Label, NoMemory, Role, Value};

@@ -1,20 +1,24 @@
+//! One turn of a role.
 ghost use Rattle.std.specs.Prelude.{◌≡◌, ◌<◌, ◌∷◌, List, Option, length, IfErr, OnErr, OnOk, IfOk, MatchOption, None, Some, slice_get, ℕ};
 ghost use Rattle.rs_model.specs.declared.graph.Arm.{Arm};
 ghost use Rattle.rs_model.specs.declared.graph.Role.{Role};
 ghost use Rattle.rs_model.specs.declared.machines.State.TheVariants.{Takes};
-ghost use Rattle.rs_core.specs.Configurations.{state_of};
-ghost use Rattle.rs_core.specs.Turns.{KeepsWell, NextTells, TurnTells, is_full};
-ghost use Rattle.rs_core.specs.declared.messages.StepFault.TheVariants as step_fault;
+ghost use Rattle.rs_core.specs.Choices.{AreWellFormed};
+ghost use Rattle.rs_core.specs.Configurations.{state_at, state_of};
+ghost use Rattle.rs_core.specs.Core.{configuration_of};
+ghost use Rattle.rs_core.specs.Queues.{TurnIsNoted};
+ghost use Rattle.rs_core.specs.Turns.{KeepsWell, NextTells, TurnTells};
 
 use crate::arm_places::place_by_label;
 use crate::players::Player;
-use crate::{Actor, Core, Entry, Event, StepFault, Stepped};
-use rs_model::{Arm, Label, NoMemory, Role, State, Value};
+use crate::queues::{Posted, Queues};
+use crate::{Actor, Entry, Message};
+use rs_model::{Label, NoMemory, Role, State, Value};
 use std::alloc::Global;
 
 /// What a role can do next.
 #[derive(Drop)]
-pub(crate) enum Next {
+pub(crate) enum NextAct {
     Done,
     Limit,
     Sends {
@@ -43,76 +47,82 @@ pub(crate) enum Turned {
     AtLimit,
 }
 
-/// One turn of the role, with queues of that capacity or of none.
-pub(crate) fn turn<A: Actor>(
+/// One turn of the role.
+pub(crate) fn turn<Q: Queues, A: Actor>(
     alloc: Global,
-    core: &mut Core,
+    queues: &mut Q,
     player: &mut Player<A>,
     role: Role,
-    limit: usize,
-    capacity: Option<usize>,
+    limit: u32,
 ) -> Result<Turned, NoMemory>
-    requires there { role.0 < length core.old.machines }
-    requires keeps { KeepsWell core.old role.0 player.old }
-    ensures tells { IfOk result (λ t. TurnTells A.behaviour limit capacity core.old player.old role.0 core.new player.new t) }
+    requires present { role.0 < length (Q.core queues.old).machines }
+    requires keeps { KeepsWell (Q.core queues.old) role.0 player.old }
+    requires noted { Q.notes queues.old role.0 player.old.transcript }
+    ensures tells { IfOk result (λ t. TurnTells A.behaviour limit (Q.capacity queues.old) (Q.core queues.old) player.old role.0 (Q.core queues.new) player.new t) }
+    ensures noted { OnOk result (TurnIsNoted role.0 player.new.transcript (Q.notes queues.old) (Q.notes queues.new)) }
+    ensures capacity { OnOk result (Q.capacity queues.new ≡ Q.capacity queues.old) }
 {
-    let number = core.state(role);
-    match next_of(alloc, core, player, role, limit)? {
-        Next::Done => Ok(Turned::Ended),
-        Next::Limit => Ok(Turned::AtLimit),
-        Next::Sends {
+    let number = queues.state(role);
+    match next_of(alloc, queues, player, role, limit)? {
+        NextAct::Done => Ok(Turned::Ended),
+        NextAct::Limit => Ok(Turned::AtLimit),
+        NextAct::Sends {
             peer,
             label,
             arm,
             value,
-        } => {
-            if is_full(capacity, core.queue_len(role, peer)) {
+        } => match queues.post(role, peer, arm, value)? {
+            Posted::Sent => {
+                player.transcript.push(Entry::Sent { peer, label })?;
+                Ok(Turned::Moved)
+            }
+            Posted::Full(value) => {
                 player.kept = Some((arm, value));
-                return Ok(Turned::Full);
+                Ok(Turned::Full)
             }
-            match core.step(Event::Send { role, arm, value }) {
-                Ok(Stepped::Sent) => {
-                    player.transcript.push(Entry::Sent { peer, label })?;
-                    Ok(Turned::Moved)
-                }
-                Ok(Stepped::Got { .. }) => unreachable!(),
-                Err(refused) => Err(only_memory(refused.fault)),
-            }
-        }
-        Next::Receives { peer } => match core.step(Event::Receive { role }) {
-            Ok(Stepped::Got { label, value }) => {
-                tell_actor(alloc, core, &mut player.actor, role, number, label, &value)?;
+        },
+        NextAct::Receives { peer } => match queues.fetch(role, peer) {
+            Some(message) => {
+                let Message { label, value } = message;
+                tell_actor(
+                    alloc,
+                    queues,
+                    &mut player.actor,
+                    role,
+                    number,
+                    label,
+                    &value,
+                )?;
                 player.transcript.push(Entry::Got { peer, label, value })?;
                 Ok(Turned::Moved)
             }
-            Ok(Stepped::Sent) => unreachable!(),
-            Err(_) => Ok(Turned::Waits),
+            None => Ok(Turned::Waits),
         },
     }
 }
 
 /// What the role can do next: its player is asked where it sends.
-fn next_of<A: Actor>(
+fn next_of<Q: Queues, A: Actor>(
     alloc: Global,
-    core: &Core,
+    queues: &Q,
     player: &mut Player<A>,
     role: Role,
-    limit: usize,
-) -> Result<Next, NoMemory>
-    requires there { role.0 < length core.now.machines }
-    requires keeps { KeepsWell core.now role.0 player.old }
-    ensures tells { IfOk result (λ n. NextTells A.behaviour limit core.now role.0 player.old player.new n) }
+    limit: u32,
+) -> Result<NextAct, NoMemory>
+    requires present { role.0 < length (Q.core queues.now).machines }
+    requires keeps { KeepsWell (Q.core queues.now) role.0 player.old }
+    ensures tells { IfOk result (λ n. NextTells A.behaviour limit (Q.core queues.now) role.0 player.old player.new n) }
 {
     let made = player.transcript.len();
-    match core.here(role) {
-        State::Done => Ok(Next::Done),
+    match here(queues, role) {
+        State::Done => Ok(NextAct::Done),
         State::Puts { peer, arms } => {
-            if made >= limit {
-                return Ok(Next::Limit);
+            if made >= limit as usize {
+                return Ok(NextAct::Limit);
             }
             let arms = arms.as_slice();
             let (arm, value) = player.offer(alloc, arms)?;
-            Ok(Next::Sends {
+            Ok(NextAct::Sends {
                 peer: *peer,
                 label: arms[arm as usize].label,
                 arm,
@@ -120,49 +130,52 @@ fn next_of<A: Actor>(
             })
         }
         State::Takes { peer, .. } => {
-            if made >= limit {
-                return Ok(Next::Limit);
+            if made >= limit as usize {
+                return Ok(NextAct::Limit);
             }
-            Ok(Next::Receives { peer: *peer })
+            Ok(NextAct::Receives { peer: *peer })
         }
     }
 }
 
-/// The one fault that an event has which the machines can do.
-fn only_memory(fault: StepFault) -> NoMemory
-    requires { fault ≡ step_fault.NoMemory }
+/// The state in which the role's machine stands.
+pub(crate) fn here<Q: Queues>(queues: &Q, role: Role) -> &State
+    requires present { role.0 < length (Q.core queues.now).machines }
+    ensures state { state_at (Q.core queues.now).machines (configuration_of (Q.core queues.now)) role.0 ≡ Some result.now }
+    ensures well_formed { AreWellFormed (Q.core queues.now).machines }
 {
-    match fault {
-        StepFault::NoMemory => NoMemory,
-        _ => unreachable!(),
+    match state_numbered(queues, role, queues.state(role)) {
+        Some(state) => state,
+        None => unreachable!(),
     }
 }
 
-/// Whether a queue of this length has no room for one message more.
-fn is_full(capacity: Option<usize>, length: usize) -> bool
-    ensures { result ≡ is_full capacity length }
+/// The state of that number of the role's machine.
+fn state_numbered<Q: Queues>(queues: &Q, role: Role, number: u32) -> Option<&State>
+    requires present { role.0 < length (Q.core queues.now).machines }
+    ensures { MatchOption result (state_of (slice_get (Q.core queues.now).machines role.0) number ≡ None) (λ s. state_of (slice_get (Q.core queues.now).machines role.0) number ≡ Some s.now) }
 {
-    match capacity {
-        Some(capacity) => length >= capacity,
-        None => false,
-    }
+    queues.machine(role).states.get(number as usize)
 }
 
 /// Tells the actor that its role took a message with the label, by an arm of the state of that number.
-fn tell_actor<A: Actor>(
+fn tell_actor<Q: Queues, A: Actor>(
     alloc: Global,
-    core: &Core,
+    queues: &Q,
     actor: &mut A,
     role: Role,
     number: u32,
     label: Label,
     value: &Value,
 ) -> Result<(), NoMemory>
-    requires there { role.0 < length core.now.machines }
-    requires taken { (peer : Role) × (arms : List Arm) × (place : ℕ) × (arm : Arm) × (state_of (slice_get core.now.machines role.0) number ≡ Some (Takes peer arms)) × (slice_get arms place ≡ Some arm) × (arm.label ≡ label) }
-    ensures becomes { OnOk result ((peer : Role) (arms : List Arm) (place : ℕ) (arm : Arm) → state_of (slice_get core.now.machines role.0) number ≡ Some (Takes peer arms) → slice_get arms place ≡ Some arm → arm.label ≡ label → A.behaviour.told actor.old arms place value.now ≡ actor.new) }
+    requires present { role.0 < length (Q.core queues.now).machines }
+    requires well_formed { AreWellFormed (Q.core queues.now).machines }
+    requires taken { (peer : Role) × (arms : List Arm) × (place : ℕ) × (arm : Arm) × (state_of (slice_get (Q.core queues.now).machines role.0) number ≡ Some (Takes peer arms))
+        × (slice_get arms place ≡ Some arm) × (arm.label ≡ label) }
+    ensures becomes { OnOk result ((peer : Role) (arms : List Arm) (place : ℕ) (arm : Arm) → state_of (slice_get (Q.core queues.now).machines role.0) number ≡ Some (Takes peer arms)
+        → slice_get arms place ≡ Some arm → arm.label ≡ label → A.behaviour.told actor.old arms place value.now ≡ actor.new) }
 {
-    match core.state_numbered(role, number) {
+    match state_numbered(queues, role, number) {
         Some(State::Takes { arms, .. }) => {
             let place = place_by_label(arms.as_slice(), label);
             actor.take(alloc, arms.as_slice(), place, value)

@@ -8,11 +8,11 @@ use Rattle.rs_model.specs.declared.graph.Arm.{Arm}
 use Rattle.rs_model.specs.declared.values.Sort.TheVariants as sort
 use Rattle.rs_model.specs.declared.demos.Demo.TheVariants as demo
 use Rattle.rs_global.specs.Canonical as protocol
-use Rattle.rs_global.specs.Canonical.{IsCanonicalText}
 use Rattle.rs_global.specs.Texts as protocol_texts
 use Rattle.rs_global.specs.Trees as protocol_trees
 use Rattle.rs_bodies.specs.Dialects.{sends_to}
 use Rattle.rs_bodies.specs.Canonical.{IsPointOf}
+use Rattle.rs_bodies.specs.Openings.{of_roles, of_role}
 use Rattle.rs_bodies.specs.Places.{choice, places_of_protocol, places_of_machine, IsGoneBackTo}
 use Rattle.rs_bodies.specs.Trees as bodies
 use Rattle.rs_bodies.specs.declared.dialects.Dialect.TheVariants.{Talks, Acts}
@@ -21,7 +21,6 @@ use Rattle.rs_bodies.specs.declared.places.Place.{Place}
 use Rattle.rs_bodies.proofs.BackFlags.{goes_back, back_is, is_back}
 use Rattle.rs_bodies.specs.Dialects.{with_mark}
 use Rattle.rs_machines.specs.Canonical as machine'
-use Rattle.rs_machines.specs.Canonical.{IsCanonicalMachineText}
 use Rattle.rs_machines.specs.Texts as machine_texts
 use Rattle.rs_machines.specs.Trees as machine_trees
 use Rattle.rs_bodies.specs.declared.dialects.Mark.{Mark}
@@ -40,9 +39,7 @@ free places n e g = false≢true (sym e ∙ is_back places n g)
 
 double_tree : protocol_trees.ProtocolTree
 double_tree = record {
-  first = codes "K";
-  second = codes "S";
-  further = codes "T" ∷ [];
+  opening = of_roles (codes "K") (codes "S") (codes "T" ∷ []);
   body = bodies.binds (codes "X0") (bodies.acts (codes "K") (sends_to (codes "S")) (codes "ready") None
       (bodies.acts (codes "T") (sends_to (codes "K")) (codes "ready") None
       (bodies.offers (codes "S") (sends_to (codes "K"))
@@ -55,7 +52,7 @@ double_tree = record {
 
 double_kernel_tree : machine_trees.MachineTree
 double_kernel_tree = record {
-  role = codes "K";
+  opening = of_role (codes "K");
   body = bodies.acts (codes "S") (with_mark mark.Puts) (codes "ready") None (bodies.binds (codes "X1")
       (bodies.acts (codes "S") (with_mark mark.Puts) (codes "ready") None
       (bodies.acts (codes "T") (with_mark mark.Takes) (codes "ready") None
@@ -71,22 +68,22 @@ talk : (names : Names_data) (p : Protocol_data) (n : ℕ) (s r : ℕ) (sn rn : L
     → slice_get names.roles s ≡ Some sn → slice_get names.roles r ≡ Some rn → IsPointOf Talks names (places_of_protocol p) n sn (sends_to rn) arms
 talk names p n s r sn rn arms t a b = record { head = head.Talk (role s) (role r); stands = t; named = (a, b) }
 
--- .. an act of a machine
+-- an act of a machine, with names
 act : (names : Names_data) (m : Machine_data) (n p : ℕ) (pn : List ℕ) (k : Mark) (arms : List Arm) → slice_get (places_of_machine m) n ≡ Some (choice (head.Act (role p) k) arms)
     → slice_get names.roles p ≡ Some pn → IsPointOf Acts names (places_of_machine m) n pn (with_mark k) arms
 act names m n p pn k arms t a = record { head = head.Act (role p) k; stands = t; named = (a, refl) }
 
 -- a recursion name of one digit
-x-node : (n : ℕ) → n < 10 → codes "X" ++ ((48 + n) ∷ []) ≡ codes "X" ++ decimal n
-x-node n h = ap (λ (z : List ℕ). codes "X" ++ z) (sym (decimal_digit n h))
+x_node : (n : ℕ) → n < 10 → codes "X" ++ ((48 + n) ∷ []) ≡ codes "X" ++ decimal n
+x_node n h = ap (λ (z : List ℕ). codes "X" ++ z) (sym (decimal_digit n h))
 
-double_front : protocol.IsCanonical (demo_names demo.Double 0) double_protocol double_tree
+double_front : protocol.IsCanonicalProtocolTree (demo_names demo.Double 0) double_protocol double_tree
 unfolding double_tree
 double_front = record {
-  roles = refl;
+  opening = refl;
   body = (
     omega arith,
-    x-node 0 (omega arith),
+    x_node 0 (omega arith),
     back_is (places_of_protocol double_protocol) 0 refl,
     (
       arm 0 sort.Unit 1,
@@ -112,7 +109,12 @@ double_front = record {
                 (
                   omega arith,
                   free (places_of_protocol double_protocol) 3 refl,
-                  (arm 1 sort.Octets 0, talk (demo_names demo.Double 0) double_protocol 3 0 2 (codes "K") (codes "T") (arm 1 sort.Octets 0 ∷ []) refl refl refl, (refl, refl), (omega arith, x-node 0 (omega arith))),
+                  (
+                    arm 1 sort.Octets 0,
+                    talk (demo_names demo.Double 0) double_protocol 3 0 2 (codes "K") (codes "T") (arm 1 sort.Octets 0 ∷ []) refl refl refl,
+                    (refl, refl),
+                    (omega arith, x_node 0 (omega arith)),
+                  ),
                 ),
                 (
                   (refl, refl),
@@ -140,10 +142,10 @@ double_front = record {
   );
 }
 
-double_back : machine'.IsCanonical (demo_names demo.Double 0) double_kernel double_kernel_tree
+double_back : machine'.IsCanonicalMachineTree (demo_names demo.Double 0) double_kernel double_kernel_tree
 unfolding double_kernel_tree
 double_back = record {
-  role = refl;
+  opening = refl;
   body = (
     omega arith,
     free (places_of_machine double_kernel) 0 refl,
@@ -153,7 +155,7 @@ double_back = record {
       (refl, refl),
       (
         omega arith,
-        x-node 1 (omega arith),
+        x_node 1 (omega arith),
         back_is (places_of_machine double_kernel) 1 refl,
         (
           arm 0 sort.Unit 2,
@@ -179,7 +181,12 @@ double_back = record {
                     (
                       omega arith,
                       free (places_of_machine double_kernel) 4 refl,
-                      (arm 1 sort.Octets 1, act (demo_names demo.Double 0) double_kernel 4 2 (codes "T") mark.Puts (arm 1 sort.Octets 1 ∷ []) refl refl, (refl, refl), (omega arith, x-node 1 (omega arith))),
+                      (
+                        arm 1 sort.Octets 1,
+                        act (demo_names demo.Double 0) double_kernel 4 2 (codes "T") mark.Puts (arm 1 sort.Octets 1 ∷ []) refl refl,
+                        (refl, refl),
+                        (omega arith, x_node 1 (omega arith)),
+                      ),
                     ),
                     (
                       (refl, refl),
@@ -205,18 +212,16 @@ unfolding double_tree double_kernel_tree
 double_is n text e = record {
   front = protocol_texts.protocol_text double_tree;
   back = machine_texts.machine_text double_kernel_tree;
-  protocol = record { tree = double_tree; canonical = double_front; is = refl };
-  machines = (machine_texts.machine_text double_kernel_tree, [], record { tree = double_kernel_tree; canonical = double_back; is = refl }, refl, refl);
-  is = e ∙ without (demo_names demo.Double n) (demo_names demo.Double n).roles (protocol_texts.protocol_text double_tree) (machine_texts.machine_text double_kernel_tree);
+  protocol = record { tree = double_tree; canonical = double_front; whole = refl };
+  machines = (machine_texts.machine_text double_kernel_tree, [], record { tree = double_kernel_tree; canonical = double_back; whole = refl }, refl, refl);
+  whole = e ∙ without (demo_names demo.Double n) (demo_names demo.Double n).roles (protocol_texts.protocol_text double_tree) (machine_texts.machine_text double_kernel_tree);
 }
 
 -- the stream
 
 stream_tree : protocol_trees.ProtocolTree
 stream_tree = record {
-  first = codes "S";
-  second = codes "T";
-  further = [];
+  opening = of_roles (codes "S") (codes "T") [];
   body = bodies.binds (codes "X0") (bodies.acts (codes "T") (sends_to (codes "S")) (codes "ready") None
       (bodies.offers (codes "S") (sends_to (codes "T"))
       (bodies.more (codes "value") (Some sort.Octets) (bodies.again (codes "X0"))
@@ -225,7 +230,7 @@ stream_tree = record {
 
 stream_source_tree : machine_trees.MachineTree
 stream_source_tree = record {
-  role = codes "S";
+  opening = of_role (codes "S");
   body = bodies.acts (codes "T") (with_mark mark.Puts) (codes "value") (Some sort.Octets) (bodies.binds (codes "X1")
       (bodies.acts (codes "T") (with_mark mark.Takes) (codes "ready") None
       (bodies.offers (codes "T") (with_mark mark.Puts)
@@ -233,13 +238,13 @@ stream_source_tree = record {
       (bodies.one (codes "stop") None (bodies.acts (codes "T") (with_mark mark.Takes) (codes "ready") None bodies.ends))))));
 }
 
-stream_front : protocol.IsCanonical (demo_names demo.Stream 0) stream_protocol stream_tree
+stream_front : protocol.IsCanonicalProtocolTree (demo_names demo.Stream 0) stream_protocol stream_tree
 unfolding stream_tree
 stream_front = record {
-  roles = refl;
+  opening = refl;
   body = (
     omega arith,
-    x-node 0 (omega arith),
+    x_node 0 (omega arith),
     back_is (places_of_protocol stream_protocol) 0 refl,
     (
       arm 0 sort.Unit 1,
@@ -253,17 +258,17 @@ stream_front = record {
           arm 2 sort.Unit 2,
           [],
           talk (demo_names demo.Stream 0) stream_protocol 1 0 1 (codes "S") (codes "T") (arm 1 sort.Octets 0 ∷ arm 2 sort.Unit 2 ∷ []) refl refl refl,
-          ((refl, refl), (omega arith, x-node 0 (omega arith)), ((refl, refl), refl)),
+          ((refl, refl), (omega arith, x_node 0 (omega arith)), ((refl, refl), refl)),
         ),
       ),
     ),
   );
 }
 
-stream_back : machine'.IsCanonical (demo_names demo.Stream 0) stream_source stream_source_tree
+stream_back : machine'.IsCanonicalMachineTree (demo_names demo.Stream 0) stream_source stream_source_tree
 unfolding stream_source_tree
 stream_back = record {
-  role = refl;
+  opening = refl;
   body = (
     omega arith,
     free (places_of_machine stream_source) 0 refl,
@@ -273,7 +278,7 @@ stream_back = record {
       (refl, refl),
       (
         omega arith,
-        x-node 1 (omega arith),
+        x_node 1 (omega arith),
         back_is (places_of_machine stream_source) 1 refl,
         (
           arm 0 sort.Unit 2,
@@ -289,7 +294,7 @@ stream_back = record {
               act (demo_names demo.Stream 0) stream_source 2 1 (codes "T") mark.Puts (arm 1 sort.Octets 1 ∷ arm 2 sort.Unit 3 ∷ []) refl refl,
               (
                 (refl, refl),
-                (omega arith, x-node 1 (omega arith)),
+                (omega arith, x_node 1 (omega arith)),
                 (
                   (refl, refl),
                   (
@@ -312,7 +317,7 @@ unfolding stream_tree stream_source_tree
 stream_is n text e = record {
   front = protocol_texts.protocol_text stream_tree;
   back = machine_texts.machine_text stream_source_tree;
-  protocol = record { tree = stream_tree; canonical = stream_front; is = refl };
-  machines = (machine_texts.machine_text stream_source_tree, [], record { tree = stream_source_tree; canonical = stream_back; is = refl }, refl, refl);
-  is = e ∙ without (demo_names demo.Stream n) (demo_names demo.Stream n).roles (protocol_texts.protocol_text stream_tree) (machine_texts.machine_text stream_source_tree);
+  protocol = record { tree = stream_tree; canonical = stream_front; whole = refl };
+  machines = (machine_texts.machine_text stream_source_tree, [], record { tree = stream_source_tree; canonical = stream_back; whole = refl }, refl, refl);
+  whole = e ∙ without (demo_names demo.Stream n) (demo_names demo.Stream n).roles (protocol_texts.protocol_text stream_tree) (machine_texts.machine_text stream_source_tree);
 }

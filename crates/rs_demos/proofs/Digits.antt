@@ -9,14 +9,14 @@ use Rattle.std.proofs.lemmas.List.{take_more, length-take}
 use Rattle.std.proofs.lemmas.Str.{digit_value_digit}
 use Rattle.std.proofs.lemmas.Str.Parse.{digit_from_value}
 
-digits-push : (xs : List ℕ) (c : ℕ) → AllDigits 10 xs → digit_value c < 10 → AllDigits 10 (xs ++ c ∷ [])
-digits-push [] c h d = (d, tt)
-digits-push (x ∷ xs) c h d = (h.0, digits-push xs c h.1 d)
+digits_push : (xs : List ℕ) (c : ℕ) → AllDigits 10 xs → digit_value c < 10 → AllDigits 10 (xs ++ c ∷ [])
+digits_push [] c h d = (d, tt)
+digits_push (x ∷ xs) c h d = (h.0, digits_push xs c h.1 d)
 
-pub digit-at : (ds : List ℕ) (i : ℕ) → AllDigits 10 ds → i < length ds → IsInRange 48 57 (get_or ds i 0)
-digit-at [] i h lt = absurd (omega arith)
-digit-at (d ∷ ds) zero h lt = digit_from_value d h.0
-digit-at (d ∷ ds) (suc i) h lt = digit-at ds i h.1 (omega arith)
+pub digit_at : (ds : List ℕ) (i : ℕ) → AllDigits 10 ds → i < length ds → IsInRange 48 57 (get_or ds i 0)
+digit_at [] i h lt = absurd (omega arith)
+digit_at (d ∷ ds) zero h lt = digit_from_value d h.0
+digit_at (d ∷ ds) (suc i) h lt = digit_at ds i h.1 (omega arith)
 
 -- a numeral of twenty digits is below 10 ^ 20
 pub below : (ds : List ℕ) → AllDigits 10 ds → length ds ≤ 20 → digits_value 10 ds < 10 ^ 20
@@ -39,7 +39,7 @@ longer ds i n there few all value range =
     let d = digit_value_digit (get_or ds i 0) range in
     let more = take_more ds i 0 there in
     let digits : AllDigits 10 (take (i + 1) ds) =
-    subst (AllDigits 10) (sym more) (digits-push (take i ds) (get_or ds i 0) all (omega (arith, range))) in
+    subst (AllDigits 10) (sym more) (digits_push (take i ds) (get_or ds i 0) all (omega (arith, range))) in
     let pushed : digits_value 10 (take (i + 1) ds) ≡ digits_value 10 (take i ds) * 10 + digit_value (get_or ds i 0) =
     ap (λ (z : List ℕ). digits_value 10 z) more ∙ digits_value_push 10 (take i ds) (get_or ds i 0) in
     let same : n * 10 + (get_or ds i 0 - 48) ≡ digits_value 10 (take (i + 1) ds) = omega (arith, pushed, value, d) in

@@ -1,5 +1,6 @@
 -- No role of a demo makes many acts.
-use Rattle.std.proofs.Common.{◌≡◌, ◌≢◌, inl, inr, ℕ, zero, suc, ◌+◌, ◌*◌, ◌-◌, ◌<◌, ◌≤◌, Bool, true, false, nat_lt, nat_le, if◌then◌else◌, List, [], ◌∷◌, ◌++◌, map, length, Option, Some, None, slice_get, refl, sym, ap, ◌∙◌, subst, arith, length-append, length-drop}
+use Rattle.std.proofs.Common.{◌≡◌, ◌≢◌, inl, inr, ℕ, zero, suc, ◌+◌, ◌*◌, ◌-◌, ◌<◌, ◌≤◌, Bool, true, false, nat_lt, nat_le, if◌then◌else◌, List, [], ◌∷◌, ◌++◌, map, length, Option, Some, None}
+use Rattle.std.proofs.Common.{slice_get, refl, sym, ap, ◌∙◌, subst, arith, length-append, length-drop}
 use Rattle.std.specs.List.{flat_map, range_with_len}
 use Rattle.std.proofs.lemmas.Bool.{and_parts, leb-true}
 use Rattle.std.proofs.lemmas.Bool.Decides.{eqb_tells}
@@ -21,19 +22,20 @@ use Rattle.rs_core.specs.declared.messages.Message.{Message}
 use Rattle.rs_core.specs.Histories.{Action, Sent, Got, History}
 use Rattle.rs_core.specs.Plain.{Moment, Ending, Ended, Stopped, Stuck, PlainFrom, AllDone, Stops, NoneMoves, GoesOn, IsPlain}
 use Rattle.rs_core.specs.Runs.{IsGiven}
-use Rattle.rs_core.proofs.Ends.{sound-round}
-use Rattle.rs_core.proofs.Fifo.{sents, gots, fifo-start, fifo-story}
-use Rattle.rs_core.proofs.Rounds.{Sound, sound-start}
-use Rattle.rs_core.proofs.Stories.{no-histories}
+use Rattle.rs_core.proofs.Ends.{sound_round}
+use Rattle.rs_core.proofs.Fifo.{sents, gots, fifo_start, fifo_story}
+use Rattle.rs_core.proofs.Rounds.{Sound, sound_start}
+use Rattle.rs_core.proofs.Stories.{no_histories}
 use Rattle.rs_demos.specs.Acting.{by_demo, behind_piece}
-use Rattle.rs_demos.specs.Sessions.{Exchange, role, arm, machine, states_from, numbers_from, partner, demo_machines, ring_pairs, next_in_ring, previous_in_ring, butterfly_pair, butterfly_pairs, steps, double_kernel, double_source, double_sink, stream_source, stream_sink}
+use Rattle.rs_demos.specs.Sessions.{Exchange, role, arm, machine, states_from, numbers_from, partner, demo_machines, ring_pairs, next_in_ring, previous_in_ring, butterfly_pair, butterfly_pairs}
+use Rattle.rs_demos.specs.Sessions.{steps, double_kernel, double_source, double_sink, stream_source, stream_sink}
 use Rattle.rs_demos.specs.Starts.{StartsWithActors, ring_member}
 use Rattle.rs_demos.specs.declared.actors.DemoActor.{DemoActor}
 use Rattle.rs_demos.specs.declared.actors.DemoActor.TheVariants as actor
-use Rattle.rs_demos.proofs.Feeding.{Plays, moved, zero-of, not-one, double_arms, kernel_arms, sink_arms, stream_arms, sink_machine, kernel_with}
-use Rattle.rs_demos.proofs.Playing.{sent-at, got-at, no-got, no-sent, nowhere, over, only-arm, First, Second, one-of, sents-cons, gots-cons, gots-skip}
+use Rattle.rs_demos.proofs.Feeding.{Plays, moved, zero_of, not_one, double_arms, kernel_arms, sink_arms, stream_arms, sink_machine, kernel_with}
+use Rattle.rs_demos.proofs.Playing.{sent_at, got_at, no_got, no_sent, nowhere, over, only_arm, First, Second, one_of, sents_cons, gots_cons, gots_skip}
 use Rattle.rs_demos.proofs.Ran.{there}
-use Rattle.rs_demos.proofs.Straight.{states-next}
+use Rattle.rs_demos.proofs.Straight.{states_next}
 
 -- the moment at which a role is stopped
 
@@ -47,18 +49,18 @@ StopsWell ms given limit (Ended k) = Unit {0}
 StopsWell ms given limit (Stopped p k) = Sound by_demo ms given limit k × (p < length ms) × (limit ≤ length (k.history p))
 StopsWell ms given limit (Stuck k) = Unit {0}
 
-stops-well : (ms : List Machine_data) (given : ℕ → DemoActor) (limit : ℕ) (room : Option ℕ) (l : Moment DemoActor) (o : Ending DemoActor)
+stops_well : (ms : List Machine_data) (given : ℕ → DemoActor) (limit : ℕ) (room : Option ℕ) (l : Moment DemoActor) (o : Ending DemoActor)
     → Sound by_demo ms given limit l → PlainFrom ms by_demo limit room l o → StopsWell ms given limit o
-stops-well ms given limit room _ _ s (AllDone l all) = tt
-stops-well ms given limit room _ _ s (Stops p l k moved there ts at) = (sound-round by_demo ms given limit room p l k moved s ts, there, at.acts)
-stops-well ms given limit room _ _ s (NoneMoves p l k there goes ts) = tt
-stops-well ms given limit room _ _ s (GoesOn l m o ts rest) =
-    stops-well ms given limit room m o (sound-round by_demo ms given limit room (length ms) l m true s ts) rest
+stops_well ms given limit room _ _ s (AllDone l all) = tt
+stops_well ms given limit room _ _ s (Stops p l k moved there ts at) = (sound_round by_demo ms given limit room p l k moved s ts, there, at.acts)
+stops_well ms given limit room _ _ s (NoneMoves p l k there goes ts) = tt
+stops_well ms given limit room _ _ s (GoesOn l m o ts rest) =
+    stops_well ms given limit room m o (sound_round by_demo ms given limit room (length ms) l m true s ts) rest
 
 went : (ms : List Machine_data) (given : ℕ → DemoActor) (limit : ℕ) (end : Moment DemoActor) → Sound by_demo ms given limit end → Went ms given end
 went ms given limit end s = record {
   plays = λ p m e. (let g = s.going p m e in (g.before, g.plays));
-  fifo = fifo-story ms s.told.first end.at s.told.events no-histories end.history s.told.story (fifo-start ms s.told.first s.told.starts);
+  fifo = fifo_story ms s.told.first end.at s.told.events no_histories end.history s.told.story (fifo_start ms s.told.first s.told.starts);
 }
 
 -- the play of role p, from the actor with which it starts
@@ -71,35 +73,35 @@ played ms given end p m x w e s =
 -- messages
 
 -- no more is sent to a role than there are acts
-few-sents : (q : ℕ) (h : History) → length (sents q h) ≤ length h
-few-sents q [] = omega arith
-few-sents q (Got r l v ∷ h) = let on = few-sents q h in omega (arith, on)
-few-sents q (Sent r l v ∷ h) =
-    let on = few-sents q h in
+few_sents : (q : ℕ) (h : History) → length (sents q h) ≤ length h
+few_sents q [] = omega arith
+few_sents q (Got r l v ∷ h) = let on = few_sents q h in omega (arith, on)
+few_sents q (Sent r l v ∷ h) =
+    let on = few_sents q h in
     elim (eqb_tells r.0 q) [
       | inl t ↦ rw t.0 (omega (arith, on))
       | inr t ↦ rw t.0 (omega (arith, on))
     ]
 
 -- no more is taken than was sent
-few-gots : (xs ys zs : List Message) → xs ++ ys ≡ zs → length xs ≤ length zs
-few-gots xs ys zs e =
+few_gots : (xs ys zs : List Message) → xs ++ ys ≡ zs → length xs ≤ length zs
+few_gots xs ys zs e =
     let f : length xs + length ys ≡ length zs = sym (length-append xs ys) ∙ ap length e in
     omega (arith, f)
 
 -- steps of a play
 
-sent-next : (m : Machine_data) (s : ℕ) (x : DemoActor) (a : Arm) (q r : Role) (l : Label) (v : Value) (t : ℕ) (y : DemoActor)
+sent_next : (m : Machine_data) (s : ℕ) (x : DemoActor) (a : Arm) (q r : Role) (l : Label) (v : Value) (t : ℕ) (y : DemoActor)
     → slice_get m.states s ≡ Some (Puts q (a ∷ [])) → PlaysSent by_demo m s x r l v t y → a.next ≡ t
-sent-next m s x a q r l v t y st p =
-    let g = sent-at m s x (a ∷ []) q r l v t y st p in
-    ap (λ (z : Arm). z.next) (only-arm a g.arm (by_demo.chooses x (a ∷ [])).0 g.picks) ∙ g.goes
+sent_next m s x a q r l v t y st p =
+    let g = sent_at m s x (a ∷ []) q r l v t y st p in
+    ap (λ (z : Arm). z.next) (only_arm a g.arm (by_demo.chooses x (a ∷ [])).0 g.picks) ∙ g.goes
 
-got-next : (m : Machine_data) (s : ℕ) (x : DemoActor) (a : Arm) (q r : Role) (l : Label) (v : Value) (t : ℕ) (y : DemoActor)
+got_next : (m : Machine_data) (s : ℕ) (x : DemoActor) (a : Arm) (q r : Role) (l : Label) (v : Value) (t : ℕ) (y : DemoActor)
     → slice_get m.states s ≡ Some (Takes q (a ∷ [])) → PlaysGot by_demo m s x r l v t y → a.next ≡ t
-got-next m s x a q r l v t y st p =
-    let g = got-at m s x (a ∷ []) q r l v t y st p in
-    ap (λ (z : Arm). z.next) (only-arm a g.arm g.place g.follows) ∙ g.goes
+got_next m s x a q r l v t y st p =
+    let g = got_at m s x (a ∷ []) q r l v t y st p in
+    ap (λ (z : Arm). z.next) (only_arm a g.arm g.place g.follows) ∙ g.goes
 
 at : (m : Machine_data) (s s' : ℕ) (x : DemoActor) (h : History) (t : ℕ) (y : DemoActor) → s ≡ s' → Plays m s' x h t y → Plays m s x h t y
 at m s s' x h t y e p = moved m s s' x x h t y e refl p
@@ -126,39 +128,39 @@ IsBrief s n h = (length h ≤ source_acts s n) × (length (sents 0 h) ≤ source
 
 source : (h : History) (s n : ℕ) (bytes : List ℕ) (t : ℕ) (y : DemoActor) → Plays double_source s (actor.Source bytes) h t y → length bytes ≤ 4096 * n → IsBrief s n h
 source [] s n bytes t y p few = (omega arith, omega arith)
-source (Sent r l v ∷ h) zero n bytes t y p few = absurd (no-sent double_source 0 (actor.Source bytes) (arm 0 sort.Unit 1 ∷ []) (role 0) r l v p.0 p.1 refl p.2)
+source (Sent r l v ∷ h) zero n bytes t y p few = absurd (no_sent double_source 0 (actor.Source bytes) (arm 0 sort.Unit 1 ∷ []) (role 0) r l v p.0 p.1 refl p.2)
 source (Got r l v ∷ h) zero n bytes t y p few =
-    let g = got-at double_source 0 (actor.Source bytes) (arm 0 sort.Unit 1 ∷ []) (role 0) r l v p.0 p.1 refl p.2 in
-    let a = only-arm (arm 0 sort.Unit 1) g.arm g.place g.follows in
+    let g = got_at double_source 0 (actor.Source bytes) (arm 0 sort.Unit 1 ∷ []) (role 0) r l v p.0 p.1 refl p.2 in
+    let a = only_arm (arm 0 sort.Unit 1) g.arm g.place g.follows in
     let e : 1 ≡ p.0 = ap (λ (z : Arm). z.next) a ∙ g.goes in
     let on = source h (suc zero) n bytes t y (moved double_source 1 p.0 (actor.Source bytes) p.1 h t y e g.becomes p.3) few in
     let one = on.0 in
     let two = on.1 in
     (omega (arith, one), omega (arith, two))
-source (Got r l v ∷ h) (suc zero) n bytes t y p few = absurd (no-got double_source 1 (actor.Source bytes) double_arms (role 0) r l v p.0 p.1 refl p.2)
+source (Got r l v ∷ h) (suc zero) n bytes t y p few = absurd (no_got double_source 1 (actor.Source bytes) double_arms (role 0) r l v p.0 p.1 refl p.2)
 source (Sent r l v ∷ h) (suc zero) n [] t y p few =
-    let s = sent-at double_source 1 (actor.Source []) double_arms (role 0) r l v p.0 p.1 refl p.2 in
+    let s = sent_at double_source 1 (actor.Source []) double_arms (role 0) r l v p.0 p.1 refl p.2 in
     let a : arm 2 sort.Unit 2 ≡ s.arm = cc (s.picks) in
     let e : 2 ≡ p.0 = ap (λ (z : Arm). z.next) a ∙ s.goes in
     let on = source h (suc (suc zero)) n [] t y (moved double_source 2 p.0 (actor.Source []) p.1 h t y e s.becomes p.3) few in
-    let made : length (sents 0 (Sent r l v ∷ h)) ≡ suc (length (sents 0 h)) = ap length (sents-cons 0 r l v h (zero-of (role 0) r s.peer)) in
+    let made : length (sents 0 (Sent r l v ∷ h)) ≡ suc (length (sents 0 h)) = ap length (sents_cons 0 r l v h (zero_of (role 0) r s.peer)) in
     let one = on.0 in
     let two = on.1 in
     (omega (arith, one), omega (arith, two, made))
 source (Sent r l v ∷ h) (suc zero) zero (b ∷ bs) t y p few = absurd (omega (arith, few))
 source (Sent r l v ∷ h) (suc zero) (suc n) (b ∷ bs) t y p few =
-    let s = sent-at double_source 1 (actor.Source (b ∷ bs)) double_arms (role 0) r l v p.0 p.1 refl p.2 in
+    let s = sent_at double_source 1 (actor.Source (b ∷ bs)) double_arms (role 0) r l v p.0 p.1 refl p.2 in
     let a : arm 1 sort.Octets 0 ≡ s.arm = cc (s.picks) in
     let e : 0 ≡ p.0 = ap (λ (z : Arm). z.next) a ∙ s.goes in
     let on = source h zero n (behind_piece (b ∷ bs)) t y (moved double_source 0 p.0 (actor.Source (behind_piece (b ∷ bs))) p.1 h t y e s.becomes p.3) (fewer n (b ∷ bs) few) in
-    let made : length (sents 0 (Sent r l v ∷ h)) ≡ suc (length (sents 0 h)) = ap length (sents-cons 0 r l v h (zero-of (role 0) r s.peer)) in
+    let made : length (sents 0 (Sent r l v ∷ h)) ≡ suc (length (sents 0 h)) = ap length (sents_cons 0 r l v h (zero_of (role 0) r s.peer)) in
     let one = on.0 in
     let two = on.1 in
     (omega (arith, one), omega (arith, two, made))
-source (Sent r l v ∷ h) (suc (suc zero)) n bytes t y p few = absurd (no-sent double_source 2 (actor.Source bytes) (arm 0 sort.Unit 3 ∷ []) (role 0) r l v p.0 p.1 refl p.2)
+source (Sent r l v ∷ h) (suc (suc zero)) n bytes t y p few = absurd (no_sent double_source 2 (actor.Source bytes) (arm 0 sort.Unit 3 ∷ []) (role 0) r l v p.0 p.1 refl p.2)
 source (Got r l v ∷ h) (suc (suc zero)) n bytes t y p few =
-    let g = got-at double_source 2 (actor.Source bytes) (arm 0 sort.Unit 3 ∷ []) (role 0) r l v p.0 p.1 refl p.2 in
-    let a = only-arm (arm 0 sort.Unit 3) g.arm g.place g.follows in
+    let g = got_at double_source 2 (actor.Source bytes) (arm 0 sort.Unit 3 ∷ []) (role 0) r l v p.0 p.1 refl p.2 in
+    let a = only_arm (arm 0 sort.Unit 3) g.arm g.place g.follows in
     let e : 3 ≡ p.0 = ap (λ (z : Arm). z.next) a ∙ g.goes in
     let on = source h (suc (suc (suc zero))) n bytes t y (moved double_source 3 p.0 (actor.Source bytes) p.1 h t y e g.becomes p.3) few in
     let one = on.0 in
@@ -180,28 +182,28 @@ kernel_more (suc (suc (suc (suc (suc (suc s)))))) = 0
 
 kernel : (h : History) (s : ℕ) (x : DemoActor) (t : ℕ) (y : DemoActor) → Plays double_kernel s x h t y → length h ≤ kernel_more s + 4 * length (gots 1 h)
 kernel [] s x t y p = omega arith
-kernel (Got r l v ∷ h) zero x t y p = absurd (no-got double_kernel 0 x (arm 0 sort.Unit 1 ∷ []) (role 1) r l v p.0 p.1 refl p.2)
+kernel (Got r l v ∷ h) zero x t y p = absurd (no_got double_kernel 0 x (arm 0 sort.Unit 1 ∷ []) (role 1) r l v p.0 p.1 refl p.2)
 kernel (Sent r l v ∷ h) zero x t y p =
-    let e = sent-next double_kernel 0 x (arm 0 sort.Unit 1) (role 1) r l v p.0 p.1 refl p.2 in
+    let e = sent_next double_kernel 0 x (arm 0 sort.Unit 1) (role 1) r l v p.0 p.1 refl p.2 in
     let on = kernel h (suc zero) p.1 t y (at double_kernel 1 p.0 p.1 h t y e p.3) in
     omega (arith, on)
-kernel (Got r l v ∷ h) (suc zero) x t y p = absurd (no-got double_kernel 1 x (arm 0 sort.Unit 2 ∷ []) (role 1) r l v p.0 p.1 refl p.2)
+kernel (Got r l v ∷ h) (suc zero) x t y p = absurd (no_got double_kernel 1 x (arm 0 sort.Unit 2 ∷ []) (role 1) r l v p.0 p.1 refl p.2)
 kernel (Sent r l v ∷ h) (suc zero) x t y p =
-    let e = sent-next double_kernel 1 x (arm 0 sort.Unit 2) (role 1) r l v p.0 p.1 refl p.2 in
+    let e = sent_next double_kernel 1 x (arm 0 sort.Unit 2) (role 1) r l v p.0 p.1 refl p.2 in
     let on = kernel h (suc (suc zero)) p.1 t y (at double_kernel 2 p.0 p.1 h t y e p.3) in
     omega (arith, on)
-kernel (Sent r l v ∷ h) (suc (suc zero)) x t y p = absurd (no-sent double_kernel 2 x (arm 0 sort.Unit 3 ∷ []) (role 2) r l v p.0 p.1 refl p.2)
+kernel (Sent r l v ∷ h) (suc (suc zero)) x t y p = absurd (no_sent double_kernel 2 x (arm 0 sort.Unit 3 ∷ []) (role 2) r l v p.0 p.1 refl p.2)
 kernel (Got r l v ∷ h) (suc (suc zero)) x t y p =
-    let s = got-at double_kernel 2 x (arm 0 sort.Unit 3 ∷ []) (role 2) r l v p.0 p.1 refl p.2 in
-    let e = got-next double_kernel 2 x (arm 0 sort.Unit 3) (role 2) r l v p.0 p.1 refl p.2 in
-    let skip : length (gots 1 (Got r l v ∷ h)) ≡ length (gots 1 h) = ap length (gots-skip 1 r l v h (not-one r s.peer)) in
+    let s = got_at double_kernel 2 x (arm 0 sort.Unit 3 ∷ []) (role 2) r l v p.0 p.1 refl p.2 in
+    let e = got_next double_kernel 2 x (arm 0 sort.Unit 3) (role 2) r l v p.0 p.1 refl p.2 in
+    let skip : length (gots 1 (Got r l v ∷ h)) ≡ length (gots 1 h) = ap length (gots_skip 1 r l v h (not_one r s.peer)) in
     let on = kernel h (suc (suc (suc zero))) p.1 t y (at double_kernel 3 p.0 p.1 h t y e p.3) in
     omega (arith, on, skip)
-kernel (Sent r l v ∷ h) (suc (suc (suc zero))) x t y p = absurd (no-sent double_kernel 3 x kernel_arms (role 1) r l v p.0 p.1 refl p.2)
+kernel (Sent r l v ∷ h) (suc (suc (suc zero))) x t y p = absurd (no_sent double_kernel 3 x kernel_arms (role 1) r l v p.0 p.1 refl p.2)
 kernel (Got r l v ∷ h) (suc (suc (suc zero))) x t y p =
-    let s = got-at double_kernel 3 x kernel_arms (role 1) r l v p.0 p.1 refl p.2 in
-    let came : length (gots 1 (Got r l v ∷ h)) ≡ suc (length (gots 1 h)) = ap length (gots-cons 1 r l v h (zero-of (role 1) r s.peer)) in
-    elim (one-of (arm 1 sort.Octets 4) (arm 2 sort.Unit 5) s.arm s.place s.follows) [
+    let s = got_at double_kernel 3 x kernel_arms (role 1) r l v p.0 p.1 refl p.2 in
+    let came : length (gots 1 (Got r l v ∷ h)) ≡ suc (length (gots 1 h)) = ap length (gots_cons 1 r l v h (zero_of (role 1) r s.peer)) in
+    elim (one_of (arm 1 sort.Octets 4) (arm 2 sort.Unit 5) s.arm s.place s.follows) [
       | First a ↦ (let e : 4 ≡ p.0 = ap (λ (z : Arm). z.next) a ∙ s.goes in
           let on = kernel h (suc (suc (suc (suc zero)))) p.1 t y (at double_kernel 4 p.0 p.1 h t y e p.3) in
           omega (arith, on, came))
@@ -209,14 +211,14 @@ kernel (Got r l v ∷ h) (suc (suc (suc zero))) x t y p =
           let on = kernel h (suc (suc (suc (suc (suc zero))))) p.1 t y (at double_kernel 5 p.0 p.1 h t y e p.3) in
           omega (arith, on, came))
     ]
-kernel (Got r l v ∷ h) (suc (suc (suc (suc zero)))) x t y p = absurd (no-got double_kernel 4 x (arm 1 sort.Octets 1 ∷ []) (role 2) r l v p.0 p.1 refl p.2)
+kernel (Got r l v ∷ h) (suc (suc (suc (suc zero)))) x t y p = absurd (no_got double_kernel 4 x (arm 1 sort.Octets 1 ∷ []) (role 2) r l v p.0 p.1 refl p.2)
 kernel (Sent r l v ∷ h) (suc (suc (suc (suc zero)))) x t y p =
-    let e = sent-next double_kernel 4 x (arm 1 sort.Octets 1) (role 2) r l v p.0 p.1 refl p.2 in
+    let e = sent_next double_kernel 4 x (arm 1 sort.Octets 1) (role 2) r l v p.0 p.1 refl p.2 in
     let on = kernel h (suc zero) p.1 t y (at double_kernel 1 p.0 p.1 h t y e p.3) in
     omega (arith, on)
-kernel (Got r l v ∷ h) (suc (suc (suc (suc (suc zero))))) x t y p = absurd (no-got double_kernel 5 x (arm 2 sort.Unit 6 ∷ []) (role 2) r l v p.0 p.1 refl p.2)
+kernel (Got r l v ∷ h) (suc (suc (suc (suc (suc zero))))) x t y p = absurd (no_got double_kernel 5 x (arm 2 sort.Unit 6 ∷ []) (role 2) r l v p.0 p.1 refl p.2)
 kernel (Sent r l v ∷ h) (suc (suc (suc (suc (suc zero))))) x t y p =
-    let e = sent-next double_kernel 5 x (arm 2 sort.Unit 6) (role 2) r l v p.0 p.1 refl p.2 in
+    let e = sent_next double_kernel 5 x (arm 2 sort.Unit 6) (role 2) r l v p.0 p.1 refl p.2 in
     let on = kernel h (suc (suc (suc (suc (suc (suc zero)))))) p.1 t y (at double_kernel 6 p.0 p.1 h t y e p.3) in
     omega (arith, on)
 kernel (a ∷ h) (suc (suc (suc (suc (suc (suc zero)))))) x t y p = absurd (over double_kernel 6 x a p.0 p.1 refl p.2)
@@ -230,16 +232,16 @@ sink_more (suc s) = 0
 
 sink : (h : History) (p s : ℕ) (x : DemoActor) (t : ℕ) (y : DemoActor) → Plays (sink_machine p) s x h t y → length h ≤ sink_more s + 2 * length (gots 0 h)
 sink [] p s x t y pl = omega arith
-sink (Got r l v ∷ h) p zero x t y pl = absurd (no-got (sink_machine p) 0 x (arm 0 sort.Unit 1 ∷ []) (role 0) r l v pl.0 pl.1 refl pl.2)
+sink (Got r l v ∷ h) p zero x t y pl = absurd (no_got (sink_machine p) 0 x (arm 0 sort.Unit 1 ∷ []) (role 0) r l v pl.0 pl.1 refl pl.2)
 sink (Sent r l v ∷ h) p zero x t y pl =
-    let e = sent-next (sink_machine p) 0 x (arm 0 sort.Unit 1) (role 0) r l v pl.0 pl.1 refl pl.2 in
+    let e = sent_next (sink_machine p) 0 x (arm 0 sort.Unit 1) (role 0) r l v pl.0 pl.1 refl pl.2 in
     let on = sink h p (suc zero) pl.1 t y (at (sink_machine p) 1 pl.0 pl.1 h t y e pl.3) in
     omega (arith, on)
-sink (Sent r l v ∷ h) p (suc zero) x t y pl = absurd (no-sent (sink_machine p) 1 x sink_arms (role 0) r l v pl.0 pl.1 refl pl.2)
+sink (Sent r l v ∷ h) p (suc zero) x t y pl = absurd (no_sent (sink_machine p) 1 x sink_arms (role 0) r l v pl.0 pl.1 refl pl.2)
 sink (Got r l v ∷ h) p (suc zero) x t y pl =
-    let s = got-at (sink_machine p) 1 x sink_arms (role 0) r l v pl.0 pl.1 refl pl.2 in
-    let came : length (gots 0 (Got r l v ∷ h)) ≡ suc (length (gots 0 h)) = ap length (gots-cons 0 r l v h (zero-of (role 0) r s.peer)) in
-    elim (one-of (arm 1 sort.Octets 0) (arm 2 sort.Unit 2) s.arm s.place s.follows) [
+    let s = got_at (sink_machine p) 1 x sink_arms (role 0) r l v pl.0 pl.1 refl pl.2 in
+    let came : length (gots 0 (Got r l v ∷ h)) ≡ suc (length (gots 0 h)) = ap length (gots_cons 0 r l v h (zero_of (role 0) r s.peer)) in
+    elim (one_of (arm 1 sort.Octets 0) (arm 2 sort.Unit 2) s.arm s.place s.follows) [
       | First a ↦ (let e : 0 ≡ pl.0 = ap (λ (z : Arm). z.next) a ∙ s.goes in
           let on = sink h p zero pl.1 t y (at (sink_machine p) 0 pl.0 pl.1 h t y e pl.3) in
           omega (arith, on, came))
@@ -261,45 +263,45 @@ stream_acts (suc (suc (suc (suc s)))) n = 0
 
 stream : (h : History) (s n : ℕ) (bytes : List ℕ) (t : ℕ) (y : DemoActor) → Plays stream_source s (actor.Source bytes) h t y → length bytes ≤ 4096 * n → length h ≤ stream_acts s n
 stream [] s n bytes t y p few = omega arith
-stream (Got r l v ∷ h) zero n bytes t y p few = absurd (no-got stream_source 0 (actor.Source bytes) (arm 1 sort.Octets 1 ∷ []) (role 1) r l v p.0 p.1 refl p.2)
+stream (Got r l v ∷ h) zero n bytes t y p few = absurd (no_got stream_source 0 (actor.Source bytes) (arm 1 sort.Octets 1 ∷ []) (role 1) r l v p.0 p.1 refl p.2)
 stream (Sent r l v ∷ h) zero n [] t y p few =
-    let s = sent-at stream_source 0 (actor.Source []) (arm 1 sort.Octets 1 ∷ []) (role 1) r l v p.0 p.1 refl p.2 in
+    let s = sent_at stream_source 0 (actor.Source []) (arm 1 sort.Octets 1 ∷ []) (role 1) r l v p.0 p.1 refl p.2 in
     let a : arm 1 sort.Octets 1 ≡ s.arm = cc (s.picks) in
     let e : 1 ≡ p.0 = ap (λ (z : Arm). z.next) a ∙ s.goes in
     let on = stream h (suc zero) n [] t y (moved stream_source 1 p.0 (actor.Source []) p.1 h t y e s.becomes p.3) few in
     omega (arith, on)
 stream (Sent r l v ∷ h) zero zero (b ∷ bs) t y p few = absurd (omega (arith, few))
 stream (Sent r l v ∷ h) zero (suc n) (b ∷ bs) t y p few =
-    let s = sent-at stream_source 0 (actor.Source (b ∷ bs)) (arm 1 sort.Octets 1 ∷ []) (role 1) r l v p.0 p.1 refl p.2 in
+    let s = sent_at stream_source 0 (actor.Source (b ∷ bs)) (arm 1 sort.Octets 1 ∷ []) (role 1) r l v p.0 p.1 refl p.2 in
     let a : arm 1 sort.Octets 1 ≡ s.arm = cc (s.picks) in
     let e : 1 ≡ p.0 = ap (λ (z : Arm). z.next) a ∙ s.goes in
     let on = stream h (suc zero) n (behind_piece (b ∷ bs)) t y (moved stream_source 1 p.0 (actor.Source (behind_piece (b ∷ bs))) p.1 h t y e s.becomes p.3) (fewer n (b ∷ bs) few) in
     omega (arith, on)
-stream (Sent r l v ∷ h) (suc zero) n bytes t y p few = absurd (no-sent stream_source 1 (actor.Source bytes) (arm 0 sort.Unit 2 ∷ []) (role 1) r l v p.0 p.1 refl p.2)
+stream (Sent r l v ∷ h) (suc zero) n bytes t y p few = absurd (no_sent stream_source 1 (actor.Source bytes) (arm 0 sort.Unit 2 ∷ []) (role 1) r l v p.0 p.1 refl p.2)
 stream (Got r l v ∷ h) (suc zero) n bytes t y p few =
-    let g = got-at stream_source 1 (actor.Source bytes) (arm 0 sort.Unit 2 ∷ []) (role 1) r l v p.0 p.1 refl p.2 in
-    let a = only-arm (arm 0 sort.Unit 2) g.arm g.place g.follows in
+    let g = got_at stream_source 1 (actor.Source bytes) (arm 0 sort.Unit 2 ∷ []) (role 1) r l v p.0 p.1 refl p.2 in
+    let a = only_arm (arm 0 sort.Unit 2) g.arm g.place g.follows in
     let e : 2 ≡ p.0 = ap (λ (z : Arm). z.next) a ∙ g.goes in
     let on = stream h (suc (suc zero)) n bytes t y (moved stream_source 2 p.0 (actor.Source bytes) p.1 h t y e g.becomes p.3) few in
     omega (arith, on)
-stream (Got r l v ∷ h) (suc (suc zero)) n bytes t y p few = absurd (no-got stream_source 2 (actor.Source bytes) stream_arms (role 1) r l v p.0 p.1 refl p.2)
+stream (Got r l v ∷ h) (suc (suc zero)) n bytes t y p few = absurd (no_got stream_source 2 (actor.Source bytes) stream_arms (role 1) r l v p.0 p.1 refl p.2)
 stream (Sent r l v ∷ h) (suc (suc zero)) n [] t y p few =
-    let s = sent-at stream_source 2 (actor.Source []) stream_arms (role 1) r l v p.0 p.1 refl p.2 in
+    let s = sent_at stream_source 2 (actor.Source []) stream_arms (role 1) r l v p.0 p.1 refl p.2 in
     let a : arm 2 sort.Unit 3 ≡ s.arm = cc (s.picks) in
     let e : 3 ≡ p.0 = ap (λ (z : Arm). z.next) a ∙ s.goes in
     let on = stream h (suc (suc (suc zero))) n [] t y (moved stream_source 3 p.0 (actor.Source []) p.1 h t y e s.becomes p.3) few in
     omega (arith, on)
 stream (Sent r l v ∷ h) (suc (suc zero)) zero (b ∷ bs) t y p few = absurd (omega (arith, few))
 stream (Sent r l v ∷ h) (suc (suc zero)) (suc n) (b ∷ bs) t y p few =
-    let s = sent-at stream_source 2 (actor.Source (b ∷ bs)) stream_arms (role 1) r l v p.0 p.1 refl p.2 in
+    let s = sent_at stream_source 2 (actor.Source (b ∷ bs)) stream_arms (role 1) r l v p.0 p.1 refl p.2 in
     let a : arm 1 sort.Octets 1 ≡ s.arm = cc (s.picks) in
     let e : 1 ≡ p.0 = ap (λ (z : Arm). z.next) a ∙ s.goes in
     let on = stream h (suc zero) n (behind_piece (b ∷ bs)) t y (moved stream_source 1 p.0 (actor.Source (behind_piece (b ∷ bs))) p.1 h t y e s.becomes p.3) (fewer n (b ∷ bs) few) in
     omega (arith, on)
-stream (Sent r l v ∷ h) (suc (suc (suc zero))) n bytes t y p few = absurd (no-sent stream_source 3 (actor.Source bytes) (arm 0 sort.Unit 4 ∷ []) (role 1) r l v p.0 p.1 refl p.2)
+stream (Sent r l v ∷ h) (suc (suc (suc zero))) n bytes t y p few = absurd (no_sent stream_source 3 (actor.Source bytes) (arm 0 sort.Unit 4 ∷ []) (role 1) r l v p.0 p.1 refl p.2)
 stream (Got r l v ∷ h) (suc (suc (suc zero))) n bytes t y p few =
-    let g = got-at stream_source 3 (actor.Source bytes) (arm 0 sort.Unit 4 ∷ []) (role 1) r l v p.0 p.1 refl p.2 in
-    let a = only-arm (arm 0 sort.Unit 4) g.arm g.place g.follows in
+    let g = got_at stream_source 3 (actor.Source bytes) (arm 0 sort.Unit 4 ∷ []) (role 1) r l v p.0 p.1 refl p.2 in
+    let a = only_arm (arm 0 sort.Unit 4) g.arm g.place g.follows in
     let e : 4 ≡ p.0 = ap (λ (z : Arm). z.next) a ∙ g.goes in
     let on = stream h (suc (suc (suc (suc zero)))) n bytes t y (moved stream_source 4 p.0 (actor.Source bytes) p.1 h t y e g.becomes p.3) few in
     omega (arith, on)
@@ -308,22 +310,22 @@ stream (a ∷ h) (suc (suc (suc (suc (suc s))))) n bytes t y p few = absurd (now
 
 -- straight machines: an act for each state at most
 
-states-many : (xs : List Exchange) (s : ℕ) → length (states_from s xs) ≡ 1 + 2 * length xs
-states-many [] s = refl
-states-many (x ∷ xs) s = let on = states-many xs (suc (suc s)) in omega (arith, on)
+states_many : (xs : List Exchange) (s : ℕ) → length (states_from s xs) ≡ 1 + 2 * length xs
+states_many [] s = refl
+states_many (x ∷ xs) s = let on = states_many xs (suc (suc s)) in omega (arith, on)
 
-act-next : (xs : List Exchange) (q s : ℕ) (x : DemoActor) (a : Action) (t : ℕ) (y : DemoActor) → PlaysAction by_demo (machine q (states_from 0 xs)) s x a t y
+act_next : (xs : List Exchange) (q s : ℕ) (x : DemoActor) (a : Action) (t : ℕ) (y : DemoActor) → PlaysAction by_demo (machine q (states_from 0 xs)) s x a t y
     → (s < length (states_from 0 xs)) × (suc s ≡ t)
-act-next xs q s x (Sent r l v) t y p =
-    let e = states-next xs 0 s mark.Puts r p.arms p.puts in
+act_next xs q s x (Sent r l v) t y p =
+    let e = states_next xs 0 s mark.Puts r p.arms p.puts in
     let P : List Arm → Type 0 = λ z. slice_get (states_from 0 xs) s ≡ Some (Puts r z) in
-    let n : suc (0 + s) ≡ t = sent-next (machine q (states_from 0 xs)) s x (arm 0 sort.Whole (suc (0 + s))) r r l v t y (subst P e p.puts) p in
+    let n : suc (0 + s) ≡ t = sent_next (machine q (states_from 0 xs)) s x (arm 0 sort.Whole (suc (0 + s))) r r l v t y (subst P e p.puts) p in
     let plus : suc s ≡ suc (0 + s) = omega arith in
     (there (states_from 0 xs) s (Puts r p.arms) p.puts, plus ∙ n)
-act-next xs q s x (Got r l v) t y p =
-    let e = states-next xs 0 s mark.Takes r p.arms p.takes in
+act_next xs q s x (Got r l v) t y p =
+    let e = states_next xs 0 s mark.Takes r p.arms p.takes in
     let P : List Arm → Type 0 = λ z. slice_get (states_from 0 xs) s ≡ Some (Takes r z) in
-    let n : suc (0 + s) ≡ t = got-next (machine q (states_from 0 xs)) s x (arm 0 sort.Whole (suc (0 + s))) r r l v t y (subst P e p.takes) p in
+    let n : suc (0 + s) ≡ t = got_next (machine q (states_from 0 xs)) s x (arm 0 sort.Whole (suc (0 + s))) r r l v t y (subst P e p.takes) p in
     let plus : suc s ≡ suc (0 + s) = omega arith in
     (there (states_from 0 xs) s (Takes r p.arms) p.takes, plus ∙ n)
 
@@ -331,66 +333,66 @@ straight : (h : History) (xs : List Exchange) (q s : ℕ) (x : DemoActor) (t : �
     → length h ≤ length (states_from 0 xs) - s
 straight [] xs q s x t y p = omega arith
 straight (a ∷ h) xs q s x t y p =
-    let n = act-next xs q s x a p.0 p.1 p.2 in
+    let n = act_next xs q s x a p.0 p.1 p.2 in
     let low = n.0 in
     let on : length h ≤ length (states_from 0 xs) - suc s = straight h xs q (suc s) p.1 t y (at (machine q (states_from 0 xs)) (suc s) p.0 p.1 h t y n.1 p.3) in
     omega (arith, low, on)
 
-straight-acts : (h : History) (xs : List Exchange) (q : ℕ) (x : DemoActor) (t : ℕ) (y : DemoActor) → Plays (machine q (states_from 0 xs)) 0 x h t y
+straight_acts : (h : History) (xs : List Exchange) (q : ℕ) (x : DemoActor) (t : ℕ) (y : DemoActor) → Plays (machine q (states_from 0 xs)) 0 x h t y
     → length h ≤ 1 + 2 * length xs
-straight-acts h xs q x t y p =
+straight_acts h xs q x t y p =
     let one = straight h xs q 0 x t y p in
-    let many = states-many xs 0 in
+    let many = states_many xs 0 in
     omega (arith, one, many)
 
-many-from : (n a : ℕ) → length (range_with_len a n) ≡ n
-many-from zero a = refl
-many-from (suc n) a = ap (λ (z : ℕ). suc z) (many-from n (a + 1))
+many_from : (n a : ℕ) → length (range_with_len a n) ≡ n
+many_from zero a = refl
+many_from (suc n) a = ap (λ (z : ℕ). suc z) (many_from n (a + 1))
 
-ring-many : (n i : ℕ) → length (ring_pairs n i) ≡ n - 1
-ring-many n i = length-map (numbers_from 1 (n - 1)) (λ (round : ℕ). (next_in_ring n i, previous_in_ring n i)) ∙ many-from (n - 1) 1
+ring_many : (n i : ℕ) → length (ring_pairs n i) ≡ n - 1
+ring_many n i = length-map (numbers_from 1 (n - 1)) (λ (round : ℕ). (next_in_ring n i, previous_in_ring n i)) ∙ many_from (n - 1) 1
 
-butterfly-one : (n i step : ℕ) → length (butterfly_pair n i step) ≤ 1
-butterfly-one n i step = go (nat_lt step n)
+butterfly_one : (n i step : ℕ) → length (butterfly_pair n i step) ≤ 1
+butterfly_one n i step = go (nat_lt step n)
   where
     go : (b : Bool) → length {A = Exchange} (if b then (partner step i, partner step i) ∷ [] else []) ≤ 1
     go true = omega arith
     go false = omega arith
 
-butterfly-many : (ss : List ℕ) (n i : ℕ) → length (flat_map (λ (step : ℕ). butterfly_pair n i step) ss) ≤ length ss
-butterfly-many [] n i = omega arith
-butterfly-many (s ∷ ss) n i =
+butterfly_many : (ss : List ℕ) (n i : ℕ) → length (flat_map (λ (step : ℕ). butterfly_pair n i step) ss) ≤ length ss
+butterfly_many [] n i = omega arith
+butterfly_many (s ∷ ss) n i =
     let e = length-append (butterfly_pair n i s) (flat_map (λ (step : ℕ). butterfly_pair n i step) ss) in
-    let one = butterfly-one n i s in
-    let on = butterfly-many ss n i in
+    let one = butterfly_one n i s in
+    let on = butterfly_many ss n i in
     omega (arith, e, one, on)
 
 -- the machine of a role
 
-made-by : (f : ℕ → Machine_data) (ns : List ℕ) (p : ℕ) (m : Machine_data) → slice_get (map f ns) p ≡ Some m → (i : ℕ) × (f i ≡ m)
-made-by f [] p m e = absurd (cc (e))
-made-by f (n ∷ ns) zero m e = (n, cc (e))
-made-by f (n ∷ ns) (suc p) m e = made-by f ns p m e
+made_by : (f : ℕ → Machine_data) (ns : List ℕ) (p : ℕ) (m : Machine_data) → slice_get (map f ns) p ≡ Some m → (i : ℕ) × (f i ≡ m)
+made_by f [] p m e = absurd (cc (e))
+made_by f (n ∷ ns) zero m e = (n, cc (e))
+made_by f (n ∷ ns) (suc p) m e = made_by f ns p m e
 
 -- the history of each role of straight machines
-straight-role : (ms : List Machine_data) (given : ℕ → DemoActor) (end : Moment DemoActor) (pairs : ℕ → List Exchange) (ns : List ℕ) (most p : ℕ) → Went ms given end
+straight_role : (ms : List Machine_data) (given : ℕ → DemoActor) (end : Moment DemoActor) (pairs : ℕ → List Exchange) (ns : List ℕ) (most p : ℕ) → Went ms given end
     → ms ≡ map (λ (i : ℕ). machine i (states_from 0 (pairs i))) ns → ((i : ℕ) → length (pairs i) ≤ most) → p < length ms → length (end.history p) ≤ 1 + 2 * most
-straight-role ms given end pairs ns most p w e few lt =
+straight_role ms given end pairs ns most p w e few lt =
     let m = item_at ms p lt in
-    let i = made-by (λ (i : ℕ). machine i (states_from 0 (pairs i))) ns p m.0 (ap (λ (z : List Machine_data). slice_get z p) (sym e) ∙ m.1) in
+    let i = made_by (λ (i : ℕ). machine i (states_from 0 (pairs i))) ns p m.0 (ap (λ (z : List Machine_data). slice_get z p) (sym e) ∙ m.1) in
     let pl = w.plays p m.0 m.1 in
     let P : Machine_data → Type 0 = λ z. Plays z z.start (given p) (end.history p) (end.at.at p) pl.0 in
-    let one = straight-acts (end.history p) (pairs i.0) i.0 (given p) (end.at.at p) pl.0 (subst P (sym i.1) pl.1) in
+    let one = straight_acts (end.history p) (pairs i.0) i.0 (given p) (end.at.at p) pl.0 (subst P (sym i.1) pl.1) in
     let two = few i.0 in
     omega (arith, one, two)
 
-ring-pairs-few : (n i : ℕ) → n ≤ 16 → length (ring_pairs n i) ≤ 16
-ring-pairs-few n i few = let e = ring-many n i in omega (arith, e, few)
+ring_pairs_few : (n i : ℕ) → n ≤ 16 → length (ring_pairs n i) ≤ 16
+ring_pairs_few n i few = let e = ring_many n i in omega (arith, e, few)
 
 -- the demos
 
-given-at : (given : ℕ → DemoActor) (actors all : List DemoActor) (p : ℕ) (x : DemoActor) → actors ≡ all → IsGiven given actors → slice_get all p ≡ Some x → given p ≡ x
-given-at given actors all p x e g s = g p x (ap (λ (z : List DemoActor). slice_get z p) e ∙ s)
+given_at : (given : ℕ → DemoActor) (actors all : List DemoActor) (p : ℕ) (x : DemoActor) → actors ≡ all → IsGiven given actors → slice_get all p ≡ Some x → given p ≡ x
+given_at given actors all p x e g s = g p x (ap (λ (z : List DemoActor). slice_get z p) e ∙ s)
 
 -- at a moment at which a role is stopped, a role's history is short
 abbrev IsShort : Moment DemoActor → ℕ → Type 0
@@ -400,55 +402,57 @@ double : (bytes : List ℕ) (actors : List DemoActor) (given : ℕ → DemoActor
     → IsGiven given actors → Went (double_kernel ∷ double_source ∷ double_sink ∷ []) given end → p < 3 → IsShort end p
 double bytes actors given end p few s g w lt = go p lt
   where
-    source-short : IsBrief 0 256 (end.history 1)
-    source-short =
-        let pl = played (double_kernel ∷ double_source ∷ double_sink ∷ []) given end 1 double_source (actor.Source bytes) w refl (given-at given actors (kernel_with None ∷ actor.Source bytes ∷ actor.Sink [] ∷ []) 1 (actor.Source bytes) s g refl) in
+    source_short : IsBrief 0 256 (end.history 1)
+    source_short =
+        let pl = played (double_kernel ∷ double_source ∷ double_sink ∷ []) given end 1 double_source (actor.Source bytes) w refl
+        (given_at given actors (kernel_with None ∷ actor.Source bytes ∷ actor.Sink [] ∷ []) 1 (actor.Source bytes) s g refl) in
         source (end.history 1) 0 256 bytes (end.at.at 1) pl.0 pl.1 (omega (arith, few))
 
-    kernel-short : length (end.history 0) ≤ 1031
-    kernel-short =
+    kernel_short : length (end.history 0) ≤ 1031
+    kernel_short =
         let pl = w.plays 0 double_kernel refl in
         let one = kernel (end.history 0) 0 (given 0) (end.at.at 0) pl.0 pl.1 in
-        let two = few-gots (gots 1 (end.history 0)) (end.at.queue 1 0) (sents 0 (end.history 1)) (w.fifo 1 0 (λ e. cc (e))) in
-        let three = source-short.1 in
+        let two = few_gots (gots 1 (end.history 0)) (end.at.queue 1 0) (sents 0 (end.history 1)) (w.fifo 1 0 (λ e. cc (e))) in
+        let three = source_short.1 in
         omega (arith, one, two, three)
 
-    sink-short : length (end.history 2) ≤ 2063
-    sink-short =
+    sink_short : length (end.history 2) ≤ 2063
+    sink_short =
         let pl = w.plays 2 double_sink refl in
         let one = sink (end.history 2) 2 0 (given 2) (end.at.at 2) pl.0 pl.1 in
-        let two = few-gots (gots 0 (end.history 2)) (end.at.queue 0 2) (sents 2 (end.history 0)) (w.fifo 0 2 (λ e. cc (e))) in
-        let three = few-sents 2 (end.history 0) in
-        let four = kernel-short in
+        let two = few_gots (gots 0 (end.history 2)) (end.at.queue 0 2) (sents 2 (end.history 0)) (w.fifo 0 2 (λ e. cc (e))) in
+        let three = few_sents 2 (end.history 0) in
+        let four = kernel_short in
         omega (arith, one, two, three, four)
 
     go : (p : ℕ) → p < 3 → IsShort end p
-    go zero lt = let h = kernel-short in omega (arith, h)
-    go (suc zero) lt = let h = source-short.0 in omega (arith, h)
-    go (suc (suc zero)) lt = let h = sink-short in omega (arith, h)
+    go zero lt = let h = kernel_short in omega (arith, h)
+    go (suc zero) lt = let h = source_short.0 in omega (arith, h)
+    go (suc (suc zero)) lt = let h = sink_short in omega (arith, h)
     go (suc (suc (suc p))) lt = absurd (omega (arith, lt))
 
 streamed : (bytes : List ℕ) (actors : List DemoActor) (given : ℕ → DemoActor) (end : Moment DemoActor) (p : ℕ) → length bytes ≤ MOST_BYTES → StartsWithActors demo.Stream bytes actors
     → IsGiven given actors → Went (stream_source ∷ stream_sink ∷ []) given end → p < 2 → IsShort end p
 streamed bytes actors given end p few s g w lt = go p lt
   where
-    source-short : length (end.history 0) ≤ 516
-    source-short =
-        let pl = played (stream_source ∷ stream_sink ∷ []) given end 0 stream_source (actor.Source bytes) w refl (given-at given actors (actor.Source bytes ∷ actor.Sink [] ∷ []) 0 (actor.Source bytes) s g refl) in
+    source_short : length (end.history 0) ≤ 516
+    source_short =
+        let pl = played (stream_source ∷ stream_sink ∷ []) given end 0 stream_source (actor.Source bytes) w refl
+        (given_at given actors (actor.Source bytes ∷ actor.Sink [] ∷ []) 0 (actor.Source bytes) s g refl) in
         stream (end.history 0) 0 256 bytes (end.at.at 0) pl.0 pl.1 (omega (arith, few))
 
-    sink-short : length (end.history 1) ≤ 1033
-    sink-short =
+    sink_short : length (end.history 1) ≤ 1033
+    sink_short =
         let pl = w.plays 1 stream_sink refl in
         let one = sink (end.history 1) 1 0 (given 1) (end.at.at 1) pl.0 pl.1 in
-        let two = few-gots (gots 0 (end.history 1)) (end.at.queue 0 1) (sents 1 (end.history 0)) (w.fifo 0 1 (λ e. cc (e))) in
-        let three = few-sents 1 (end.history 0) in
-        let four = source-short in
+        let two = few_gots (gots 0 (end.history 1)) (end.at.queue 0 1) (sents 1 (end.history 0)) (w.fifo 0 1 (λ e. cc (e))) in
+        let three = few_sents 1 (end.history 0) in
+        let four = source_short in
         omega (arith, one, two, three, four)
 
     go : (p : ℕ) → p < 2 → IsShort end p
-    go zero lt = let h = source-short in omega (arith, h)
-    go (suc zero) lt = let h = sink-short in omega (arith, h)
+    go zero lt = let h = source_short in omega (arith, h)
+    go (suc zero) lt = let h = sink_short in omega (arith, h)
     go (suc (suc p)) lt = absurd (omega (arith, lt))
 
 ring : (bytes : List ℕ) (actors : List DemoActor) (given : ℕ → DemoActor) (end : Moment DemoActor) (p : ℕ) → StartsWithActors demo.Ring bytes actors
@@ -456,12 +460,13 @@ ring : (bytes : List ℕ) (actors : List DemoActor) (given : ℕ → DemoActor) 
 ring bytes actors given end p s w lt =
     let many : length actors ≡ length s.0 = ap length s.2 ∙ length-map s.0 ring_member in
     let high : length s.0 ≤ 16 = leb-true (length s.0) 16 (and_parts (nat_le 2 (length s.0)) (nat_le (length s.0) 16) s.1.0).1 in
-    let h = straight-role (demo_machines demo.Ring (length actors)) given end (ring_pairs (length actors)) (numbers_from 0 (length actors)) 16 p w refl (λ i. ring-pairs-few (length actors) i (omega (arith, many, high))) lt in
+    let h = straight_role (demo_machines demo.Ring (length actors)) given end (ring_pairs (length actors)) (numbers_from 0 (length actors)) 16 p w refl
+    (λ i. ring_pairs_few (length actors) i (omega (arith, many, high))) lt in
     omega (arith, h)
 
 butterfly : (n : ℕ) (given : ℕ → DemoActor) (end : Moment DemoActor) (p : ℕ) → Went (demo_machines demo.Butterfly n) given end → p < length (demo_machines demo.Butterfly n) → IsShort end p
 butterfly n given end p w lt =
-    let h = straight-role (demo_machines demo.Butterfly n) given end (butterfly_pairs n) (numbers_from 0 n) 4 p w refl (λ i. butterfly-many steps n i) lt in
+    let h = straight_role (demo_machines demo.Butterfly n) given end (butterfly_pairs n) (numbers_from 0 n) 4 p w refl (λ i. butterfly_many steps n i) lt in
     omega (arith, h)
 
 short : (kind : Demo) (bytes : List ℕ) (actors : List DemoActor) (given : ℕ → DemoActor) (end : Moment DemoActor) (p : ℕ) → length bytes ≤ MOST_BYTES → StartsWithActors kind bytes actors
@@ -472,10 +477,11 @@ short demo.Ring bytes actors given end p few s g w lt = ring bytes actors given 
 short demo.Butterfly bytes actors given end p few s g w lt = butterfly (length actors) given end p w lt
 
 -- a role is stopped at a low limit alone
-pub low-limit : (kind : Demo) (bytes : List ℕ) (actors : List DemoActor) (given : ℕ → DemoActor) (limit : ℕ) (capacity : Option ℕ) (role : ℕ) (end : Moment DemoActor) → length bytes ≤ MOST_BYTES
+pub low_limit : (kind : Demo) (bytes : List ℕ) (actors : List DemoActor) (given : ℕ → DemoActor) (limit : ℕ) (capacity : Option ℕ) (role : ℕ) (end : Moment DemoActor) → length bytes ≤ MOST_BYTES
     → StartsWithActors kind bytes actors → IsGiven given actors → IsPlain (demo_machines kind (length actors)) by_demo given limit capacity (Stopped role end) → limit < 4096
-low-limit kind bytes actors given limit capacity role end few s g is =
-    let w = stops-well (demo_machines kind (length actors)) given limit capacity is.first (Stopped role end) (sound-start by_demo (demo_machines kind (length actors)) given limit is.first is.starts) is.run in
+low_limit kind bytes actors given limit capacity role end few s g is =
+    let w = stops_well (demo_machines kind (length actors)) given limit capacity is.first (Stopped role end) (sound_start by_demo (demo_machines kind (length actors)) given limit is.first is.starts)
+    is.run in
     let h = short kind bytes actors given end role few s g (went (demo_machines kind (length actors)) given limit end w.0) w.1 in
     let at = w.2 in
     omega (arith, h, at)

@@ -23,9 +23,9 @@ pub record SentAt (x : DemoActor) (arms : List Arm) (q r : Role) (l : Label) (v 
   pub goes : arm.next ≡ t
   pub becomes : by_demo.asked x arms ≡ y
 
-pub sent-at : (m : Machine_data) (s : ℕ) (x : DemoActor) (arms : List Arm) (q r : Role) (l : Label) (v : Value) (t : ℕ) (y : DemoActor)
+pub sent_at : (m : Machine_data) (s : ℕ) (x : DemoActor) (arms : List Arm) (q r : Role) (l : Label) (v : Value) (t : ℕ) (y : DemoActor)
     → slice_get m.states s ≡ Some (Puts q arms) → PlaysSent by_demo m s x r l v t y → SentAt x arms q r l v t y
-sent-at m s x arms q r l v t y st p =
+sent_at m s x arms q r l v t y st p =
     let e : Some (Puts q arms) ≡ Some (Puts r p.arms) = sym st ∙ p.puts in
     let er : q ≡ r = cc (e) in
     let ea : p.arms ≡ arms = cc (e) in
@@ -44,52 +44,52 @@ pub record GotAt (x : DemoActor) (arms : List Arm) (q r : Role) (l : Label) (v :
   pub goes : arm.next ≡ t
   pub becomes : actor_behind_value x v ≡ y
 
-pub got-at : (m : Machine_data) (s : ℕ) (x : DemoActor) (arms : List Arm) (q r : Role) (l : Label) (v : Value) (t : ℕ) (y : DemoActor)
+pub got_at : (m : Machine_data) (s : ℕ) (x : DemoActor) (arms : List Arm) (q r : Role) (l : Label) (v : Value) (t : ℕ) (y : DemoActor)
     → slice_get m.states s ≡ Some (Takes q arms) → PlaysGot by_demo m s x r l v t y → GotAt x arms q r l v t y
-got-at m s x arms q r l v t y st p =
+got_at m s x arms q r l v t y st p =
     let e : Some (Takes q arms) ≡ Some (Takes r p.arms) = sym st ∙ p.takes in
     let er : q ≡ r = cc (e) in
     let ea : p.arms ≡ arms = cc (e) in
     let P : List Arm → Type 0 = λ z. slice_get z p.place ≡ Some p.arm in
     record { peer = er; place = p.place; arm = p.arm; follows = subst P ea p.follows; label = p.same_label; goes = p.goes; becomes = p.becomes }
 
-pub no-got : (m : Machine_data) (s : ℕ) (x : DemoActor) (arms : List Arm) (q r : Role) (l : Label) (v : Value) (t : ℕ) (y : DemoActor)
+pub no_got : (m : Machine_data) (s : ℕ) (x : DemoActor) (arms : List Arm) (q r : Role) (l : Label) (v : Value) (t : ℕ) (y : DemoActor)
     → slice_get m.states s ≡ Some (Puts q arms) → PlaysGot by_demo m s x r l v t y → ⊥
-no-got m s x arms q r l v t y st p = let e : Some (Puts q arms) ≡ Some (Takes r p.arms) = sym st ∙ p.takes in cc (e)
+no_got m s x arms q r l v t y st p = let e : Some (Puts q arms) ≡ Some (Takes r p.arms) = sym st ∙ p.takes in cc (e)
 
-pub no-sent : (m : Machine_data) (s : ℕ) (x : DemoActor) (arms : List Arm) (q r : Role) (l : Label) (v : Value) (t : ℕ) (y : DemoActor)
+pub no_sent : (m : Machine_data) (s : ℕ) (x : DemoActor) (arms : List Arm) (q r : Role) (l : Label) (v : Value) (t : ℕ) (y : DemoActor)
     → slice_get m.states s ≡ Some (Takes q arms) → PlaysSent by_demo m s x r l v t y → ⊥
-no-sent m s x arms q r l v t y st p = let e : Some (Takes q arms) ≡ Some (Puts r p.arms) = sym st ∙ p.puts in cc (e)
+no_sent m s x arms q r l v t y st p = let e : Some (Takes q arms) ≡ Some (Puts r p.arms) = sym st ∙ p.puts in cc (e)
 
 pub over : (m : Machine_data) (s : ℕ) (x : DemoActor) (a : Action) (t : ℕ) (y : DemoActor)
     → slice_get m.states s ≡ Some Done → PlaysAction by_demo m s x a t y → ⊥
 over m s x (Sent r l v) t y st p = let e : Some Done ≡ Some (Puts r p.arms) = sym st ∙ p.puts in cc (e)
 over m s x (Got r l v) t y st p = let e : Some Done ≡ Some (Takes r p.arms) = sym st ∙ p.takes in cc (e)
 
-pub only-arm : (a arm : Arm) (place : ℕ) → slice_get (a ∷ []) place ≡ Some arm → a ≡ arm
-only-arm a arm zero e = cc (e)
-only-arm a arm (suc place) e = absurd (cc (e))
+pub only_arm : (a arm : Arm) (place : ℕ) → slice_get (a ∷ []) place ≡ Some arm → a ≡ arm
+only_arm a arm zero e = cc (e)
+only_arm a arm (suc place) e = absurd (cc (e))
 
 pub data OneOf (a b arm : Arm) : Type 0 where
   First : a ≡ arm → OneOf a b arm
   Second : b ≡ arm → OneOf a b arm
 
-pub one-of : (a b arm : Arm) (place : ℕ) → slice_get (a ∷ b ∷ []) place ≡ Some arm → OneOf a b arm
-one-of a b arm zero e = First (cc (e))
-one-of a b arm (suc zero) e = Second (cc (e))
-one-of a b arm (suc (suc place)) e = absurd (cc (e))
+pub one_of : (a b arm : Arm) (place : ℕ) → slice_get (a ∷ b ∷ []) place ≡ Some arm → OneOf a b arm
+one_of a b arm zero e = First (cc (e))
+one_of a b arm (suc zero) e = Second (cc (e))
+one_of a b arm (suc (suc place)) e = absurd (cc (e))
 
-pub sents-cons : (q : ℕ) (r : Role) (l : Label) (v : Value) (h : History) → r.0 ≡ q → sents q (Sent r l v ∷ h) ≡ record { label = l; value = v } ∷ sents q h
-sents-cons q r l v h e = elim (eqb_tells r.0 q) [ inl t ↦ rw t.0 refl | inr t ↦ absurd (t.1 e) ]
+pub sents_cons : (q : ℕ) (r : Role) (l : Label) (v : Value) (h : History) → r.0 ≡ q → sents q (Sent r l v ∷ h) ≡ record { label = l; value = v } ∷ sents q h
+sents_cons q r l v h e = elim (eqb_tells r.0 q) [ inl t ↦ rw t.0 refl | inr t ↦ absurd (t.1 e) ]
 
-pub sents-skip : (q : ℕ) (r : Role) (l : Label) (v : Value) (h : History) → (r.0 ≡ q → ⊥) → sents q (Sent r l v ∷ h) ≡ sents q h
-sents-skip q r l v h n = elim (eqb_tells r.0 q) [ inl t ↦ absurd (n t.1) | inr t ↦ rw t.0 refl ]
+pub sents_skip : (q : ℕ) (r : Role) (l : Label) (v : Value) (h : History) → (r.0 ≡ q → ⊥) → sents q (Sent r l v ∷ h) ≡ sents q h
+sents_skip q r l v h n = elim (eqb_tells r.0 q) [ inl t ↦ absurd (n t.1) | inr t ↦ rw t.0 refl ]
 
-pub gots-cons : (q : ℕ) (r : Role) (l : Label) (v : Value) (h : History) → r.0 ≡ q → gots q (Got r l v ∷ h) ≡ record { label = l; value = v } ∷ gots q h
-gots-cons q r l v h e = elim (eqb_tells r.0 q) [ inl t ↦ rw t.0 refl | inr t ↦ absurd (t.1 e) ]
+pub gots_cons : (q : ℕ) (r : Role) (l : Label) (v : Value) (h : History) → r.0 ≡ q → gots q (Got r l v ∷ h) ≡ record { label = l; value = v } ∷ gots q h
+gots_cons q r l v h e = elim (eqb_tells r.0 q) [ inl t ↦ rw t.0 refl | inr t ↦ absurd (t.1 e) ]
 
-pub gots-skip : (q : ℕ) (r : Role) (l : Label) (v : Value) (h : History) → (r.0 ≡ q → ⊥) → gots q (Got r l v ∷ h) ≡ gots q h
-gots-skip q r l v h n = elim (eqb_tells r.0 q) [ inl t ↦ absurd (n t.1) | inr t ↦ rw t.0 refl ]
+pub gots_skip : (q : ℕ) (r : Role) (l : Label) (v : Value) (h : History) → (r.0 ≡ q → ⊥) → gots q (Got r l v ∷ h) ≡ gots q h
+gots_skip q r l v h n = elim (eqb_tells r.0 q) [ inl t ↦ absurd (n t.1) | inr t ↦ rw t.0 refl ]
 
 pub nowhere : (m : Machine_data) (s : ℕ) (x : DemoActor) (a : Action) (t : ℕ) (y : DemoActor)
     → slice_get m.states s ≡ None → PlaysAction by_demo m s x a t y → ⊥

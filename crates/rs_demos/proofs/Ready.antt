@@ -12,8 +12,8 @@ use Rattle.rs_model.specs.declared.demos.Demo.TheVariants as demo
 use Rattle.rs_demos.specs.Sessions.{demo_names, demo_protocol, has_session, written_machines}
 use Rattle.rs_demos.specs.Texts.{document_of}
 use Rattle.rs_demos.proofs.Ranges.{within}
-use Rattle.rs_demos.proofs.Printable.{at-all, printable}
-use Rattle.rs_demos.proofs.SpeltDocuments.{can-be-read}
+use Rattle.rs_demos.proofs.Printable.{at_all, printable}
+use Rattle.rs_demos.proofs.SpeltDocuments.{can_be_read}
 
 short : Option Machine_data → Bool
 short None = true
@@ -24,50 +24,54 @@ size_test kind n =
     (nat_le 2 (length (demo_names kind n).roles) && nat_le (length (demo_names kind n).roles) MOST_ROLES)
     && (nat_le (length (demo_protocol kind n).nodes) (MOST_TALKS + 1) && list_all short (written_machines kind n))
 
-ring-sizes : list_all (size_test demo.Ring) (range_with_len 2 15) ≡ true
+ring_sizes : list_all (size_test demo.Ring) (range_with_len 2 15) ≡ true
 unfolding short
-ring-sizes = refl
+ring_sizes = refl
 
-double-sizes : (n : ℕ) → size_test demo.Double n ≡ true
+double_sizes : (n : ℕ) → size_test demo.Double n ≡ true
 unfolding short
-double-sizes n = refl
+double_sizes n = refl
 
-stream-sizes : (n : ℕ) → size_test demo.Stream n ≡ true
+stream_sizes : (n : ℕ) → size_test demo.Stream n ≡ true
 unfolding short
-stream-sizes n = refl
+stream_sizes n = refl
 
-butterfly-sizes : ((size_test demo.Butterfly 2 && size_test demo.Butterfly 4) && (size_test demo.Butterfly 8 && size_test demo.Butterfly 16)) ≡ true
+butterfly_sizes : ((size_test demo.Butterfly 2 && size_test demo.Butterfly 4) && (size_test demo.Butterfly 8 && size_test demo.Butterfly 16)) ≡ true
 unfolding short
-butterfly-sizes = refl
+butterfly_sizes = refl
 
-eq-by : (x y : ℕ) → (x == y) ≡ true → x ≡ y
-eq-by x y h = elim (eqb_tells x y) [ inl t ↦ t.1 | inr t ↦ absurd (false≢true (sym t.0 ∙ h)) ]
+eq_by : (x y : ℕ) → (x == y) ≡ true → x ≡ y
+eq_by x y h = elim (eqb_tells x y) [ inl t ↦ t.1 | inr t ↦ absurd (false≢true (sym t.0 ∙ h)) ]
 
 either : (a b : Bool) → (a || b) ≡ true → (a ≡ true) ⊎ (b ≡ true)
 either true b h = inl refl
 either false b h = inr h
 
 sizes : (kind : Demo) (n : ℕ) → has_session kind n ≡ true → size_test kind n ≡ true
-sizes demo.Double n s = double-sizes n
-sizes demo.Stream n s = stream-sizes n
-sizes demo.Ring n s = let c = and_parts (nat_le 2 n) (nat_le n 16) s in let high = leb-true n 16 c.1 in within (size_test demo.Ring) 2 15 n ring-sizes (leb-true 2 n c.0) (omega (arith, high))
+sizes demo.Double n s = double_sizes n
+sizes demo.Stream n s = stream_sizes n
+sizes demo.Ring n s = let c = and_parts (nat_le 2 n) (nat_le n 16) s in let high = leb-true n 16 c.1 in within (size_test demo.Ring) 2 15 n ring_sizes (leb-true 2 n c.0) (omega (arith, high))
 sizes demo.Butterfly n s =
     let P : ℕ → Type 0 = λ z. size_test demo.Butterfly z ≡ true in
-    let all = and_parts (size_test demo.Butterfly 2 && size_test demo.Butterfly 4) (size_test demo.Butterfly 8 && size_test demo.Butterfly 16) butterfly-sizes in
+    let all = and_parts (size_test demo.Butterfly 2 && size_test demo.Butterfly 4) (size_test demo.Butterfly 8 && size_test demo.Butterfly 16) butterfly_sizes in
     let small = and_parts (size_test demo.Butterfly 2) (size_test demo.Butterfly 4) all.0 in
     let great = and_parts (size_test demo.Butterfly 8) (size_test demo.Butterfly 16) all.1 in
     elim (either ((n == 2) || (n == 4)) ((n == 8) || (n == 16)) s) [
-      | inl k ↦ elim (either (n == 2) (n == 4) k) [ inl f ↦ subst P (sym (eq-by n 2 f)) small.0 | inr f ↦ subst P (sym (eq-by n 4 f)) small.1 ]
-      | inr k ↦ elim (either (n == 8) (n == 16) k) [ inl f ↦ subst P (sym (eq-by n 8 f)) great.0 | inr f ↦ subst P (sym (eq-by n 16 f)) great.1 ]
+      | inl k ↦ elim (either (n == 2) (n == 4) k) [ inl f ↦ subst P (sym (eq_by n 2 f)) small.0 | inr f ↦ subst P (sym (eq_by n 4 f)) small.1 ]
+      | inr k ↦ elim (either (n == 8) (n == 16) k) [ inl f ↦ subst P (sym (eq_by n 8 f)) great.0 | inr f ↦ subst P (sym (eq_by n 16 f)) great.1 ]
     ]
 
-are-short : (machines : List (Option Machine_data)) → list_all short machines ≡ true → AreShort machines
+are_short : (machines : List (Option Machine_data)) → list_all short machines ≡ true → AreShort machines
 unfolding short
-are-short machines h k m e = leb-true (length m.states) (MOST_ACTS + 1) (at-all short machines k (Some m) h e)
+are_short machines h k m e = leb-true (length m.states) (MOST_ACTS + 1) (at_all short machines k (Some m) h e)
+
+-- there are as many names of roles as roles
+pub role_names : (kind : Demo) (n : ℕ) → has_session kind n ≡ true → length (demo_names kind n).roles ≡ (demo_protocol kind n).roles
+role_names kind n s = (printable kind n s).enough.roles
 
 pub ready : (kind : Demo) (n : ℕ) → has_session kind n ≡ true → DocumentIsReady (document_of kind n)
 ready kind n s =
-    let again = can-be-read kind n s in
+    let again = can_be_read kind n s in
     let t = and_parts (nat_le 2 (length (demo_names kind n).roles) && nat_le (length (demo_names kind n).roles) MOST_ROLES)
     (nat_le (length (demo_protocol kind n).nodes) (MOST_TALKS + 1) && list_all short (written_machines kind n)) (sizes kind n s) in
     let roles = and_parts (nat_le 2 (length (demo_names kind n).roles)) (nat_le (length (demo_names kind n).roles) MOST_ROLES) t.0 in
@@ -76,9 +80,10 @@ ready kind n s =
       sound = again.shown.sound;
       two = leb-true 2 (length (demo_names kind n).roles) roles.0;
       roles = leb-true (length (demo_names kind n).roles) MOST_ROLES roles.1;
-      labels = again.few;
+      a_name_each = role_names kind n s;
+      labels = again.bounded;
       one_each = again.machines.one_each;
-      short = are-short (written_machines kind n) parts.1;
+      short = are_short (written_machines kind n) parts.1;
       in_place = again.machines.in_place;
       nodes = leb-true (length (demo_protocol kind n).nodes) (MOST_TALKS + 1) parts.0;
       derivations = record {
@@ -87,7 +92,3 @@ ready kind n s =
         all = λ k d e. absurd (none_there (demo_names kind n).roles k d e);
       };
     }
-
--- there are as many names of roles as roles
-pub role-names : (kind : Demo) (n : ℕ) → has_session kind n ≡ true → length (demo_names kind n).roles ≡ (demo_protocol kind n).roles
-role-names kind n s = (printable kind n s).enough.roles

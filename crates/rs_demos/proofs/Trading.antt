@@ -13,7 +13,7 @@ use Rattle.rs_demos.specs.Acting.{by_demo, actor_behind_value}
 use Rattle.rs_demos.specs.Sessions.{Exchange, role, arm, states_from}
 use Rattle.rs_demos.specs.declared.actors.DemoActor.{DemoActor}
 use Rattle.rs_demos.specs.declared.actors.DemoActor.TheVariants as actor
-use Rattle.rs_demos.proofs.Playing.{sent-at, got-at, no-got, no-sent, over, only-arm}
+use Rattle.rs_demos.proofs.Playing.{sent_at, got_at, no_got, no_sent, over, only_arm}
 
 -- members hold a number
 
@@ -37,22 +37,22 @@ chooses (actor.Source b) next h = absurd (cc (h))
 chooses (actor.Kernel k) next h = absurd (cc (h))
 chooses (actor.Sink b) next h = absurd (cc (h))
 
-pub stays-member : (x : DemoActor) (v : Value) → is_member x ≡ true → is_member (actor_behind_value x v) ≡ true
-stays-member (actor.RingMember m) value.Unit h = refl
-stays-member (actor.RingMember m) (value.Flag b) h = refl
-stays-member (actor.RingMember m) (value.Natural n) h = refl
-stays-member (actor.RingMember m) (value.Whole z) h = refl
-stays-member (actor.RingMember m) (value.Octets b) h = refl
-stays-member (actor.RingMember m) (value.Numbers z) h = refl
-stays-member (actor.ButterflyMember m) value.Unit h = refl
-stays-member (actor.ButterflyMember m) (value.Flag b) h = refl
-stays-member (actor.ButterflyMember m) (value.Natural n) h = refl
-stays-member (actor.ButterflyMember m) (value.Whole z) h = refl
-stays-member (actor.ButterflyMember m) (value.Octets b) h = refl
-stays-member (actor.ButterflyMember m) (value.Numbers z) h = refl
-stays-member (actor.Source b) v h = absurd (cc (h))
-stays-member (actor.Kernel k) v h = absurd (cc (h))
-stays-member (actor.Sink b) v h = absurd (cc (h))
+pub stays_member : (x : DemoActor) (v : Value) → is_member x ≡ true → is_member (actor_behind_value x v) ≡ true
+stays_member (actor.RingMember m) value.Unit h = refl
+stays_member (actor.RingMember m) (value.Flag b) h = refl
+stays_member (actor.RingMember m) (value.Natural n) h = refl
+stays_member (actor.RingMember m) (value.Whole z) h = refl
+stays_member (actor.RingMember m) (value.Octets b) h = refl
+stays_member (actor.RingMember m) (value.Numbers z) h = refl
+stays_member (actor.ButterflyMember m) value.Unit h = refl
+stays_member (actor.ButterflyMember m) (value.Flag b) h = refl
+stays_member (actor.ButterflyMember m) (value.Natural n) h = refl
+stays_member (actor.ButterflyMember m) (value.Whole z) h = refl
+stays_member (actor.ButterflyMember m) (value.Octets b) h = refl
+stays_member (actor.ButterflyMember m) (value.Numbers z) h = refl
+stays_member (actor.Source b) v h = absurd (cc (h))
+stays_member (actor.Kernel k) v h = absurd (cc (h))
+stays_member (actor.Sink b) v h = absurd (cc (h))
 
 -- pairs of acts
 
@@ -81,15 +81,15 @@ HasStates m s es = (k : ℕ) → slice_get m.states (s + k) ≡ slice_get (state
 here : (m : Machine_data) (s : ℕ) (es : List Exchange) → HasStates m s es → slice_get m.states s ≡ slice_get (states_from s es) 0
 here m s es h = let e : s ≡ s + 0 = omega arith in ap (λ (i : ℕ). slice_get m.states i) e ∙ h 0
 
-next-states : (m : Machine_data) (s : ℕ) (e : Exchange) (es : List Exchange) → HasStates m s (e ∷ es) → HasStates m (suc (suc s)) es
-next-states m s e es h k = let f : suc (suc s) + k ≡ s + suc (suc k) = omega arith in ap (λ (i : ℕ). slice_get m.states i) f ∙ h (suc (suc k))
+next_states : (m : Machine_data) (s : ℕ) (e : Exchange) (es : List Exchange) → HasStates m s (e ∷ es) → HasStates m (suc (suc s)) es
+next_states m s e es h k = let f : suc (suc s) + k ≡ s + suc (suc k) = omega arith in ap (λ (i : ℕ). slice_get m.states i) f ∙ h (suc (suc k))
 
 second : (m : Machine_data) (s : ℕ) (e : Exchange) (es : List Exchange) → HasStates m s (e ∷ es)
     → slice_get m.states (suc s) ≡ Some (Takes (role e.1) (one_arm (suc (suc s))))
 second m s e es h = let f : suc s ≡ s + 1 = omega arith in ap (λ (i : ℕ). slice_get m.states i) f ∙ h 1
 
-not-over : (m : Machine_data) (s t : ℕ) (st : State) → slice_get m.states s ≡ Some st → s ≡ t → slice_get m.states t ≡ Some Done → st ≡ Done
-not-over m s t st here' e d =
+not_over : (m : Machine_data) (s t : ℕ) (st : State) → slice_get m.states s ≡ Some st → s ≡ t → slice_get m.states t ≡ Some Done → st ≡ Done
+not_over m s t st here' e d =
     let P : ℕ → Type 0 = λ z. slice_get m.states z ≡ Some Done in
     let h : Some st ≡ Some Done = sym here' ∙ subst P (sym e) d in
     cc (h)
@@ -98,30 +98,30 @@ pub trades : (h : History) (es : List Exchange) (m : Machine_data) (s : ℕ) (x 
     → PlaysFrom by_demo m s x h t y → slice_get m.states t ≡ Some Done → Trades es y x h
 trades [] [] m s x t y mem st p d = (refl, p.1)
 trades (a ∷ h) [] m s x t y mem st p d = absurd (over m s x a p.0 p.1 (here m s [] st) p.2)
-trades [] (e ∷ es) m s x t y mem st p d = absurd (let k = not-over m s t (Puts (role e.0) (one_arm (suc s))) (here m s (e ∷ es) st) p.0 d in cc (k))
-trades (Got r l v ∷ h) (e ∷ es) m s x t y mem st p d = absurd (no-got m s x (one_arm (suc s)) (role e.0) r l v p.0 p.1 (here m s (e ∷ es) st) p.2)
+trades [] (e ∷ es) m s x t y mem st p d = absurd (let k = not_over m s t (Puts (role e.0) (one_arm (suc s))) (here m s (e ∷ es) st) p.0 d in cc (k))
+trades (Got r l v ∷ h) (e ∷ es) m s x t y mem st p d = absurd (no_got m s x (one_arm (suc s)) (role e.0) r l v p.0 p.1 (here m s (e ∷ es) st) p.2)
 trades (Sent r l v ∷ []) (e ∷ es) m s x t y mem st p d =
-    let g = sent-at m s x (one_arm (suc s)) (role e.0) r l v p.0 p.1 (here m s (e ∷ es) st) p.2 in
-    let a = only-arm (arm 0 sort.Whole (suc s)) g.arm (by_demo.chooses x (one_arm (suc s))).0 g.picks in
+    let g = sent_at m s x (one_arm (suc s)) (role e.0) r l v p.0 p.1 (here m s (e ∷ es) st) p.2 in
+    let a = only_arm (arm 0 sort.Whole (suc s)) g.arm (by_demo.chooses x (one_arm (suc s))).0 g.picks in
     let n : suc s ≡ t = ap (λ (z : Arm). z.next) a ∙ g.goes ∙ p.3.0 in
-    absurd (let k = not-over m (suc s) t (Takes (role e.1) (one_arm (suc (suc s)))) (second m s e es st) n d in cc (k))
+    absurd (let k = not_over m (suc s) t (Takes (role e.1) (one_arm (suc (suc s)))) (second m s e es st) n d in cc (k))
 trades (Sent r l v ∷ Sent r' l' v' ∷ h) (e ∷ es) m s x t y mem st p d =
-    let g = sent-at m s x (one_arm (suc s)) (role e.0) r l v p.0 p.1 (here m s (e ∷ es) st) p.2 in
-    let a = only-arm (arm 0 sort.Whole (suc s)) g.arm (by_demo.chooses x (one_arm (suc s))).0 g.picks in
+    let g = sent_at m s x (one_arm (suc s)) (role e.0) r l v p.0 p.1 (here m s (e ∷ es) st) p.2 in
+    let a = only_arm (arm 0 sort.Whole (suc s)) g.arm (by_demo.chooses x (one_arm (suc s))).0 g.picks in
     let n : suc s ≡ p.0 = ap (λ (z : Arm). z.next) a ∙ g.goes in
     let sec = ap (λ (i : ℕ). slice_get m.states i) (sym n) ∙ second m s e es st in
-    absurd (no-sent m p.0 p.1 (one_arm (suc (suc s))) (role e.1) r' l' v' p.3.0 p.3.1 sec p.3.2)
+    absurd (no_sent m p.0 p.1 (one_arm (suc (suc s))) (role e.1) r' l' v' p.3.0 p.3.1 sec p.3.2)
 trades (Sent r l v ∷ Got r' l' v' ∷ h) (e ∷ es) m s x t y mem st p d =
-    let g = sent-at m s x (one_arm (suc s)) (role e.0) r l v p.0 p.1 (here m s (e ∷ es) st) p.2 in
+    let g = sent_at m s x (one_arm (suc s)) (role e.0) r l v p.0 p.1 (here m s (e ∷ es) st) p.2 in
     let c = chooses x (suc s) mem in
-    let a = only-arm (arm 0 sort.Whole (suc s)) g.arm (by_demo.chooses x (one_arm (suc s))).0 g.picks in
+    let a = only_arm (arm 0 sort.Whole (suc s)) g.arm (by_demo.chooses x (one_arm (suc s))).0 g.picks in
     let n : suc s ≡ p.0 = ap (λ (z : Arm). z.next) a ∙ g.goes in
     let el : record { 0 = 0 } ≡ l = ap (λ (z : Arm). z.label) a ∙ g.label in
     let ev : value.Whole (held x) ≡ v = ap (λ (z : ℕ × Value). z.1) (sym c.0) ∙ g.value in
     let ex : x ≡ p.1 = sym c.1 ∙ g.becomes in
     let sec = ap (λ (i : ℕ). slice_get m.states i) (sym n) ∙ second m s e es st in
-    let g' = got-at m p.0 p.1 (one_arm (suc (suc s))) (role e.1) r' l' v' p.3.0 p.3.1 sec p.3.2 in
-    let a' = only-arm (arm 0 sort.Whole (suc (suc s))) g'.arm g'.place g'.follows in
+    let g' = got_at m p.0 p.1 (one_arm (suc (suc s))) (role e.1) r' l' v' p.3.0 p.3.1 sec p.3.2 in
+    let a' = only_arm (arm 0 sort.Whole (suc (suc s))) g'.arm g'.place g'.follows in
     let n' : suc (suc s) ≡ p.3.0 = ap (λ (z : Arm). z.next) a' ∙ g'.goes in
     let el' : record { 0 = 0 } ≡ l' = ap (λ (z : Arm). z.label) a' ∙ g'.label in
     let ex' : actor_behind_value x v' ≡ p.3.1 = ap (λ (z : DemoActor). actor_behind_value z v') ex ∙ g'.becomes in
@@ -133,5 +133,5 @@ trades (Sent r l v ∷ Got r' l' v' ∷ h) (e ∷ es) m s x t y mem st p d =
       came = v';
       later = h;
       is = cc (one, other);
-      rest = trades h es m (suc (suc s)) (actor_behind_value x v') t y (stays-member x v' mem) (next-states m s e es st) on d;
+      rest = trades h es m (suc (suc s)) (actor_behind_value x v') t y (stays_member x v' mem) (next_states m s e es st) on d;
     }

@@ -73,7 +73,7 @@ after_sending (actor.Source bytes) = actor.Source (behind_piece bytes)
 after_sending (actor.Kernel k) = actor.Kernel (record { piece = None })
 after_sending x = x
 
--- .. where an arm was found for it; else it stays as it is
+-- what an actor is when it has sent what it wanted, where an arm was found for it; else it stays as it is
 abbrev pub actor_behind_choice : DemoActor → Option ℕ → DemoActor
 actor_behind_choice x (Some place) = after_sending x
 actor_behind_choice x None = x
@@ -91,7 +91,7 @@ ring_told m c = record { last = c; sum = in_64_bits (m.sum +ℤ c) }
 abbrev pub butterfly_sum : ButterflyMember → ℤ → ℤ
 butterfly_sum m c = if m.bits % 2 == 0 then in_64_bits (m.held +ℤ c) else in_64_bits (c -ℤ m.held)
 
--- .. and the next bit is that of the next round
+-- a member that is told a number: it has the sum or the difference, and the next bit is that of the next round
 abbrev pub butterfly_told : ButterflyMember → ℤ → ButterflyMember
 butterfly_told m c = record { bits = m.bits / 2; held = butterfly_sum m c }
 

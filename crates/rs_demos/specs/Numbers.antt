@@ -30,7 +30,7 @@ pub record IsNumber (bytes : List ℕ) (z : ℤ) : Type 0 where
   pub digits : List ℕ
   pub spelt : bytes ≡ minus_text minus ++ digits
   pub numeral : IsNumeral 10 digits
-  pub few : length digits ≤ 20
+  pub bounded : length digits ≤ 20
   pub value : z ≡ with_sign minus (digits_value 10 digits)
   pub fits : FitsSigned w64 z
 
@@ -44,7 +44,7 @@ pub record BeginsWith (z : ℤ) (Behind : List ℕ → Type 0) (bytes : List ℕ
   pub blanks : List ℕ
   pub word : List ℕ
   pub behind : List ℕ
-  pub is : bytes ≡ blanks ++ (word ++ behind)
+  pub split : bytes ≡ blanks ++ (word ++ behind)
   pub are_blanks : AreBlanks blanks
   pub number : IsNumber word z
   pub ends : EndsNumber behind

@@ -28,7 +28,7 @@ abbrev pub SpellsNone : List ℕ → DemoFault → Type 0
 SpellsNone bytes fault.BadNumbers = (zs : List ℤ) → SpellsNumbers zs bytes → ⊥
 SpellsNone bytes fault.NoMemory = Unit {0}
 
--- .. and of asking for them
+-- what a fault of reading says, and of asking for numbers
 abbrev pub ReadsInVain : Demo → List ℕ → DemoFault → Type 0
 ReadsInVain kind bytes fault.BadNumbers = (zs : List ℤ) → AreAsked kind bytes zs → ⊥
 ReadsInVain kind bytes fault.NoMemory = Unit {0}

@@ -16,9 +16,9 @@ abbrev pub in_64_bits : ℤ → ℤ
 in_64_bits z = int_wrap w64 z
 
 -- the sum of the numbers
-abbrev pub total : List ℤ → ℤ
-total [] = pos 0
-total (z ∷ zs) = z +ℤ total zs
+abbrev pub sum_of_numbers : List ℤ → ℤ
+sum_of_numbers [] = pos 0
+sum_of_numbers (z ∷ zs) = z +ℤ sum_of_numbers zs
 
 -- the number at place j with the sign that it has at place i: minus where i and j have an odd number of set bits in
 -- common
@@ -27,11 +27,11 @@ signed_at i j z = if count_ones (bit_and i j) % 2 == 1 then neg_ℤ z else z
 
 -- the Walsh-Hadamard transform of the numbers, at place i: the sum of all, each with its sign
 abbrev pub transform_at : List ℤ → ℕ → ℤ
-transform_at zs i = total (map (λ (x : ℕ × ℤ). signed_at i x.0 x.1) (enumerate_from 0 zs))
+transform_at zs i = sum_of_numbers (map (λ (x : ℕ × ℤ). signed_at i x.0 x.1) (enumerate_from 0 zs))
 
 -- the sum of the numbers, once for each of them
 abbrev pub sums_of : List ℤ → List ℤ
-sums_of zs = map (λ (z : ℤ). in_64_bits (total zs)) zs
+sums_of zs = map (λ (z : ℤ). in_64_bits (sum_of_numbers zs)) zs
 
 -- the transform at each place
 abbrev pub transform_of : List ℤ → List ℤ

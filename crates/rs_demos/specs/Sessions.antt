@@ -129,7 +129,7 @@ abbrev pub nodes_from : ℕ → List Exchange → List Node
 nodes_from n [] = Finished ∷ []
 nodes_from n (x ∷ xs) = Talk (role x.0) (role x.1) (arm 0 sort.Whole (suc n) ∷ []) ∷ nodes_from (suc n) xs
 
--- .. among n roles
+-- a protocol of exchanges among n roles, one behind the other
 abbrev pub protocol_of : ℕ → List Exchange → Protocol_data
 protocol_of n xs = record { roles = n; nodes = nodes_from 0 xs; root = 0 }
 
@@ -199,7 +199,7 @@ butterfly_exchanges n = flat_map (λ (step : ℕ). butterfly_round n step) steps
 abbrev pub butterfly_pair : ℕ → ℕ → ℕ → List Exchange
 butterfly_pair n i step = if nat_lt step n then (partner step i, partner step i) ∷ [] else []
 
--- .. in all rounds
+-- the exchanges of all rounds
 abbrev pub butterfly_pairs : ℕ → ℕ → List Exchange
 butterfly_pairs n i = flat_map (λ (step : ℕ). butterfly_pair n i step) steps
 
@@ -210,15 +210,15 @@ butterfly_machine n i = machine i (states_from 0 (butterfly_pairs n i))
 -- sessions
 
 -- R and the number
-abbrev pub role_name : ℕ → List ℕ
-role_name i = codes "R" ++ decimal i
+abbrev pub demo_role_name : ℕ → List ℕ
+demo_role_name i = codes "R" ++ decimal i
 
 -- the names of a demo's roles and labels
 abbrev pub demo_names : Demo → ℕ → Names_data
 demo_names demo.Double n = record { roles = codes "K" ∷ codes "S" ∷ codes "T" ∷ []; labels = codes "ready" ∷ codes "copy" ∷ codes "stop" ∷ [] }
 demo_names demo.Stream n = record { roles = codes "S" ∷ codes "T" ∷ []; labels = codes "ready" ∷ codes "value" ∷ codes "stop" ∷ [] }
-demo_names demo.Ring n = record { roles = map role_name (numbers_from 0 n); labels = codes "v" ∷ [] }
-demo_names demo.Butterfly n = record { roles = map role_name (numbers_from 0 n); labels = codes "v" ∷ [] }
+demo_names demo.Ring n = record { roles = map demo_role_name (numbers_from 0 n); labels = codes "v" ∷ [] }
+demo_names demo.Butterfly n = record { roles = map demo_role_name (numbers_from 0 n); labels = codes "v" ∷ [] }
 
 -- the protocol of a demo
 abbrev pub demo_protocol : Demo → ℕ → Protocol_data
@@ -246,6 +246,6 @@ has_line demo.Butterfly p = not (p == 0)
 abbrev pub machine_with_line : Demo → Machine_data → Option Machine_data
 machine_with_line kind m = if has_line kind m.role.0 then Some m else None
 
--- .. of each role
+-- the machine of each role, where the text has a line for it
 abbrev pub written_machines : Demo → ℕ → List (Option Machine_data)
 written_machines kind n = map (machine_with_line kind) (demo_machines kind n)

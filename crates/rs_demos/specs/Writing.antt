@@ -1,27 +1,27 @@
 -- Steps: the texts of the ring and of the butterfly, as they are written.
 use Rattle.std.specs.Prelude.{ℕ, ◌-◌, List, ◌++◌, codes}
 use Rattle.std.specs.List.{flat_map}
-use Rattle.rs_demos.specs.Sessions.{Exchange, role_name, numbers_from, ring_exchanges, ring_pairs, butterfly_exchanges, butterfly_pairs}
+use Rattle.rs_demos.specs.Sessions.{Exchange, demo_role_name, numbers_from, ring_exchanges, ring_pairs, butterfly_exchanges, butterfly_pairs}
 
 -- `Rs->Rr:v(int). `
 abbrev pub exchange_text : Exchange → List ℕ
-exchange_text x = role_name x.0 ++ (codes "->" ++ (role_name x.1 ++ codes ":v(int). "))
+exchange_text x = demo_role_name x.0 ++ (codes "->" ++ (demo_role_name x.1 ++ codes ":v(int). "))
 
--- .. one behind the other
+-- `Rs->Rr:v(int). ` for each exchange, one behind the other
 abbrev pub exchanges_text : List Exchange → List ℕ
 exchanges_text xs = flat_map exchange_text xs
 
 -- `Rs!v(int). Rr?v(int). `
-abbrev pub acts_text : Exchange → List ℕ
-acts_text x = role_name x.0 ++ (codes "!v(int). " ++ (role_name x.1 ++ codes "?v(int). "))
+abbrev pub exchange_acts_text : Exchange → List ℕ
+exchange_acts_text x = demo_role_name x.0 ++ (codes "!v(int). " ++ (demo_role_name x.1 ++ codes "?v(int). "))
 
--- .. one behind the other
+-- `Rs!v(int). Rr?v(int). ` for each pair, one behind the other
 abbrev pub pairs_text : List Exchange → List ℕ
-pairs_text xs = flat_map acts_text xs
+pairs_text xs = flat_map exchange_acts_text xs
 
 -- a further role on the roles line
 abbrev pub other_name : ℕ → List ℕ
-other_name i = codes ", " ++ role_name i
+other_name i = codes ", " ++ demo_role_name i
 
 -- the roles line
 abbrev pub roles_text : ℕ → List ℕ
@@ -29,7 +29,7 @@ roles_text n = codes "roles R0" ++ (flat_map other_name (numbers_from 1 (n - 1))
 
 -- `machine Ri: `, its acts and `end`
 abbrev pub machine_line : ℕ → List Exchange → List ℕ
-machine_line i xs = codes "machine " ++ (role_name i ++ (codes ": " ++ (pairs_text xs ++ codes "end\n")))
+machine_line i xs = codes "machine " ++ (demo_role_name i ++ (codes ": " ++ (pairs_text xs ++ codes "end\n")))
 
 -- the roles line and the line of the protocol
 abbrev pub front_text : ℕ → List Exchange → List ℕ

@@ -3,10 +3,10 @@
 ghost use Rattle.std.specs.Prelude.{◌≡◌, ◌≢◌, ◌+ℤ◌, ◌-ℤ◌, [], IfOk, OnErr, OnOk};
 ghost use Rattle.rs_model.specs.Serving.{serves, sort_number};
 ghost use Rattle.rs_demos.specs.Acting.{after_sending, butterfly_told, by_demo, arm_place, ring_told, sort_of, actor_behind_value, value_at_hand};
-ghost use Rattle.rs_demos.specs.Choosing.{chooses-well};
+ghost use Rattle.rs_demos.specs.Choosing.{chooses_well_shown};
 ghost use Rattle.rs_demos.specs.Results.{inverse_bytes, in_64_bits};
 
-use crate::parts::{ButterflyMember, Kernel, RingMember, Sink, Source};
+use crate::parts::{ButterflyMember, Kernel, PieceSink, PieceSource, RingMember};
 use rs_core::Actor;
 use rs_model::{Arm, NoMemory, Numbers, Octets, Sort, Value};
 use std::alloc::Global;
@@ -14,9 +14,9 @@ use std::alloc::Global;
 /// What chooses for a role of a demo.
 #[derive(Drop, Debug)]
 pub enum DemoActor {
-    Source(Source),
+    Source(PieceSource),
     Kernel(Kernel),
-    Sink(Sink),
+    Sink(PieceSink),
     RingMember(RingMember),
     ButterflyMember(ButterflyMember),
 }
@@ -154,5 +154,5 @@ impl Actor for DemoActor {
         Ok(())
     }
 
-    ghost chooses_well = { chooses-well };
+    ghost chooses_well = { chooses_well_shown };
 }

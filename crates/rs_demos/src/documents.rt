@@ -3,9 +3,10 @@
 ghost use Rattle.std.specs.Prelude.{◌≡◌, ◌≤◌, ◌<◌, ◌-◌, ◌++◌, true, codes, map, IfOk, OnOk};
 ghost use Rattle.rs_model.specs.declared.limits.TheConstants.{MOST_ROLES};
 ghost use Rattle.std.specs.List.{flat_map};
-ghost use Rattle.rs_demos.specs.Sessions.{both_ways, butterfly_exchanges, butterfly_pair, butterfly_pairs, butterfly_round, has_session, is_clear, next_in_ring, numbers_from, partner, previous_in_ring, ring_exchanges, ring_pairs, ring_round, role_name};
+ghost use Rattle.rs_demos.specs.Sessions.{both_ways, butterfly_exchanges, butterfly_pair, butterfly_pairs, butterfly_round, has_session, is_clear, next_in_ring};
+ghost use Rattle.rs_demos.specs.Sessions.{numbers_from, partner, previous_in_ring, ring_exchanges, ring_pairs, ring_round, demo_role_name};
 ghost use Rattle.rs_demos.specs.Texts.{IsDemoText};
-ghost use Rattle.rs_demos.specs.Writing.{acts_text, butterfly_line, butterfly_text, exchange_text, exchanges_text, machine_line, other_name, pairs_text, ring_line, ring_text, roles_text};
+ghost use Rattle.rs_demos.specs.Writing.{exchange_acts_text, butterfly_line, butterfly_text, exchange_text, exchanges_text, machine_line, other_name, pairs_text, ring_line, ring_text, roles_text};
 
 use rs_model::{Demo, NoMemory};
 use rs_text::Text;
@@ -69,7 +70,7 @@ fn butterfly(alloc: Global, roles: u8) -> Result<Text, NoMemory>
 }
 
 pub(crate) fn push_role(text: &mut Text, role: u8) -> Result<(), NoMemory>
-    ensures { OnOk result (text.new ≡ text.old ++ role_name role) }
+    ensures { OnOk result (text.new ≡ text.old ++ demo_role_name role) }
 {
     text.push(b"R")?;
     text.push_number(u64::from(role))
@@ -106,7 +107,7 @@ fn push_exchange(text: &mut Text, sender: u8, receiver: u8) -> Result<(), NoMemo
 
 /// A send to a role and a receive from a role.
 fn push_acts(text: &mut Text, to: u8, from: u8) -> Result<(), NoMemory>
-    ensures { OnOk result (text.new ≡ text.old ++ acts_text (to, from)) }
+    ensures { OnOk result (text.new ≡ text.old ++ exchange_acts_text (to, from)) }
 {
     push_role(text, to)?;
     text.push(b"!v(int). ")?;
@@ -115,7 +116,7 @@ fn push_acts(text: &mut Text, to: u8, from: u8) -> Result<(), NoMemory>
 }
 
 fn push_head(text: &mut Text, role: u8) -> Result<(), NoMemory>
-    ensures { OnOk result (text.new ≡ text.old ++ (codes "machine " ++ (role_name role ++ codes ": "))) }
+    ensures { OnOk result (text.new ≡ text.old ++ (codes "machine " ++ (demo_role_name role ++ codes ": "))) }
 {
     text.push(b"machine ")?;
     push_role(text, role)?;

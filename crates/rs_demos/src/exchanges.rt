@@ -12,7 +12,7 @@ use std::alloc::Global;
 pub(crate) fn ring_exchanges(alloc: Global, roles: u8) -> Result<Vec<(u8, u8)>, NoMemory>
     requires { (1 ≤ roles) × (roles ≤ MOST_ROLES) }
     ensures exchanges { IfOk result (λ exchanges. exchanges.items ≡ spec.ring_exchanges roles) }
-    ensures few { IfOk result (λ exchanges. length exchanges.items ≤ 256) }
+    ensures bounded { IfOk result (λ exchanges. length exchanges.items ≤ 256) }
 {
     let count = usize::from(roles);
     let mut exchanges = Vec::with_capacity(alloc, count * (count - 1))?;
@@ -37,7 +37,7 @@ fn push_ring_round(exchanges: &mut Vec<(u8, u8)>, roles: u8) -> Result<(), NoMem
 pub(crate) fn ring_pairs(alloc: Global, roles: u8, role: u8) -> Result<Vec<(u8, u8)>, NoMemory>
     requires { (role < roles) × (roles ≤ MOST_ROLES) }
     ensures pairs { IfOk result (λ pairs. pairs.items ≡ spec.ring_pairs roles role) }
-    ensures few { IfOk result (λ pairs. length pairs.items ≤ 256) }
+    ensures bounded { IfOk result (λ pairs. length pairs.items ≤ 256) }
 {
     let pair = ((role + 1) % roles, (role + (roles - 1)) % roles);
     let mut pairs = Vec::with_capacity(alloc, usize::from(roles - 1))?;
@@ -51,7 +51,7 @@ pub(crate) fn ring_pairs(alloc: Global, roles: u8, role: u8) -> Result<Vec<(u8, 
 pub(crate) fn butterfly_exchanges(alloc: Global, roles: u8) -> Result<Vec<(u8, u8)>, NoMemory>
     requires { roles ≤ MOST_ROLES }
     ensures exchanges { IfOk result (λ exchanges. exchanges.items ≡ spec.butterfly_exchanges roles) }
-    ensures few { IfOk result (λ exchanges. length exchanges.items ≤ 256) }
+    ensures bounded { IfOk result (λ exchanges. length exchanges.items ≤ 256) }
 {
     let mut exchanges = Vec::with_capacity(alloc, 4 * usize::from(roles))?;
     push_butterfly_round(&mut exchanges, roles, 1)?;
@@ -93,7 +93,7 @@ fn push_both_ways(exchanges: &mut Vec<(u8, u8)>, step: u8, role: u8) -> Result<(
 pub(crate) fn butterfly_pairs(alloc: Global, roles: u8, role: u8) -> Result<Vec<(u8, u8)>, NoMemory>
     requires { role < MOST_ROLES }
     ensures pairs { IfOk result (λ pairs. pairs.items ≡ spec.butterfly_pairs roles role) }
-    ensures few { IfOk result (λ pairs. length pairs.items ≤ 256) }
+    ensures bounded { IfOk result (λ pairs. length pairs.items ≤ 256) }
 {
     let mut pairs = Vec::with_capacity(alloc, 4)?;
     push_butterfly_pair(&mut pairs, roles, role, 1)?;

@@ -1,3 +1,5 @@
+//! Why a demo has no actors.
+
 ghost use Rattle.std.specs.Prelude.{◌≡◌};
 
 use rs_model::NoMemory;

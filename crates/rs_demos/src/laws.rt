@@ -24,17 +24,17 @@ pub fn bytes_spell_one_list_of_numbers()
     ensures { (xs ys : List ℤ) (bytes : List ℕ) → SpellsNumbers xs bytes → SpellsNumbers ys bytes → xs ≡ ys }
 {}
 
-/// A demo has actors for the bytes, or these aren't the numbers that it asks for ..
+/// A demo has actors for the bytes, or these aren't the numbers that it asks for.
 pub fn demos_have_actors_or_no_numbers()
     ensures { (kind : Demo) (bytes : List ℕ) → ((actors : List DemoActor) × StartsWithActors kind bytes actors) ⊎ HasNoNumbers kind bytes }
 {}
 
-/// .. and not both ..
+/// No demo has actors for bytes that aren't the numbers that it asks for.
 pub fn demos_with_actors_have_numbers()
     ensures { (kind : Demo) (bytes : List ℕ) (actors : List DemoActor) → StartsWithActors kind bytes actors → HasNoNumbers kind bytes → ⊥ }
 {}
 
-/// .. and the actors are one list.
+/// The actors that a demo has for the bytes are one list.
 pub fn demos_start_in_one_way()
     ensures { (kind : Demo) (bytes : List ℕ) (actors others : List DemoActor) → StartsWithActors kind bytes actors → StartsWithActors kind bytes others → actors ≡ others }
 {}
@@ -42,18 +42,22 @@ pub fn demos_start_in_one_way()
 /// Where the plain run of a demo's machines with the actors of the bytes has ended, over queues of any capacity or of
 /// none and with any limit, what is printed of the actors that it leaves is what the demo computes of the bytes.
 pub fn ended_runs_compute()
-    ensures { (kind : Demo) (bytes : List ℕ) (actors after : List DemoActor) (given : ℕ → DemoActor) (limit : ℕ) (capacity : Option ℕ) (end : Moment DemoActor) → StartsWithActors kind bytes actors → IsGiven given actors → IsPlain (demo_machines kind (length actors)) by_demo given limit capacity (Ended end) → HasActors (length actors) end.actor after → Computes kind bytes (output_of kind after) }
+    ensures { (kind : Demo) (bytes : List ℕ) (actors after : List DemoActor) (given : ℕ → DemoActor) (limit : ℕ) (capacity : Option ℕ) (end : Moment DemoActor) → StartsWithActors kind bytes actors
+        → IsGiven given actors → IsPlain (demo_machines kind (length actors)) by_demo given limit capacity (Ended end) → HasActors (length actors) end.actor after
+        → Computes kind bytes (output_of kind after) }
 {}
 
 /// No role of a demo makes 4,096 acts: only at a lower limit is a role stopped in the plain run of a demo's machines with
 /// the actors of the bytes, over queues of any capacity or of none.
 pub fn demos_are_stopped_at_low_limits_alone()
-    ensures { (kind : Demo) (bytes : List ℕ) (actors : List DemoActor) (given : ℕ → DemoActor) (limit : ℕ) (capacity : Option ℕ) (role : ℕ) (end : Moment DemoActor) → length bytes ≤ MOST_BYTES → StartsWithActors kind bytes actors → IsGiven given actors → IsPlain (demo_machines kind (length actors)) by_demo given limit capacity (Stopped role end) → limit < 4096 }
+    ensures { (kind : Demo) (bytes : List ℕ) (actors : List DemoActor) (given : ℕ → DemoActor) (limit : ℕ) (capacity : Option ℕ) (role : ℕ) (end : Moment DemoActor) → length bytes ≤ MOST_BYTES
+        → StartsWithActors kind bytes actors → IsGiven given actors → IsPlain (demo_machines kind (length actors)) by_demo given limit capacity (Stopped role end) → limit < 4096 }
 {}
 
 /// The machines that have no line in a demo's text are the projections of its protocol.
 pub fn machines_without_a_line_are_projections()
-    ensures { (kind : Demo) (count role : ℕ) (machine : Machine_data) → has_session kind count ≡ true → slice_get (demo_machines kind count) role ≡ Some machine → has_line kind role ≡ false → (sets : List (List ℕ)) × IsNumberedProjection (demo_protocol kind count) (record { 0 = role }) (record { machine = machine; sets = sets }) }
+    ensures { (kind : Demo) (count role : ℕ) (machine : Machine_data) → has_session kind count ≡ true → slice_get (demo_machines kind count) role ≡ Some machine → has_line kind role ≡ false
+        → (sets : List (List ℕ)) × IsNumberedProjection (demo_protocol kind count) (record { 0 = role }) (record { machine = machine; sets = sets }) }
 {}
 
 /// The document of a demo can be printed, so its texts are read again: its names are sound, and its protocol and its

@@ -17,6 +17,6 @@ pub use actors::DemoActor;
 pub use documents::demo_document;
 pub use faults::DemoFault;
 pub use outputs::{demo_output, into_demo_output};
-pub use parts::{ButterflyMember, Kernel, PIECE_BYTES, RingMember, Sink, Source};
+pub use parts::{ButterflyMember, Kernel, PIECE_BYTES, PieceSink, PieceSource, RingMember};
 pub use sessions::demo_session_document;
 pub use starts::demo_actors;

@@ -3,7 +3,7 @@
 ghost use Rattle.std.specs.Prelude.{◌≡◌, ◌++◌, ℤ, List, map, IfOk, OnOk, slice_get};
 ghost use Rattle.std.specs.Fmt.{signed_decimal};
 ghost use Rattle.rs_demos.specs.Outputs.{bytes_of, output_of, result_of};
-ghost use Rattle.rs_demos.specs.Printing.{joined_text, others_text};
+ghost use Rattle.rs_demos.specs.Printing.{joined_text, further_numbers_text};
 ghost use Rattle.rs_demos.specs.Results.{results_text};
 
 use crate::actors::DemoActor;
@@ -95,7 +95,7 @@ fn push_joined(alloc: Global, text: &mut Text, actors: &[DemoActor]) -> Result<(
 
 /// The results of these actors, each with a space before it.
 fn push_others(alloc: Global, text: &mut Text, actors: &[DemoActor]) -> Result<(), NoMemory>
-    ensures { OnOk result (text.new ≡ text.old ++ others_text (map result_of actors.now)) }
+    ensures { OnOk result (text.new ≡ text.old ++ further_numbers_text (map result_of actors.now)) }
 {
     for actor in actors {
         text.push(b" ")?;

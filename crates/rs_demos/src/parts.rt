@@ -13,12 +13,12 @@ pub const PIECE_BYTES: usize = 4_096;
 
 /// A role that sends bytes piece by piece: seen as the bytes that it has still to send.
 #[derive(Drop, Debug)]
-pub struct Source {
+pub struct PieceSource {
     bytes: Vec<u8>,
     sent: usize,
 }
 
-impl Model for Source {
+impl Model for PieceSource {
     ghost use Rattle.std.specs.Prelude.{ℕ, ◌≤◌, List, drop, length};
 
     ghost Value = { List ℕ };
@@ -28,11 +28,11 @@ impl Model for Source {
     ghost invariant = { λ s. s.sent ≤ length s.bytes.items };
 }
 
-impl Source {
-    pub(crate) fn new(alloc: Global, bytes: &[u8]) -> Result<Source, NoMemory>
+impl PieceSource {
+    pub(crate) fn new(alloc: Global, bytes: &[u8]) -> Result<PieceSource, NoMemory>
         ensures { IfOk result (λ s. s ≡ bytes.now) }
     {
-        Ok(Source {
+        Ok(PieceSource {
             bytes: Vec::from_slice(alloc, bytes)?,
             sent: 0,
         })
@@ -77,11 +77,11 @@ pub struct Kernel {
 
 /// A role that joins the pieces that come: seen as the bytes so far.
 #[derive(Drop, Debug)]
-pub struct Sink {
+pub struct PieceSink {
     bytes: Text,
 }
 
-impl Model for Sink {
+impl Model for PieceSink {
     ghost use Rattle.std.specs.Prelude.{ℕ, List};
 
     ghost Value = { List ℕ };
@@ -89,11 +89,11 @@ impl Model for Sink {
     ghost view = { λ s. s.bytes };
 }
 
-impl Sink {
-    pub(crate) fn new(alloc: Global) -> Sink
+impl PieceSink {
+    pub(crate) fn new(alloc: Global) -> PieceSink
         ensures { result ≡ [] }
     {
-        Sink {
+        PieceSink {
             bytes: Text::new(alloc),
         }
     }

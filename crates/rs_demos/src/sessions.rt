@@ -27,7 +27,6 @@ pub fn demo_session_document(alloc: Global, kind: Demo, count: u8) -> Result<Doc
     requires { has_session kind count ≡ true }
     ensures document { IfOk result (λ document. document ≡ document_of kind count) }
     ensures ready { IfOk result DocumentIsReady }
-    ensures roles { IfOk result (λ document. length document.names.roles ≡ document.protocol.roles) }
 {
     let names = demo_names(alloc, kind, count)?;
     let derivations = no_derivations(alloc, names.roles.as_slice())?;
@@ -81,7 +80,7 @@ fn three_names(
 }
 
 fn role_name(alloc: Global, role: u8) -> Result<Name, NoMemory>
-    ensures { IfOk result (λ name. name ≡ spec.role_name role) }
+    ensures { IfOk result (λ name. name ≡ spec.demo_role_name role) }
 {
     let mut text = Text::new(alloc);
     push_role(&mut text, role)?;
@@ -89,7 +88,7 @@ fn role_name(alloc: Global, role: u8) -> Result<Name, NoMemory>
 }
 
 fn role_names(alloc: Global, roles: u8) -> Result<Vec<Name>, NoMemory>
-    ensures { IfOk result (λ names. names.items ≡ map spec.role_name (spec.numbers_from 0 roles)) }
+    ensures { IfOk result (λ names. names.items ≡ map spec.demo_role_name (spec.numbers_from 0 roles)) }
 {
     let mut names = Vec::with_capacity(alloc, usize::from(roles))?;
     for role in 0..roles {
@@ -264,7 +263,8 @@ fn push_pair(
     before: u32,
 ) -> Result<(), NoMemory>
     requires { before ≤ 512 }
-    ensures { OnOk result (states.new.items ≡ states.old.items ++ state.Puts (spec.role pair.0) (spec.arm 0 Sort.Whole (before + 1) ∷ []) ∷ state.Takes (spec.role pair.1) (spec.arm 0 Sort.Whole (before + 2) ∷ []) ∷ []) }
+    ensures { OnOk result (states.new.items ≡ states.old.items ++ state.Puts (spec.role pair.0) (spec.arm 0 Sort.Whole (before + 1) ∷ []) ∷ state.Takes (spec.role pair.1)
+        (spec.arm 0 Sort.Whole (before + 2) ∷ []) ∷ []) }
 {
     let (to, from) = pair;
     states.push(puts(to, number_arm(alloc, before + 1)?))?;

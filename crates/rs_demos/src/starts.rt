@@ -10,7 +10,7 @@ ghost use Rattle.rs_demos.specs.declared.actors.DemoActor.TheVariants as actor;
 use crate::actors::DemoActor;
 use crate::faults::DemoFault;
 use crate::numbers::numbers_of;
-use crate::parts::{ButterflyMember, Kernel, RingMember, Sink, Source};
+use crate::parts::{ButterflyMember, Kernel, PieceSink, PieceSource, RingMember};
 use rs_model::{Demo, NoMemory};
 use std::alloc::Global;
 
@@ -64,8 +64,8 @@ fn double_actors(alloc: Global, bytes: &[u8]) -> Result<Vec<DemoActor>, NoMemory
 {
     let mut actors = Vec::new(alloc);
     actors.push(DemoActor::Kernel(Kernel { piece: None }))?;
-    actors.push(DemoActor::Source(Source::new(alloc, bytes)?))?;
-    actors.push(DemoActor::Sink(Sink::new(alloc)))?;
+    actors.push(DemoActor::Source(PieceSource::new(alloc, bytes)?))?;
+    actors.push(DemoActor::Sink(PieceSink::new(alloc)))?;
     Ok(actors)
 }
 
@@ -73,8 +73,8 @@ fn stream_actors(alloc: Global, bytes: &[u8]) -> Result<Vec<DemoActor>, NoMemory
     ensures { IfOk result (λ actors. actors.items ≡ actor.Source bytes.now ∷ actor.Sink [] ∷ []) }
 {
     let mut actors = Vec::new(alloc);
-    actors.push(DemoActor::Source(Source::new(alloc, bytes)?))?;
-    actors.push(DemoActor::Sink(Sink::new(alloc)))?;
+    actors.push(DemoActor::Source(PieceSource::new(alloc, bytes)?))?;
+    actors.push(DemoActor::Sink(PieceSink::new(alloc)))?;
     Ok(actors)
 }
 

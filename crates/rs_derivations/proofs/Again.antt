@@ -1,5 +1,6 @@
 -- The canonical text of a derivation spells it.
-use Rattle.std.proofs.Common.{◌≡◌, ℕ, suc, ◌+◌, ◌<◌, ◌≤◌, List, [], ◌∷◌, ◌++◌, length, map, drop, get_or, Bool, true, if◌then◌else◌, Some, refl, sym, ap, ◌∙◌, subst, append-nil, length-append, length-drop, arith}
+use Rattle.std.proofs.Common.{◌≡◌, ℕ, suc, ◌+◌, ◌<◌, ◌≤◌, List, [], ◌∷◌, ◌++◌, length, map, drop, get_or, Bool, true, if◌then◌else◌, Some, refl, sym, ap, ◌∙◌, subst, append-nil, length-append}
+use Rattle.std.proofs.Common.{length-drop, arith}
 use Rattle.std.proofs.lemmas.List.{length-map}
 use Rattle.std.proofs.lemmas.List.Elements.{All-head, All-tail}
 use Rattle.std.proofs.lemmas.List.Folds.{list_all-append}
@@ -28,9 +29,10 @@ use Rattle.rs_text.proofs.Nexts.{exists, are_lexed, lexed_are}
 use Rattle.rs_text.proofs.Basics.{both, two_true}
 use Rattle.rs_text.proofs.Written.{written_cut}
 use Rattle.rs_derivations.specs.Canonical.{tree_of_act, tree_of_node, tree_of, canonical_text}
-use Rattle.rs_derivations.specs.Derivations.{labels_of_acts, labels_of_node, labels_of_nodes, peers_of_acts, peers_of_node, peers_of_nodes, names_of, role_named, label_named, act_of, node_of, derivation_of}
+use Rattle.rs_derivations.specs.Derivations.{labels_of_acts, labels_of_node, labels_of_nodes, peers_of_acts, peers_of_node, peers_of_nodes, names_of, role_named, label_named, act_of_tree}
+use Rattle.rs_derivations.specs.Derivations.{node_of_tree, derivation_of}
 use Rattle.rs_derivations.specs.Numbers.{HasSmallNumbers, AreSmall}
-use Rattle.rs_derivations.specs.Printable.{peer_of, label_of, IsPrintable}
+use Rattle.rs_derivations.specs.Printable.{peer_of, label_number, IsPrintable}
 use Rattle.rs_derivations.specs.Spells.{Fits, SpellsDerivation}
 use Rattle.rs_derivations.specs.Trees.{derivation_signs}
 use Rattle.rs_derivations.proofs.Spelt.{one_spelling}
@@ -45,7 +47,7 @@ name_is names k h = ap text_or_none (slice_get-get_or names k [] h)
 place_at : (names : List (List ℕ)) (k : ℕ) → AllPairs (λ x y. x ≢ y) names → k < length names → place_of (name_at names k) names ≡ Some k
 place_at names k differ h =
     let first : StandsFirst (get_or names k []) names k = record {
-      there = slice_get-get_or names k [] h;
+      present = slice_get-get_or names k [] h;
       first = λ j lt e. differ j k [] lt h (get_or_from_slice_get names j (get_or names k []) [] e);
     } in
     ap (λ z. place_of z names) (name_is names k h) ∙ (place_law (get_or names k []) names k).1 first
@@ -73,17 +75,21 @@ label_back : (names : Names_data) (l : Label) → IsSound names → l.0 < length
 label_back names l sound h = let label : ℕ → Label = λ n. record { 0 = n } in ap (λ z. label (number_or z)) (place_at names.labels l.0 sound.labels_differ h)
 
 abbrev IsNamed : Names_data → Act → Type 0
-IsNamed names a = (peer_of a < length names.roles) × (label_of a < length names.labels)
+IsNamed names a = (peer_of a < length names.roles) × (label_number a < length names.labels)
 
-act_back : (names : Names_data) (a : Act) → IsSound names → IsNamed names a → act_of names (tree_of_act names a) ≡ a
-act_back names (Puts p l s) sound h = ap (λ z. Puts z (label_named names (name_at names.labels l.0)) (sort_or_unit (shown_sort s))) (role_back names p sound h.0) ∙ ap (λ z. Puts p z (sort_or_unit (shown_sort s))) (label_back names l sound h.1) ∙ ap (λ z. Puts p l z) (sort_back s)
-act_back names (Takes p l s) sound h = ap (λ z. Takes z (label_named names (name_at names.labels l.0)) (sort_or_unit (shown_sort s))) (role_back names p sound h.0) ∙ ap (λ z. Takes p z (sort_or_unit (shown_sort s))) (label_back names l sound h.1) ∙ ap (λ z. Takes p l z) (sort_back s)
+act_back : (names : Names_data) (a : Act) → IsSound names → IsNamed names a → act_of_tree names (tree_of_act names a) ≡ a
+act_back names (Puts p l s) sound h =
+    ap (λ z. Puts z (label_named names (name_at names.labels l.0)) (sort_or_unit (shown_sort s))) (role_back names p sound h.0)
+    ∙ ap (λ z. Puts p z (sort_or_unit (shown_sort s))) (label_back names l sound h.1) ∙ ap (λ z. Puts p l z) (sort_back s)
+act_back names (Takes p l s) sound h =
+    ap (λ z. Takes z (label_named names (name_at names.labels l.0)) (sort_or_unit (shown_sort s))) (role_back names p sound h.0)
+    ∙ ap (λ z. Takes p z (sort_or_unit (shown_sort s))) (label_back names l sound h.1) ∙ ap (λ z. Takes p l z) (sort_back s)
 
 act_peer : (names : Names_data) (a : Act) → (tree_of_act names a).peer ≡ name_at names.roles (peer_of a)
 act_peer names (Puts p l s) = refl
 act_peer names (Takes p l s) = refl
 
-act_label : (names : Names_data) (a : Act) → (tree_of_act names a).label ≡ name_at names.labels (label_of a)
+act_label : (names : Names_data) (a : Act) → (tree_of_act names a).label ≡ name_at names.labels (label_number a)
 act_label names (Puts p l s) = refl
 act_label names (Takes p l s) = refl
 
@@ -99,48 +105,57 @@ all_parts : (P : Act → Type 0) (xs ys : List Act) → All P (xs ++ ys) → All
 all_parts P [] ys h = h
 all_parts P (x ∷ xs) ys h = all_parts P xs ys (All-tail P x (xs ++ ys) h)
 
-acts_named : (names : Names_data) (acts more : List Act) → All (λ a. peer_of a < length names.roles) (acts ++ more) → All (λ a. label_of a < length names.labels) (acts ++ more) → AreNamed names acts
+acts_named : (names : Names_data) (acts more : List Act) → All (λ a. peer_of a < length names.roles) (acts ++ more) → All (λ a. label_number a < length names.labels) (acts ++ more)
+    → AreNamed names acts
 acts_named names [] more p l = tt
 acts_named names (a ∷ acts) more p l = (
-  (All-head (λ a. peer_of a < length names.roles) a (acts ++ more) p, All-head (λ a. label_of a < length names.labels) a (acts ++ more) l),
-  acts_named names acts more (All-tail (λ a. peer_of a < length names.roles) a (acts ++ more) p) (All-tail (λ a. label_of a < length names.labels) a (acts ++ more) l),
+  (All-head (λ a. peer_of a < length names.roles) a (acts ++ more) p, All-head (λ a. label_number a < length names.labels) a (acts ++ more) l),
+  acts_named names acts more (All-tail (λ a. peer_of a < length names.roles) a (acts ++ more) p) (All-tail (λ a. label_number a < length names.labels) a (acts ++ more) l),
 )
 
 abbrev pendings : List DNode_data → List Act
 pendings ns = flat_map (λ (n : DNode_data). n.pending) ns
 
-nodes_named : (names : Names_data) (ns : List DNode_data) → All (λ a. peer_of a < length names.roles) (pendings ns) → All (λ a. label_of a < length names.labels) (pendings ns) → NodesNamed names ns
+nodes_named : (names : Names_data) (ns : List DNode_data) → All (λ a. peer_of a < length names.roles) (pendings ns) → All (λ a. label_number a < length names.labels) (pendings ns)
+    → NodesNamed names ns
 nodes_named names [] p l = tt
-nodes_named names (n ∷ ns) p l = (acts_named names n.pending (pendings ns) p l, nodes_named names ns (all_parts (λ a. peer_of a < length names.roles) n.pending (pendings ns) p) (all_parts (λ a. label_of a < length names.labels) n.pending (pendings ns) l))
+nodes_named names (n ∷ ns) p l = (
+  acts_named names n.pending (pendings ns) p l,
+  nodes_named names ns (all_parts (λ a. peer_of a < length names.roles) n.pending (pendings ns) p)
+      (all_parts (λ a. label_number a < length names.labels) n.pending (pendings ns) l),
+)
 
-acts_back : (names : Names_data) (acts : List Act) → IsSound names → AreNamed names acts → map (act_of names) (map (tree_of_act names) acts) ≡ acts
+acts_back : (names : Names_data) (acts : List Act) → IsSound names → AreNamed names acts → map (act_of_tree names) (map (tree_of_act names) acts) ≡ acts
 acts_back names [] sound h = refl
-acts_back names (a ∷ acts) sound h = ap (λ z. z ∷ map (act_of names) (map (tree_of_act names) acts)) (act_back names a sound h.0) ∙ ap (λ z. a ∷ z) (acts_back names acts sound h.1)
+acts_back names (a ∷ acts) sound h = ap (λ z. z ∷ map (act_of_tree names) (map (tree_of_act names) acts)) (act_back names a sound h.0) ∙ ap (λ z. a ∷ z) (acts_back names acts sound h.1)
 
-nodes_back : (names : Names_data) (ns : List DNode_data) → IsSound names → NodesNamed names ns → map (node_of names) (map (tree_of_node names) ns) ≡ ns
+nodes_back : (names : Names_data) (ns : List DNode_data) → IsSound names → NodesNamed names ns → map (node_of_tree names) (map (tree_of_node names) ns) ≡ ns
 nodes_back names [] sound h = refl
 nodes_back names (n ∷ ns) sound h =
-    ap (λ z. record { state = n.state; pending = z; above = n.above; rank = n.rank; next = n.next } ∷ map (node_of names) (map (tree_of_node names) ns)) (acts_back names n.pending sound h.0) ∙ ap (λ z. n ∷ z) (nodes_back names ns sound h.1)
+    ap (λ z. record { state = n.state; pending = z; above = n.above; rank = n.rank; next = n.next } ∷ map (node_of_tree names) (map (tree_of_node names) ns)) (acts_back names n.pending sound h.0)
+    ∙ ap (λ z. n ∷ z) (nodes_back names ns sound h.1)
 
 derivation_back : (names : Names_data) (d : Derivation_data) → IsSound names → IsPrintable names d → NodesNamed names d.nodes → derivation_of names (tree_of names d) ≡ d
 derivation_back names d sound p named =
-    ap (λ z. record { role = z; bound = d.bound; nodes = map (node_of names) (map (tree_of_node names) d.nodes) }) (role_back names d.role sound p.roles.role)
+    ap (λ z. record { role = z; bound = d.bound; nodes = map (node_of_tree names) (map (tree_of_node names) d.nodes) }) (role_back names d.role sound p.roles.role)
     ∙ ap (λ z. record { role = d.role; bound = d.bound; nodes = z }) (nodes_back names d.nodes sound named)
 
 -- ---- names that are known
 
-acts_known : (names : Names_data) (acts : List Act) → IsSound names → AreNamed names acts → Known names.roles (peers_of_acts (map (tree_of_act names) acts)) × Known names.labels (labels_of_acts (map (tree_of_act names) acts))
+acts_known : (names : Names_data) (acts : List Act) → IsSound names → AreNamed names acts
+    → Known names.roles (peers_of_acts (map (tree_of_act names) acts)) × Known names.labels (labels_of_acts (map (tree_of_act names) acts))
 acts_known names [] sound h = (refl, refl)
 acts_known names (a ∷ acts) sound h =
     let k = acts_known names acts sound h.1 in
     let p : is_among (tree_of_act names a).peer names.roles ≡ true = ap (λ z. is_among z names.roles) (act_peer names a) ∙ there names.roles (peer_of a) sound.roles_differ h.0.0 in
-    let l : is_among (tree_of_act names a).label names.labels ≡ true = ap (λ z. is_among z names.labels) (act_label names a) ∙ there names.labels (label_of a) sound.labels_differ h.0.1 in
+    let l : is_among (tree_of_act names a).label names.labels ≡ true = ap (λ z. is_among z names.labels) (act_label names a) ∙ there names.labels (label_number a) sound.labels_differ h.0.1 in
     (two_true (is_among (tree_of_act names a).peer names.roles) _ p k.0, two_true (is_among (tree_of_act names a).label names.labels) _ l k.1)
 
 known_both : (names xs ys : List (List ℕ)) → Known names xs → Known names ys → Known names (xs ++ ys)
 known_both names xs ys h k = list_all-append (λ x. is_among x names) xs ys ∙ two_true (list_all (λ x. is_among x names) xs) (list_all (λ x. is_among x names) ys) h k
 
-nodes_known : (names : Names_data) (ns : List DNode_data) → IsSound names → NodesNamed names ns → Known names.roles (peers_of_nodes (map (tree_of_node names) ns)) × Known names.labels (labels_of_nodes (map (tree_of_node names) ns))
+nodes_known : (names : Names_data) (ns : List DNode_data) → IsSound names → NodesNamed names ns
+    → Known names.roles (peers_of_nodes (map (tree_of_node names) ns)) × Known names.labels (labels_of_nodes (map (tree_of_node names) ns))
 nodes_known names [] sound h = (refl, refl)
 nodes_known names (n ∷ ns) sound h =
     let a = acts_known names n.pending sound h.0 in
@@ -160,16 +175,19 @@ named names d p = nodes_named names d.nodes p.roles.peers p.labels
 
 -- the canonical text has no new labels
 pub no_new_labels : (names : Names_data) (d : Derivation_data) → IsSound names → IsPrintable names d → names_of names (tree_of names d) ≡ names
-no_new_labels names d sound p = ap (λ z. record { roles = names.roles; labels = z }) (grown_same (labels_of_nodes (map (tree_of_node names) d.nodes)) names.labels (nodes_known names d.nodes sound (named names d p)).1)
+no_new_labels names d sound p =
+    ap (λ z. record { roles = names.roles; labels = z }) (grown_same (labels_of_nodes (map (tree_of_node names) d.nodes)) names.labels (nodes_known names d.nodes sound (named names d p)).1)
 
-fits : (old names : Names_data) (d : Derivation_data) → IsSound names → IsPrintable names d → old.roles ≡ names.roles → length (names_of old (tree_of names d)).labels ≤ MOST_LABELS → Fits old (tree_of names d)
+fits : (old names : Names_data) (d : Derivation_data) → IsSound names → IsPrintable names d → old.roles ≡ names.roles → length (names_of old (tree_of names d)).labels ≤ MOST_LABELS
+    → Fits old (tree_of names d)
 fits old names d sound p roles few =
     let size = length-map d.nodes (tree_of_node names) in
     let some = p.some in
     let all = p.nodes in
     record {
       formed = record { bound = p.bound; some = omega arith };
-      roles = subst (λ (z : List (List ℕ)). list_all (λ x. is_among x z) (name_at names.roles d.role.0 ∷ peers_of_nodes (map (tree_of_node names) d.nodes)) ≡ true) (sym roles) (two_true (is_among (name_at names.roles d.role.0) names.roles) _ (there names.roles d.role.0 sound.roles_differ p.roles.role) (nodes_known names d.nodes sound (named names d p)).0);
+      roles = subst (λ (z : List (List ℕ)). list_all (λ x. is_among x z) (name_at names.roles d.role.0 ∷ peers_of_nodes (map (tree_of_node names) d.nodes)) ≡ true) (sym roles)
+          (two_true (is_among (name_at names.roles d.role.0) names.roles) _ (there names.roles d.role.0 sound.roles_differ p.roles.role) (nodes_known names d.nodes sound (named names d p)).0);
       labels = few;
       nodes = omega arith;
     }
@@ -179,7 +197,11 @@ fits old names d sound p roles few =
 acts_words : (names : Names_data) (acts : List Act) → IsSound names → AreNamed names acts → AreActsWritable (map (tree_of_act names) acts)
 acts_words names [] sound h = tt
 acts_words names (a ∷ acts) sound h = (
-  (ap is_role_word (act_peer names a) ∙ word_at is_role_word names.roles (peer_of a) sound.roles_are_words h.0.0, ap is_word (act_label names a) ∙ word_at is_word names.labels (label_of a) sound.labels_are_words h.0.1),
+  (
+    ap is_role_word (act_peer names a) ∙ word_at is_role_word names.roles (peer_of a) sound.roles_are_words h.0.0,
+    ap is_word (act_label names a)
+        ∙ word_at is_word names.labels (label_number a) sound.labels_are_words h.0.1,
+  ),
   acts_words names acts sound h.1,
 )
 
@@ -187,7 +209,8 @@ numbers_small : (ns : List ℕ) → All (λ k. k ≤ MOST_NUMBER) ns → AreNumb
 numbers_small [] h = tt
 numbers_small (n ∷ ns) h = (All-head (λ k. k ≤ MOST_NUMBER) n ns h, numbers_small ns (All-tail (λ k. k ≤ MOST_NUMBER) n ns h))
 
-nodes_words : (names : Names_data) (n : ℕ) (ns : List DNode_data) → IsSound names → NodesNamed names ns → All HasSmallNumbers ns → n + length ns ≤ MOST_CANDIDATES → AreNodesWritable n (map (tree_of_node names) ns)
+nodes_words : (names : Names_data) (n : ℕ) (ns : List DNode_data) → IsSound names → NodesNamed names ns → All HasSmallNumbers ns → n + length ns ≤ MOST_CANDIDATES
+    → AreNodesWritable n (map (tree_of_node names) ns)
 nodes_words names n [] sound h s le = tt
 nodes_words names n (x ∷ ns) sound h s le =
     let small = All-head HasSmallNumbers x ns s in (
@@ -238,14 +261,16 @@ pub spells_the_derivation : (names : Names_data) (d : Derivation_data) → IsSou
 spells_the_derivation names d sound p = derivation_back names d sound p (named names d p)
 
 -- with any older names that have its roles, where the labels stay few
-pub read_with_older : (old names : Names_data) (d : Derivation_data) (bytes : List ℕ) (at : ℕ) (rest : List ℕ) → IsSound names → IsPrintable names d → AreSmall d → old.roles ≡ names.roles → length (names_of old (tree_of names d)).labels ≤ MOST_LABELS
+pub read_with_older : (old names : Names_data) (d : Derivation_data) (bytes : List ℕ) (at : ℕ) (rest : List ℕ) → IsSound names → IsPrintable names d → AreSmall d → old.roles ≡ names.roles
+    → length (names_of old (tree_of names d)).labels ≤ MOST_LABELS
     → drop at bytes ≡ canonical_text names d ++ rest
     → SpellsDerivation bytes at old (names_of old (tree_of names d)) (derivation_of (names_of old (tree_of names d)) (tree_of names d)) (next_lexeme bytes (at + length (canonical_text names d))).from
 read_with_older old names d bytes at rest sound p small roles few parts =
     let t = exists bytes (at + length (canonical_text names d)) (reaches bytes at (canonical_text names d) rest (omega arith) parts) in
     spells_with t.0 bytes at old names d rest (writable names d sound p small) (fits old names d sound p roles few) parts (are_lexed bytes t.0 (at + length (canonical_text names d)) t.1)
 
-pub read_again : (old names : Names_data) (d : Derivation_data) (bytes : List ℕ) (at : ℕ) (rest : List ℕ) → IsSound names → IsPrintable names d → AreSmall d → length names.labels ≤ MOST_LABELS → names_of old (tree_of names d) ≡ names → drop at bytes ≡ canonical_text names d ++ rest
+pub read_again : (old names : Names_data) (d : Derivation_data) (bytes : List ℕ) (at : ℕ) (rest : List ℕ) → IsSound names → IsPrintable names d → AreSmall d → length names.labels ≤ MOST_LABELS
+    → names_of old (tree_of names d) ≡ names → drop at bytes ≡ canonical_text names d ++ rest
     → SpellsDerivation bytes at old names d (next_lexeme bytes (at + length (canonical_text names d))).from
 read_again old names d bytes at rest sound p small few e parts =
     let few' : length (names_of old (tree_of names d)).labels ≤ MOST_LABELS = subst (λ (z : Names_data). length z.labels ≤ MOST_LABELS) (sym e) few in
@@ -255,7 +280,8 @@ read_again old names d bytes at rest sound p small few e parts =
     (subst (λ (z : Names_data). SpellsDerivation bytes at old z (derivation_of z (tree_of names d)) until) e spelt)
 
 -- what is read from it is printed as it
-pub printed_again : (names new : Names_data) (d e : Derivation_data) (until : ℕ) → IsSound names → IsPrintable names d → AreSmall d → length names.labels ≤ MOST_LABELS → SpellsDerivation (canonical_text names d) 0 names new e until → canonical_text new e ≡ canonical_text names d
+pub printed_again : (names new : Names_data) (d e : Derivation_data) (until : ℕ) → IsSound names → IsPrintable names d → AreSmall d → length names.labels ≤ MOST_LABELS
+    → SpellsDerivation (canonical_text names d) 0 names new e until → canonical_text new e ≡ canonical_text names d
 printed_again names new d e until sound p small few s =
     let text : List ℕ = canonical_text names d in
     let own = read_again names names d text 0 [] sound p small few (no_new_labels names d sound p) (sym (append-nil text)) in

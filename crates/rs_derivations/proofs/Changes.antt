@@ -1,22 +1,25 @@
 -- What a token adds to the names and the nodes before a place, and the rule that it may break there.
-use Rattle.std.proofs.Common.{◌≡◌, ◌⊎◌, inl, inr, ℕ, suc, ◌+◌, List, [], ◌∷◌, ◌++◌, codes, length, Bool, true, false, ◌&&◌, ◌==◌, nat_le, if◌then◌else◌, Option, Some, None, IfSome, refl, sym, ap, ◌∙◌, append_assoc, append-nil, length-append, arith}
+use Rattle.std.proofs.Common.{◌≡◌, ◌⊎◌, inl, inr, ℕ, suc, ◌+◌, List, [], ◌∷◌, ◌++◌, codes, length, Bool, true, false, ◌&&◌, ◌==◌, nat_le, if◌then◌else◌, Option, Some, None, IfSome, refl, sym, ap}
+use Rattle.std.proofs.Common.{◌∙◌, append_assoc, append-nil, length-append, arith}
 use Rattle.std.proofs.lemmas.Grind.{flat_map-append}
 use Rattle.std.proofs.lemmas.List.{map-append}
 use Rattle.std.specs.Option.{option_map}
 use Rattle.rs_model.specs.Data.{Names_data}
 use Rattle.rs_model.specs.declared.limits.TheConstants.{MOST_CANDIDATES}
 use Rattle.rs_model.specs.declared.values.Sort.{Sort}
-use Rattle.rs_prefix.specs.declared.earliest.Kind.{Kind}
+use Rattle.rs_prefix.specs.declared.earliest.ActKind.{ActKind}
 use Rattle.rs_text.specs.declared.faults.TextKind.TheVariants as kind
 use Rattle.rs_text.specs.Names.{names_with}
 use Rattle.rs_text.specs.Seen.{plain_text, word_text, sort_named}
 use Rattle.rs_text.specs.Signs.{Sign}
-use Rattle.rs_derivations.specs.Cuts.{ActCut, behind_peer, behind_mark, behind_label, behind_paren, behind_sort, NodeCut, at_number, at_colon, at_state, at_acts, at_act, in_act, behind_act, at_above, at_rank_word, at_rank, at_next_word, at_nexts, at_next, behind_next, Cut, at_begin, at_role, at_bound_word, at_bound, at_brace, in_nodes, at_end}
+use Rattle.rs_derivations.specs.Cuts.{ActCut, behind_peer, behind_mark, behind_label, behind_paren, behind_sort, NodeCut, at_number, at_colon, at_state, at_acts, at_act, in_act, behind_act, at_above}
+use Rattle.rs_derivations.specs.Cuts.{at_rank_word, at_rank, at_next_word, at_nexts, at_next, behind_next, Cut, at_begin, at_role, at_bound_word, at_bound, at_brace, in_nodes, at_end}
 use Rattle.rs_derivations.specs.Derivations.{labels_of_acts, labels_of_node, labels_of_nodes, peers_of_acts, peers_of_node, peers_of_nodes}
 use Rattle.rs_derivations.specs.Faults.{number_value, fault_of_role, fault_of_label, fault_of_node, fault_of}
 use Rattle.rs_derivations.specs.Feeding.{is_colon, is_comma, is_open_brace, is_close_brace, is_open_bracket, is_close_bracket, is_keyword, mark_kind, is_none_of, is_some_of, is_bound}
 use Rattle.rs_derivations.specs.Trees.{ActTree, NodeTree}
-use Rattle.rs_derivations.proofs.Grows.{is_open_paren, is_close_paren, Grown, stays, ends, closes, act_tree, node_tree, derivation_tree, acted, number_step, state_step, act_step, mark_step, label_step, sorted_step, sort_step, above_step, rank_step, next_step, act_grows, node_grows, grown_to, role_step, bound_step, grows}
+use Rattle.rs_derivations.proofs.Grows.{is_open_paren, is_close_paren, Grown, stays, ends, closes, act_tree, node_tree, derivation_tree, acted, number_step, state_step, act_step, mark_step}
+use Rattle.rs_derivations.proofs.Grows.{label_step, sorted_step, sort_step, above_step, rank_step, next_step, act_grows, node_grows, grown_to, role_step, bound_step, grows}
 
 -- ---- names and nodes before a place
 
@@ -155,7 +158,9 @@ acted_count : (n s : ℕ) (acts : List ActTree) (a : ActTree) → count_at n (ac
 acted_count n s [] a = refl
 acted_count n s (y ∷ ys) a = refl
 
-act_ends : (old : Names_data) (x : List ℕ) (b : ℕ) (ns : List NodeTree) (s : ℕ) (acts : List ActTree) (cut : ActCut) (a : ActTree) (t : Sign) → fault_of old (in_nodes x b ns (in_act s acts cut)) t ≡ None → peer_of cut ≡ a.peer → labels_before acts cut ≡ labels_of_acts acts ++ a.label ∷ [] → To old x b ns (in_act s acts cut) t (stays (acted s acts a))
+act_ends : (old : Names_data) (x : List ℕ) (b : ℕ) (ns : List NodeTree) (s : ℕ) (acts : List ActTree) (cut : ActCut) (a : ActTree) (t : Sign)
+    → fault_of old (in_nodes x b ns (in_act s acts cut)) t ≡ None → peer_of cut ≡ a.peer → labels_before acts cut ≡ labels_of_acts acts ++ a.label ∷ []
+    → To old x b ns (in_act s acts cut) t (stays (acted s acts a))
 act_ends old x b ns s acts cut a t f e l = same old (in_nodes x b ns (in_act s acts cut)) t (in_nodes x b ns (acted s acts a)) f
     (ap (λ z. x ∷ (peers_of_nodes ns ++ z)) (acted_peers s acts a ∙ ap (λ z. peers_of_acts acts ++ z ∷ []) (sym e)))
     (ap (λ z. labels_of_nodes ns ++ z) (acted_labels s acts a ∙ sym l))
@@ -167,13 +172,15 @@ node_labels ns n = append-nil (labels_of_nodes (ns ++ n ∷ [])) ∙ flat_map-ap
 node_peers : (ns : List NodeTree) (n : NodeTree) → peers_of_nodes (ns ++ n ∷ []) ++ [] ≡ peers_of_nodes ns ++ peers_of_node n
 node_peers ns n = append-nil (peers_of_nodes (ns ++ n ∷ [])) ∙ flat_map-append peers_of_node ns (n ∷ []) ∙ ap (λ z. peers_of_nodes ns ++ z) (append-nil (peers_of_node n))
 
-node_ends : (old : Names_data) (x : List ℕ) (b : ℕ) (ns : List NodeTree) (p : NodeCut) (n : NodeTree) (t : Sign) → fault_of old (in_nodes x b ns p) t ≡ None → peers_at p ≡ peers_of_node n → labels_at p ≡ labels_of_node n → count_at (length ns) p ≡ suc (length ns) → To old x b ns p t (ends n)
+node_ends : (old : Names_data) (x : List ℕ) (b : ℕ) (ns : List NodeTree) (p : NodeCut) (n : NodeTree) (t : Sign) → fault_of old (in_nodes x b ns p) t ≡ None → peers_at p ≡ peers_of_node n
+    → labels_at p ≡ labels_of_node n → count_at (length ns) p ≡ suc (length ns) → To old x b ns p t (ends n)
 node_ends old x b ns p n t f e l k = same old (in_nodes x b ns p) t (in_nodes x b (ns ++ n ∷ []) at_number) f
     (ap (λ z. x ∷ z) (node_peers ns n ∙ ap (λ z. peers_of_nodes ns ++ z) (sym e)))
     (node_labels ns n ∙ ap (λ z. labels_of_nodes ns ++ z) (sym l))
     (length-append ns (n ∷ []) ∙ omega arith ∙ sym k)
 
-node_kept : (old : Names_data) (x : List ℕ) (b : ℕ) (ns : List NodeTree) (p q : NodeCut) (t : Sign) → fault_of old (in_nodes x b ns p) t ≡ None → peers_at q ≡ peers_at p → labels_at q ≡ labels_at p → count_at (length ns) q ≡ count_at (length ns) p → To old x b ns p t (stays q)
+node_kept : (old : Names_data) (x : List ℕ) (b : ℕ) (ns : List NodeTree) (p q : NodeCut) (t : Sign) → fault_of old (in_nodes x b ns p) t ≡ None → peers_at q ≡ peers_at p → labels_at q ≡ labels_at p
+    → count_at (length ns) q ≡ count_at (length ns) p → To old x b ns p t (stays q)
 node_kept old x b ns p q t f e l k = same old (in_nodes x b ns p) t (in_nodes x b ns q) f (ap (λ z. x ∷ (peers_of_nodes ns ++ z)) e) (ap (λ z. labels_of_nodes ns ++ z) l) k
 
 count_fault : (count n : ℕ) → (n == count) ≡ true → fault_of_node count (Some n) ≡ (if nat_le MOST_CANDIDATES count then Some kind.TooManyNodes else None)
@@ -184,59 +191,84 @@ numbers_change old x b ns t (Some n) e = if_change (n == length ns) (stays at_co
   fault = ap (λ z. fault_of_node (length ns) z) e ∙ count_fault (length ns) n h;
   adds = record { roles_are = sym (append-nil (x ∷ (peers_of_nodes ns ++ []))); labels_are = sym (append-nil (labels_of_nodes ns ++ [])); count_is = omega arith };
 }))))
-numbers_change old x b ns t None e = if_change (is_close_brace t && is_some_of ns) closes _ (λ h. same old (in_nodes x b ns at_number) t (at_end (derivation_tree x b ns)) (ap (λ z. fault_of_node (length ns) z) e)
+numbers_change old x b ns t None e =
+    if_change (is_close_brace t && is_some_of ns) closes _ (λ h. same old (in_nodes x b ns at_number) t (at_end (derivation_tree x b ns)) (ap (λ z. fault_of_node (length ns) z) e)
     (ap (λ z. x ∷ z) (sym (append-nil (peers_of_nodes ns)))) (sym (append-nil (labels_of_nodes ns))) refl)
 
 states_change : (old : Names_data) (x : List ℕ) (b : ℕ) (ns : List NodeTree) (t : Sign) (o : Option ℕ) → IfSome (state_step o) (To old x b ns at_state t)
 states_change old x b ns t None = tt
 states_change old x b ns t (Some n) = node_kept old x b ns at_state (at_acts n) t refl refl refl refl
 
-peers_more : (x : List ℕ) (ns : List NodeTree) (acts : List ActTree) (w : List ℕ) → x ∷ (peers_of_nodes ns ++ (peers_of_acts acts ++ w ∷ [])) ≡ (x ∷ (peers_of_nodes ns ++ peers_of_acts acts)) ++ w ∷ []
+peers_more : (x : List ℕ) (ns : List NodeTree) (acts : List ActTree) (w : List ℕ)
+    → x ∷ (peers_of_nodes ns ++ (peers_of_acts acts ++ w ∷ [])) ≡ (x ∷ (peers_of_nodes ns ++ peers_of_acts acts)) ++ w ∷ []
 peers_more x ns acts w = ap (λ z. x ∷ z) (sym (append_assoc (peers_of_nodes ns) (peers_of_acts acts) (w ∷ [])))
 
-peers_change : (old : Names_data) (x : List ℕ) (b : ℕ) (ns : List NodeTree) (s : ℕ) (acts : List ActTree) (t : Sign) (o : Option (List ℕ)) → plain_text t ≡ o → IfSome (act_step s acts o (is_close_bracket t)) (To old x b ns (at_act s acts) t)
-peers_change old x b ns s acts t (Some w) e = inr (inl (record { name = w; fault = ap (fault_of_role old) e; adds = record { roles_are = peers_more x ns acts w; labels_are = sym (append-nil (labels_of_nodes ns ++ labels_of_acts acts)); count_is = omega arith } }))
-peers_change old x b ns s acts t None e = if_change (is_close_bracket t && is_none_of acts) (stays (at_above s acts)) _ (λ h. node_kept old x b ns (at_act s acts) (at_above s acts) t (ap (fault_of_role old) e) refl refl refl)
+peers_change : (old : Names_data) (x : List ℕ) (b : ℕ) (ns : List NodeTree) (s : ℕ) (acts : List ActTree) (t : Sign) (o : Option (List ℕ)) → plain_text t ≡ o
+    → IfSome (act_step s acts o (is_close_bracket t)) (To old x b ns (at_act s acts) t)
+peers_change old x b ns s acts t (Some w) e =
+    inr (inl (record {
+      name = w;
+      fault = ap
+          (fault_of_role old) e;
+      adds = record { roles_are = peers_more x ns acts w; labels_are = sym (append-nil (labels_of_nodes ns ++ labels_of_acts acts)); count_is = omega arith };
+    }))
+peers_change old x b ns s acts t None e =
+    if_change (is_close_bracket t && is_none_of acts) (stays (at_above s acts)) _ (λ h. node_kept old x b ns (at_act s acts) (at_above s acts) t (ap (fault_of_role old) e) refl refl refl)
 
-marks_change : (old : Names_data) (x : List ℕ) (b : ℕ) (ns : List NodeTree) (s : ℕ) (acts : List ActTree) (p : List ℕ) (t : Sign) (o : Option Kind) → IfSome (mark_step s acts p o) (To old x b ns (in_act s acts (behind_peer p)) t)
+marks_change : (old : Names_data) (x : List ℕ) (b : ℕ) (ns : List NodeTree) (s : ℕ) (acts : List ActTree) (p : List ℕ) (t : Sign) (o : Option ActKind)
+    → IfSome (mark_step s acts p o) (To old x b ns (in_act s acts (behind_peer p)) t)
 marks_change old x b ns s acts p t None = tt
 marks_change old x b ns s acts p t (Some k) = node_kept old x b ns (in_act s acts (behind_peer p)) (in_act s acts (behind_mark p k)) t refl refl refl refl
 
-labels_change : (old : Names_data) (x : List ℕ) (b : ℕ) (ns : List NodeTree) (s : ℕ) (acts : List ActTree) (p : List ℕ) (k : Kind) (t : Sign) (o : Option (List ℕ)) → word_text t ≡ o → IfSome (label_step s acts p k o) (To old x b ns (in_act s acts (behind_mark p k)) t)
+labels_change : (old : Names_data) (x : List ℕ) (b : ℕ) (ns : List NodeTree) (s : ℕ) (acts : List ActTree) (p : List ℕ) (k : ActKind) (t : Sign) (o : Option (List ℕ)) → word_text t ≡ o
+    → IfSome (label_step s acts p k o) (To old x b ns (in_act s acts (behind_mark p k)) t)
 labels_change old x b ns s acts p k t None e = tt
 labels_change old x b ns s acts p k t (Some l) e = inr (inr (inl (record {
   name = l;
   fault = ap (λ z. fault_of_label (names_with old.labels (labels_of_nodes ns ++ labels_of_acts acts)) z) e;
-  adds = record { roles_are = sym (append-nil (x ∷ (peers_of_nodes ns ++ (peers_of_acts acts ++ p ∷ [])))); labels_are = sym (append_assoc (labels_of_nodes ns) (labels_of_acts acts) (l ∷ [])); count_is = omega arith };
+  adds = record {
+    roles_are = sym (append-nil (x ∷ (peers_of_nodes ns ++ (peers_of_acts acts ++ p ∷ []))));
+    labels_are = sym
+        (append_assoc (labels_of_nodes ns) (labels_of_acts acts) (l ∷ []));
+    count_is = omega arith;
+  };
 })))
 
-sorted_change : (old : Names_data) (x : List ℕ) (b : ℕ) (ns : List NodeTree) (s : ℕ) (acts : List ActTree) (p : List ℕ) (k : Kind) (l : List ℕ) (t : Sign) (o : Option Sort) → IfSome (sorted_step s acts p k l o) (To old x b ns (in_act s acts (behind_paren p k l)) t)
+sorted_change : (old : Names_data) (x : List ℕ) (b : ℕ) (ns : List NodeTree) (s : ℕ) (acts : List ActTree) (p : List ℕ) (k : ActKind) (l : List ℕ) (t : Sign) (o : Option Sort)
+    → IfSome (sorted_step s acts p k l o) (To old x b ns (in_act s acts (behind_paren p k l)) t)
 sorted_change old x b ns s acts p k l t None = tt
 sorted_change old x b ns s acts p k l t (Some q) = node_kept old x b ns (in_act s acts (behind_paren p k l)) (in_act s acts (behind_sort p k l q)) t refl refl refl refl
 
-sorts_change : (old : Names_data) (x : List ℕ) (b : ℕ) (ns : List NodeTree) (s : ℕ) (acts : List ActTree) (p : List ℕ) (k : Kind) (l : List ℕ) (t : Sign) (o : Option (List ℕ)) (c : Bool) → IfSome (sort_step s acts p k l o c) (To old x b ns (in_act s acts (behind_paren p k l)) t)
+sorts_change : (old : Names_data) (x : List ℕ) (b : ℕ) (ns : List NodeTree) (s : ℕ) (acts : List ActTree) (p : List ℕ) (k : ActKind) (l : List ℕ) (t : Sign) (o : Option (List ℕ)) (c : Bool)
+    → IfSome (sort_step s acts p k l o c) (To old x b ns (in_act s acts (behind_paren p k l)) t)
 sorts_change old x b ns s acts p k l t (Some w) c = sorted_change old x b ns s acts p k l t (sort_named w)
 sorts_change old x b ns s acts p k l t None c = if_change c (stays (acted s acts (act_tree p k l None))) _ (λ h. act_ends old x b ns s acts (behind_paren p k l) (act_tree p k l None) t refl refl refl)
 
 act_change : (old : Names_data) (x : List ℕ) (b : ℕ) (ns : List NodeTree) (s : ℕ) (acts : List ActTree) (a : ActCut) (t : Sign) → IfSome (act_grows s acts a t) (To old x b ns (in_act s acts a) t)
 act_change old x b ns s acts (behind_peer p) t = marks_change old x b ns s acts p t (mark_kind t)
 act_change old x b ns s acts (behind_mark p k) t = labels_change old x b ns s acts p k t (word_text t) refl
-act_change old x b ns s acts (behind_label p k l) t = if_change (is_open_paren t) (stays (in_act s acts (behind_paren p k l))) _ (λ h. node_kept old x b ns (in_act s acts (behind_label p k l)) (in_act s acts (behind_paren p k l)) t refl refl refl refl)
+act_change old x b ns s acts (behind_label p k l) t =
+    if_change (is_open_paren t) (stays (in_act s acts (behind_paren p k l))) _
+    (λ h. node_kept old x b ns (in_act s acts (behind_label p k l)) (in_act s acts (behind_paren p k l)) t refl refl refl refl)
 act_change old x b ns s acts (behind_paren p k l) t = sorts_change old x b ns s acts p k l t (plain_text t) (is_close_paren t)
-act_change old x b ns s acts (behind_sort p k l q) t = if_change (is_close_paren t) (stays (acted s acts (act_tree p k l (Some q)))) _ (λ h. act_ends old x b ns s acts (behind_sort p k l q) (act_tree p k l (Some q)) t refl refl refl)
+act_change old x b ns s acts (behind_sort p k l q) t =
+    if_change (is_close_paren t) (stays (acted s acts (act_tree p k l (Some q)))) _ (λ h. act_ends old x b ns s acts (behind_sort p k l q) (act_tree p k l (Some q)) t refl refl refl)
 
 aboves_change : (old : Names_data) (x : List ℕ) (b : ℕ) (ns : List NodeTree) (s : ℕ) (acts : List ActTree) (t : Sign) (o : Option ℕ) → IfSome (above_step s acts o) (To old x b ns (at_above s acts) t)
 aboves_change old x b ns s acts t None = tt
 aboves_change old x b ns s acts t (Some n) = node_kept old x b ns (at_above s acts) (at_rank_word s acts n) t refl refl refl refl
 
-ranks_change : (old : Names_data) (x : List ℕ) (b : ℕ) (ns : List NodeTree) (s : ℕ) (acts : List ActTree) (a : ℕ) (t : Sign) (o : Option ℕ) → IfSome (rank_step s acts a o) (To old x b ns (at_rank s acts a) t)
+ranks_change : (old : Names_data) (x : List ℕ) (b : ℕ) (ns : List NodeTree) (s : ℕ) (acts : List ActTree) (a : ℕ) (t : Sign) (o : Option ℕ)
+    → IfSome (rank_step s acts a o) (To old x b ns (at_rank s acts a) t)
 ranks_change old x b ns s acts a t None = tt
 ranks_change old x b ns s acts a t (Some n) = node_kept old x b ns (at_rank s acts a) (at_next_word s acts a n) t refl refl refl refl
 
-nexts_change : (old : Names_data) (x : List ℕ) (b : ℕ) (ns : List NodeTree) (s : ℕ) (acts : List ActTree) (a r : ℕ) (next : List ℕ) (t : Sign) (o : Option ℕ) (c : Bool) → IfSome (next_step s acts a r next o c) (To old x b ns (at_next s acts a r next) t)
+nexts_change : (old : Names_data) (x : List ℕ) (b : ℕ) (ns : List NodeTree) (s : ℕ) (acts : List ActTree) (a r : ℕ) (next : List ℕ) (t : Sign) (o : Option ℕ) (c : Bool)
+    → IfSome (next_step s acts a r next o c) (To old x b ns (at_next s acts a r next) t)
 nexts_change old x b ns s acts a r [] t (Some n) c = node_kept old x b ns (at_next s acts a r []) (behind_next s acts a r n []) t refl refl refl refl
 nexts_change old x b ns s acts a r (y ∷ ys) t (Some n) c = node_kept old x b ns (at_next s acts a r (y ∷ ys)) (behind_next s acts a r y (ys ++ n ∷ [])) t refl refl refl refl
-nexts_change old x b ns s acts a r next t None c = if_change (c && is_none_of next) (ends (node_tree s acts a r next)) _ (λ h. node_ends old x b ns (at_next s acts a r next) (node_tree s acts a r next) t refl refl refl refl)
+nexts_change old x b ns s acts a r next t None c =
+    if_change (c && is_none_of next) (ends (node_tree s acts a r next)) _ (λ h. node_ends old x b ns (at_next s acts a r next) (node_tree s acts a r next) t refl refl refl refl)
 
 node_change : (old : Names_data) (x : List ℕ) (b : ℕ) (ns : List NodeTree) (p : NodeCut) (t : Sign) → IfSome (node_grows ns p t) (To old x b ns p t)
 node_change old x b ns at_number t = numbers_change old x b ns t (number_value t) refl
@@ -245,14 +277,22 @@ node_change old x b ns at_state t = states_change old x b ns t (number_value t)
 node_change old x b ns (at_acts s) t = if_change (is_open_bracket t) (stays (at_act s [])) _ (λ h. node_kept old x b ns (at_acts s) (at_act s []) t refl refl refl refl)
 node_change old x b ns (at_act s acts) t = peers_change old x b ns s acts t (plain_text t) refl
 node_change old x b ns (in_act s acts a) t = act_change old x b ns s acts a t
-node_change old x b ns (behind_act s y ys) t = either_change (is_comma t) (is_close_bracket t) (stays (at_act s (y ∷ ys))) (stays (at_above s (y ∷ ys))) _ (node_kept old x b ns (behind_act s y ys) (at_act s (y ∷ ys)) t refl refl refl refl) (node_kept old x b ns (behind_act s y ys) (at_above s (y ∷ ys)) t refl refl refl refl)
+node_change old x b ns (behind_act s y ys) t =
+    either_change (is_comma t) (is_close_bracket t) (stays (at_act s (y ∷ ys))) (stays (at_above s (y ∷ ys))) _ (node_kept old x b ns (behind_act s y ys) (at_act s (y ∷ ys)) t refl refl refl refl)
+    (node_kept old x b ns (behind_act s y ys) (at_above s (y ∷ ys)) t refl refl refl refl)
 node_change old x b ns (at_above s acts) t = aboves_change old x b ns s acts t (number_value t)
-node_change old x b ns (at_rank_word s acts a) t = if_change (is_keyword (codes "rank") t) (stays (at_rank s acts a)) _ (λ h. node_kept old x b ns (at_rank_word s acts a) (at_rank s acts a) t refl refl refl refl)
+node_change old x b ns (at_rank_word s acts a) t =
+    if_change (is_keyword (codes "rank") t) (stays (at_rank s acts a)) _ (λ h. node_kept old x b ns (at_rank_word s acts a) (at_rank s acts a) t refl refl refl refl)
 node_change old x b ns (at_rank s acts a) t = ranks_change old x b ns s acts a t (number_value t)
-node_change old x b ns (at_next_word s acts a r) t = if_change (is_keyword (codes "next") t) (stays (at_nexts s acts a r)) _ (λ h. node_kept old x b ns (at_next_word s acts a r) (at_nexts s acts a r) t refl refl refl refl)
-node_change old x b ns (at_nexts s acts a r) t = if_change (is_open_bracket t) (stays (at_next s acts a r [])) _ (λ h. node_kept old x b ns (at_nexts s acts a r) (at_next s acts a r []) t refl refl refl refl)
+node_change old x b ns (at_next_word s acts a r) t =
+    if_change (is_keyword (codes "next") t) (stays (at_nexts s acts a r)) _ (λ h. node_kept old x b ns (at_next_word s acts a r) (at_nexts s acts a r) t refl refl refl refl)
+node_change old x b ns (at_nexts s acts a r) t =
+    if_change (is_open_bracket t) (stays (at_next s acts a r [])) _ (λ h. node_kept old x b ns (at_nexts s acts a r) (at_next s acts a r []) t refl refl refl refl)
 node_change old x b ns (at_next s acts a r next) t = nexts_change old x b ns s acts a r next t (number_value t) (is_close_bracket t)
-node_change old x b ns (behind_next s acts a r y ys) t = either_change (is_comma t) (is_close_bracket t) (stays (at_next s acts a r (y ∷ ys))) (ends (node_tree s acts a r (y ∷ ys))) _ (node_kept old x b ns (behind_next s acts a r y ys) (at_next s acts a r (y ∷ ys)) t refl refl refl refl) (node_ends old x b ns (behind_next s acts a r y ys) (node_tree s acts a r (y ∷ ys)) t refl refl refl refl)
+node_change old x b ns (behind_next s acts a r y ys) t =
+    either_change (is_comma t) (is_close_bracket t) (stays (at_next s acts a r (y ∷ ys))) (ends (node_tree s acts a r (y ∷ ys))) _
+    (node_kept old x b ns (behind_next s acts a r y ys) (at_next s acts a r (y ∷ ys)) t refl refl refl refl)
+    (node_ends old x b ns (behind_next s acts a r y ys) (node_tree s acts a r (y ∷ ys)) t refl refl refl refl)
 
 role_change : (old : Names_data) (t : Sign) (o : Option (List ℕ)) → plain_text t ≡ o → IfSome (role_step o) (Change old at_role t)
 role_change old t None e = tt

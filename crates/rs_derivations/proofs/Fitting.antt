@@ -1,5 +1,6 @@
 -- Names and limits before a place: a token keeps them exactly where it breaks no rule.
-use Rattle.std.proofs.Common.{◌≡◌, inl, inr, ℕ, ◌<◌, ◌≤◌, List, [], ◌∷◌, ◌++◌, length, Bool, true, false, ◌&&◌, nat_le, if◌then◌else◌, Option, Some, None, refl, sym, ap, ◌∙◌, subst, append-nil, length-append, arith}
+use Rattle.std.proofs.Common.{◌≡◌, inl, inr, ℕ, ◌<◌, ◌≤◌, List, [], ◌∷◌, ◌++◌, length, Bool, true, false, ◌&&◌, nat_le, if◌then◌else◌, Option, Some, None, refl, sym, ap, ◌∙◌, subst, append-nil}
+use Rattle.std.proofs.Common.{length-append, arith}
 use Rattle.std.proofs.lemmas.Bool.{leb-false, lt-leb}
 use Rattle.std.specs.List.{list_all}
 use Rattle.std.proofs.lemmas.List.Folds.{list_all-append}
@@ -95,13 +96,15 @@ node_room n false e h = leb-false MOST_CANDIDATES n e
 same_roles : (old : Names_data) (c d : Cut) (ls : List (List ℕ)) (n : ℕ) → Adds c d [] ls n → AreKnown old (roles_in c) → AreKnown old (roles_in d)
 same_roles old c d ls n a h = subst (AreKnown old) (sym (a.roles_are ∙ append-nil (roles_in c))) h
 
-same_labels : (old : Names_data) (c d : Cut) (rs : List (List ℕ)) (n : ℕ) → Adds c d rs [] n → length (names_with old.labels (labels_in c)) ≤ MOST_LABELS → length (names_with old.labels (labels_in d)) ≤ MOST_LABELS
+same_labels : (old : Names_data) (c d : Cut) (rs : List (List ℕ)) (n : ℕ) → Adds c d rs [] n → length (names_with old.labels (labels_in c)) ≤ MOST_LABELS
+    → length (names_with old.labels (labels_in d)) ≤ MOST_LABELS
 same_labels old c d rs n a h = subst (λ (z : List (List ℕ)). length (names_with old.labels z) ≤ MOST_LABELS) (sym (a.labels_are ∙ append-nil (labels_in c))) h
 
 same_count : (c d : Cut) (rs ls : List (List ℕ)) → Adds c d rs ls 0 → count_in c ≤ MOST_CANDIDATES → count_in d ≤ MOST_CANDIDATES
 same_count c d rs ls a h = let e = a.count_is in omega arith
 
-more_labels : (old : Names_data) (c d : Cut) (rs : List (List ℕ)) (x : List ℕ) (n : ℕ) → Adds c d rs (x ∷ []) n → names_with old.labels (labels_in d) ≡ names_with (names_with old.labels (labels_in c)) (x ∷ [])
+more_labels : (old : Names_data) (c d : Cut) (rs : List (List ℕ)) (x : List ℕ) (n : ℕ) → Adds c d rs (x ∷ []) n
+    → names_with old.labels (labels_in d) ≡ names_with (names_with old.labels (labels_in c)) (x ∷ [])
 more_labels old c d rs x n a = ap (names_with old.labels) a.labels_are ∙ grown_append (labels_in c) (x ∷ []) old.labels
 
 pub fits_on : (old : Names_data) (c : Cut) (t : Sign) (d : Cut) → Change old c t d → fault_of old c t ≡ None → FitsSo old c → FitsSo old d
@@ -114,7 +117,8 @@ fits_on old c t d change clear f = elim change [
   }
   | inr (inr (inl a)) ↦ record {
     roles = same_roles old c d (a.name ∷ []) 0 a.adds f.roles;
-    labels = subst (λ (z : List (List ℕ)). length z ≤ MOST_LABELS) (sym (more_labels old c d [] a.name 0 a.adds)) (label_fits (is_among a.name (names_with old.labels (labels_in c))) (names_with old.labels (labels_in c)) a.name f.labels (sym a.fault ∙ clear));
+    labels = subst (λ (z : List (List ℕ)). length z ≤ MOST_LABELS) (sym (more_labels old c d [] a.name 0 a.adds))
+        (label_fits (is_among a.name (names_with old.labels (labels_in c))) (names_with old.labels (labels_in c)) a.name f.labels (sym a.fault ∙ clear));
     count = same_count c d [] (a.name ∷ []) a.adds f.count;
   }
   | inr (inr (inr a)) ↦ record {
@@ -129,7 +133,8 @@ fits_on old c t d change clear f = elim change [
 back_roles : (old : Names_data) (c d : Cut) (rs ls : List (List ℕ)) (n : ℕ) → Adds c d rs ls n → AreKnown old (roles_in d) → AreKnown old (roles_in c)
 back_roles old c d rs ls n a h = (known_parts old (roles_in c) rs (subst (AreKnown old) a.roles_are h)).0
 
-back_labels : (old : Names_data) (c d : Cut) (rs ls : List (List ℕ)) (n : ℕ) → Adds c d rs ls n → length (names_with old.labels (labels_in d)) ≤ MOST_LABELS → length (names_with old.labels (labels_in c)) ≤ MOST_LABELS
+back_labels : (old : Names_data) (c d : Cut) (rs ls : List (List ℕ)) (n : ℕ) → Adds c d rs ls n → length (names_with old.labels (labels_in d)) ≤ MOST_LABELS
+    → length (names_with old.labels (labels_in c)) ≤ MOST_LABELS
 back_labels old c d rs ls n a h =
     let e : names_with old.labels (labels_in d) ≡ names_with (names_with old.labels (labels_in c)) ls = ap (names_with old.labels) a.labels_are ∙ grown_append (labels_in c) ls old.labels in
     let k : length (names_with (names_with old.labels (labels_in c)) ls) ≤ MOST_LABELS = subst (λ (z : List (List ℕ)). length z ≤ MOST_LABELS) e h in
@@ -145,10 +150,20 @@ fits_adds old c d rs ls n a f = record { roles = back_roles old c d rs ls n a f.
 pub fits_back : (old : Names_data) (c : Cut) (t : Sign) (d : Cut) → Change old c t d → FitsSo old d → FitsSo old c × (fault_of old c t ≡ None)
 fits_back old c t d change f = elim change [
   | inl a ↦ (fits_adds old c d [] [] 0 a.adds f, a.clear)
-  | inr (inl a) ↦ (fits_adds old c d (a.name ∷ []) [] 0 a.adds f, a.fault ∙ role_clear old a.name (one_known old a.name (known_parts old (roles_in c) (a.name ∷ []) (subst (AreKnown old) a.adds.roles_are f.roles)).1))
-  | inr (inr (inl a)) ↦ (fits_adds old c d [] (a.name ∷ []) 0 a.adds f, a.fault ∙ label_clear (is_among a.name (names_with old.labels (labels_in c))) (names_with old.labels (labels_in c)) a.name (subst (λ (z : List (List ℕ)). length z ≤ MOST_LABELS) (more_labels old c d [] a.name 0 a.adds) f.labels))
+  | inr (inl a) ↦ (
+    fits_adds old c d (a.name ∷ []) [] 0 a.adds f,
+    a.fault
+        ∙ role_clear old a.name (one_known old a.name (known_parts old (roles_in c) (a.name ∷ []) (subst (AreKnown old) a.adds.roles_are f.roles)).1),
+  )
+  | inr (inr (inl a)) ↦ (
+    fits_adds old c d [] (a.name ∷ []) 0 a.adds f,
+    a.fault
+        ∙ label_clear (is_among a.name (names_with old.labels (labels_in c))) (names_with old.labels (labels_in c)) a.name
+        (subst (λ (z : List (List ℕ)). length z ≤ MOST_LABELS) (more_labels old c d [] a.name 0 a.adds) f.labels),
+  )
   | inr (inr (inr a)) ↦ (
     fits_adds old c d [] [] 1 a.adds f,
-    (let e = a.adds.count_is in let k = f.count in let room : count_in c < MOST_CANDIDATES = omega arith in a.fault ∙ ap (λ z. if z then Some kind.TooManyNodes else None) (lt-leb MOST_CANDIDATES (count_in c) room)),
+    (let e = a.adds.count_is in let k = f.count in let room : count_in c < MOST_CANDIDATES = omega arith in a.fault
+        ∙ ap (λ z. if z then Some kind.TooManyNodes else None) (lt-leb MOST_CANDIDATES (count_in c) room)),
   )
 ]

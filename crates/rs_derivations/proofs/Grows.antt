@@ -1,21 +1,24 @@
 -- How a place goes on by a token, by the grammar alone, and the tokens before the new place.
-use Rattle.std.proofs.Common.{◌≡◌, ℕ, suc, ◌+◌, ◌≤◌, List, [], ◌∷◌, ◌++◌, codes, length, Bool, true, false, ◌&&◌, ◌==◌, nat_le, if◌then◌else◌, Option, Some, None, IfSome, refl, sym, ap, ◌∙◌, append_assoc, append-nil, arith}
+use Rattle.std.proofs.Common.{◌≡◌, ℕ, suc, ◌+◌, ◌≤◌, List, [], ◌∷◌, ◌++◌, codes, length, Bool, true, false, ◌&&◌, ◌==◌, nat_le, if◌then◌else◌, Option, Some, None, IfSome, refl, sym, ap, ◌∙◌}
+use Rattle.std.proofs.Common.{append_assoc, append-nil, arith}
 use Rattle.std.proofs.lemmas.Bool.{eqb-true, leb-true}
 use Rattle.std.proofs.lemmas.Slice.Eq.{bytes_eq-Decides}
 use Rattle.std.specs.Option.{option_map}
 use Rattle.rs_model.specs.declared.values.Sort.{Sort}
-use Rattle.rs_prefix.specs.declared.earliest.Kind.{Kind}
-use Rattle.rs_prefix.specs.declared.earliest.Kind.TheVariants as act
+use Rattle.rs_prefix.specs.declared.earliest.ActKind.{ActKind}
+use Rattle.rs_prefix.specs.declared.earliest.ActKind.TheVariants as act
 use Rattle.rs_text.specs.Seen.{is_text, plain_text, word_text, sort_named}
 use Rattle.rs_text.specs.Signs.{Sign, rec_word, end_word, plain, number, word_sign, bang, question, colon, comma, open_brace, close_brace, open_paren, close_paren, open_bracket, close_bracket}
 use Rattle.rs_text.proofs.Arms.{sort_text_is}
 use Rattle.rs_text.proofs.Basics.{both, some_is}
 use Rattle.rs_text.proofs.Judging.{IsProper}
-use Rattle.rs_derivations.specs.Cuts.{ActCut, behind_peer, behind_mark, behind_label, behind_paren, behind_sort, NodeCut, at_number, at_colon, at_state, at_acts, at_act, in_act, behind_act, at_above, at_rank_word, at_rank, at_next_word, at_nexts, at_next, behind_next, Cut, at_begin, at_role, at_bound_word, at_bound, at_brace, in_nodes, at_end, act_cut_signs, elements_with_commas, node_behind_acts, node_before_nexts, node_cut_signs, cut_signs, IsPlace}
+use Rattle.rs_derivations.specs.Cuts.{ActCut, behind_peer, behind_mark, behind_label, behind_paren, behind_sort, NodeCut, at_number, at_colon, at_state, at_acts, at_act, in_act, behind_act, at_above}
+use Rattle.rs_derivations.specs.Cuts.{at_rank_word, at_rank, at_next_word, at_nexts, at_next, behind_next, Cut, at_begin, at_role, at_bound_word, at_bound, at_brace, in_nodes, at_end, act_cut_signs}
+use Rattle.rs_derivations.specs.Cuts.{elements_with_commas, node_behind_acts, node_before_nexts, node_cut_signs, cut_signs, IsPlace}
 use Rattle.rs_derivations.specs.Faults.{number_value}
 use Rattle.rs_derivations.specs.Feeding.{is_colon, is_comma, is_open_brace, is_close_brace, is_open_bracket, is_close_bracket, is_keyword, mark_kind, is_none_of, is_some_of, is_bound}
 use Rattle.rs_derivations.specs.Lists.{list_with_separators, with_separators}
-use Rattle.rs_derivations.specs.Spells.{IsBound}
+use Rattle.rs_model.specs.Limits.{IsBound}
 use Rattle.rs_derivations.specs.Trees.{ActTree, NodeTree, DerivationTree, mark_sign, act_signs, acts_signs, number_signs, numbers_signs, node_signs, nodes_signs, head_signs}
 
 -- ---- growth
@@ -26,7 +29,7 @@ pub data Grown : Type 0 where
   ends : (node : NodeTree) → Grown
   closes : Grown
 
-abbrev pub act_tree : List ℕ → Kind → List ℕ → Option Sort → ActTree
+abbrev pub act_tree : List ℕ → ActKind → List ℕ → Option Sort → ActTree
 act_tree p k l s = record { peer = p; kind = k; label = l; sort = s }
 
 abbrev pub node_tree : ℕ → List ActTree → ℕ → ℕ → List ℕ → NodeTree
@@ -55,11 +58,11 @@ abbrev pub act_step : ℕ → List ActTree → Option (List ℕ) → Bool → Op
 act_step s acts (Some w) c = Some (stays (in_act s acts (behind_peer w)))
 act_step s acts None c = if c && is_none_of acts then Some (stays (at_above s acts)) else None
 
-abbrev pub mark_step : ℕ → List ActTree → List ℕ → Option Kind → Option Grown
+abbrev pub mark_step : ℕ → List ActTree → List ℕ → Option ActKind → Option Grown
 mark_step s acts p None = None
 mark_step s acts p (Some k) = Some (stays (in_act s acts (behind_mark p k)))
 
-abbrev pub label_step : ℕ → List ActTree → List ℕ → Kind → Option (List ℕ) → Option Grown
+abbrev pub label_step : ℕ → List ActTree → List ℕ → ActKind → Option (List ℕ) → Option Grown
 label_step s acts p k None = None
 label_step s acts p k (Some l) = Some (stays (in_act s acts (behind_label p k l)))
 
@@ -71,11 +74,11 @@ abbrev pub is_close_paren : Sign → Bool
 is_close_paren close_paren = true
 is_close_paren _ = false
 
-abbrev pub sorted_step : ℕ → List ActTree → List ℕ → Kind → List ℕ → Option Sort → Option Grown
+abbrev pub sorted_step : ℕ → List ActTree → List ℕ → ActKind → List ℕ → Option Sort → Option Grown
 sorted_step s acts p k l None = None
 sorted_step s acts p k l (Some q) = Some (stays (in_act s acts (behind_sort p k l q)))
 
-abbrev pub sort_step : ℕ → List ActTree → List ℕ → Kind → List ℕ → Option (List ℕ) → Bool → Option Grown
+abbrev pub sort_step : ℕ → List ActTree → List ℕ → ActKind → List ℕ → Option (List ℕ) → Bool → Option Grown
 sort_step s acts p k l (Some w) c = sorted_step s acts p k l (sort_named w)
 sort_step s acts p k l None c = if c then Some (stays (acted s acts (act_tree p k l None))) else None
 
@@ -171,7 +174,7 @@ close_bracket_is : (t : Sign) → is_close_bracket t ≡ true → t ≡ close_br
 close_bracket_is close_bracket h = refl
 close_bracket_is _ h = absurd (cc h)
 
-mark_is : (t : Sign) (k : Kind) → mark_kind t ≡ Some k → t ≡ mark_sign k
+mark_is : (t : Sign) (k : ActKind) → mark_kind t ≡ Some k → t ≡ mark_sign k
 mark_is bang act.Send h = refl
 mark_is bang act.Receive h = absurd (cc h)
 mark_is question act.Send h = absurd (cc h)
@@ -214,7 +217,8 @@ pub nodes_more : (n : ℕ) (ns : List NodeTree) (node : NodeTree) → nodes_sign
 nodes_more n [] node = append-nil (node_signs n node) ∙ ap (λ z. node_signs z node) (omega arith)
 nodes_more n (t ∷ ts) node =
     let e : suc n + length ts ≡ n + length (t ∷ ts) = omega arith in
-    ap (λ z. node_signs n t ++ z) (nodes_more (suc n) ts node ∙ ap (λ z. nodes_signs (suc n) ts ++ node_signs z node) e) ∙ sym (append_assoc (node_signs n t) (nodes_signs (suc n) ts) (node_signs (n + length (t ∷ ts)) node))
+    ap (λ z. node_signs n t ++ z) (nodes_more (suc n) ts node ∙ ap (λ z. nodes_signs (suc n) ts ++ node_signs z node) e)
+    ∙ sym (append_assoc (node_signs n t) (nodes_signs (suc n) ts) (node_signs (n + length (t ∷ ts)) node))
 
 -- ---- the tokens before the new place
 
@@ -250,45 +254,62 @@ acted_signs : (n s : ℕ) (acts : List ActTree) (a : ActTree) → node_cut_signs
 acted_signs n s [] a = ap (λ z. begun n s z) (append-nil (act_signs a))
 acted_signs n s (x ∷ xs) a = ap (λ z. begun n s z) (one_more act_signs x xs a)
 
-in_signs : (n s : ℕ) (acts : List ActTree) (own more : List Sign) (t : Sign) → more ≡ own ++ t ∷ [] → begun n s (elements_with_commas act_signs acts ++ more) ≡ begun n s (elements_with_commas act_signs acts ++ own) ++ t ∷ []
+in_signs : (n s : ℕ) (acts : List ActTree) (own more : List Sign) (t : Sign) → more ≡ own ++ t ∷ []
+    → begun n s (elements_with_commas act_signs acts ++ more) ≡ begun n s (elements_with_commas act_signs acts ++ own) ++ t ∷ []
 in_signs n s acts own more t e = ap (λ z. begun n s (elements_with_commas act_signs acts ++ z)) e ∙ ap (λ z. begun n s z) (sym (append_assoc (elements_with_commas act_signs acts) own (t ∷ [])))
 
-nexted_signs : (n s : ℕ) (acts : List ActTree) (a r : ℕ) (next : List ℕ) (k : ℕ) → node_cut_signs n (nexted s acts a r next k) ≡ (node_before_nexts n s acts a r ++ elements_with_commas number_signs next) ++ number k ∷ []
+nexted_signs : (n s : ℕ) (acts : List ActTree) (a r : ℕ) (next : List ℕ) (k : ℕ)
+    → node_cut_signs n (nexted s acts a r next k) ≡ (node_before_nexts n s acts a r ++ elements_with_commas number_signs next) ++ number k ∷ []
 nexted_signs n s acts a r [] k = sym (append_assoc (node_before_nexts n s acts a r) [] (number k ∷ []))
-nexted_signs n s acts a r (x ∷ xs) k = ap (λ z. node_before_nexts n s acts a r ++ z) (one_more number_signs x xs k) ∙ sym (append_assoc (node_before_nexts n s acts a r) (elements_with_commas number_signs (x ∷ xs)) (number k ∷ []))
+nexted_signs n s acts a r (x ∷ xs) k =
+    ap (λ z. node_before_nexts n s acts a r ++ z) (one_more number_signs x xs k) ∙ sym (append_assoc (node_before_nexts n s acts a r) (elements_with_commas number_signs (x ∷ xs)) (number k ∷ []))
 
 whole_shape : (xs m ys zs : List Sign) (c : Sign) → (((xs ++ c ∷ []) ++ m) ++ ys) ++ zs ≡ xs ++ (c ∷ (m ++ (ys ++ zs)))
 whole_shape xs m ys zs c = append_assoc ((xs ++ c ∷ []) ++ m) ys zs ∙ append_assoc (xs ++ c ∷ []) m (ys ++ zs) ∙ append_assoc xs (c ∷ []) (m ++ (ys ++ zs))
 
 -- a node as far as behind its last next, and "]"
 node_whole : (n s : ℕ) (acts : List ActTree) (a r : ℕ) (next : List ℕ) → node_signs n (node_tree s acts a r next) ≡ (node_before_nexts n s acts a r ++ numbers_signs next) ++ close_bracket ∷ []
-node_whole n s acts a r next = ap (λ z. begun n s z) (sym (whole_shape (acts_signs acts) (number a ∷ plain (codes "rank") ∷ number r ∷ plain (codes "next") ∷ open_bracket ∷ []) (numbers_signs next) (close_bracket ∷ []) close_bracket))
+node_whole n s acts a r next =
+    ap (λ z. begun n s z) (sym
+    (whole_shape (acts_signs acts) (number a ∷ plain (codes "rank") ∷ number r ∷ plain (codes "next") ∷ open_bracket ∷ []) (numbers_signs next) (close_bracket ∷ []) close_bracket))
 
-marks_grow : (ns : List NodeTree) (s : ℕ) (acts : List ActTree) (p : List ℕ) (t : Sign) (o : Option Kind) → mark_kind t ≡ o → IfSome (mark_step s acts p o) (GrownSigns ns (in_act s acts (behind_peer p)) t)
+marks_grow : (ns : List NodeTree) (s : ℕ) (acts : List ActTree) (p : List ℕ) (t : Sign) (o : Option ActKind) → mark_kind t ≡ o
+    → IfSome (mark_step s acts p o) (GrownSigns ns (in_act s acts (behind_peer p)) t)
 marks_grow ns s acts p t None e = tt
 marks_grow ns s acts p t (Some k) e = in_signs (length ns) s acts (plain p ∷ []) (plain p ∷ mark_sign k ∷ []) t (ap (λ z. plain p ∷ z ∷ []) (sym (mark_is t k e)))
 
-labels_grow : (ns : List NodeTree) (s : ℕ) (acts : List ActTree) (p : List ℕ) (k : Kind) (t : Sign) (o : Option (List ℕ)) → IsProper t → word_text t ≡ o → IfSome (label_step s acts p k o) (GrownSigns ns (in_act s acts (behind_mark p k)) t)
+labels_grow : (ns : List NodeTree) (s : ℕ) (acts : List ActTree) (p : List ℕ) (k : ActKind) (t : Sign) (o : Option (List ℕ)) → IsProper t → word_text t ≡ o
+    → IfSome (label_step s acts p k o) (GrownSigns ns (in_act s acts (behind_mark p k)) t)
 labels_grow ns s acts p k t None proper e = tt
-labels_grow ns s acts p k t (Some l) proper e = in_signs (length ns) s acts (plain p ∷ mark_sign k ∷ []) (plain p ∷ mark_sign k ∷ word_sign l ∷ []) t (ap (λ z. plain p ∷ mark_sign k ∷ z ∷ []) (sym (word_is t l proper e)))
+labels_grow ns s acts p k t (Some l) proper e =
+    in_signs (length ns) s acts (plain p ∷ mark_sign k ∷ []) (plain p ∷ mark_sign k ∷ word_sign l ∷ []) t (ap (λ z. plain p ∷ mark_sign k ∷ z ∷ []) (sym (word_is t l proper e)))
 
-sorted_grow : (ns : List NodeTree) (s : ℕ) (acts : List ActTree) (p : List ℕ) (k : Kind) (l w : List ℕ) (t : Sign) (o : Option Sort) → t ≡ plain w → sort_named w ≡ o → IfSome (sorted_step s acts p k l o) (GrownSigns ns (in_act s acts (behind_paren p k l)) t)
+sorted_grow : (ns : List NodeTree) (s : ℕ) (acts : List ActTree) (p : List ℕ) (k : ActKind) (l w : List ℕ) (t : Sign) (o : Option Sort) → t ≡ plain w → sort_named w ≡ o
+    → IfSome (sorted_step s acts p k l o) (GrownSigns ns (in_act s acts (behind_paren p k l)) t)
 sorted_grow ns s acts p k l w t None f e = tt
-sorted_grow ns s acts p k l w t (Some q) f e = in_signs (length ns) s acts (act_cut_signs (behind_paren p k l)) (act_cut_signs (behind_sort p k l q)) t (ap (λ z. plain p ∷ mark_sign k ∷ word_sign l ∷ open_paren ∷ z ∷ []) (ap plain (sort_text_is w q e) ∙ sym f))
+sorted_grow ns s acts p k l w t (Some q) f e =
+    in_signs (length ns) s acts (act_cut_signs (behind_paren p k l)) (act_cut_signs (behind_sort p k l q)) t
+    (ap (λ z. plain p ∷ mark_sign k ∷ word_sign l ∷ open_paren ∷ z ∷ []) (ap plain (sort_text_is w q e) ∙ sym f))
 
-act_ends : (ns : List NodeTree) (s : ℕ) (acts : List ActTree) (a : ActCut) (b : ActTree) (t : Sign) → act_signs b ≡ act_cut_signs a ++ close_paren ∷ [] → t ≡ close_paren → GrownSigns ns (in_act s acts a) t (stays (acted s acts b))
+act_ends : (ns : List NodeTree) (s : ℕ) (acts : List ActTree) (a : ActCut) (b : ActTree) (t : Sign) → act_signs b ≡ act_cut_signs a ++ close_paren ∷ [] → t ≡ close_paren
+    → GrownSigns ns (in_act s acts a) t (stays (acted s acts b))
 act_ends ns s acts a b t e f = acted_signs (length ns) s acts b ∙ in_signs (length ns) s acts (act_cut_signs a) (act_signs b) t (e ∙ ap (λ z. act_cut_signs a ++ z ∷ []) (sym f))
 
-sorts_grow : (ns : List NodeTree) (s : ℕ) (acts : List ActTree) (p : List ℕ) (k : Kind) (l : List ℕ) (t : Sign) (o : Option (List ℕ)) → plain_text t ≡ o → IfSome (sort_step s acts p k l o (is_close_paren t)) (GrownSigns ns (in_act s acts (behind_paren p k l)) t)
+sorts_grow : (ns : List NodeTree) (s : ℕ) (acts : List ActTree) (p : List ℕ) (k : ActKind) (l : List ℕ) (t : Sign) (o : Option (List ℕ)) → plain_text t ≡ o
+    → IfSome (sort_step s acts p k l o (is_close_paren t)) (GrownSigns ns (in_act s acts (behind_paren p k l)) t)
 sorts_grow ns s acts p k l t (Some w) e = sorted_grow ns s acts p k l w t (sort_named w) (plain_is t w e) refl
-sorts_grow ns s acts p k l t None e = if_grown (is_close_paren t) (stays (acted s acts (act_tree p k l None))) _ (λ h. act_ends ns s acts (behind_paren p k l) (act_tree p k l None) t refl (close_paren_is t h))
+sorts_grow ns s acts p k l t None e =
+    if_grown (is_close_paren t) (stays (acted s acts (act_tree p k l None))) _ (λ h. act_ends ns s acts (behind_paren p k l) (act_tree p k l None) t refl (close_paren_is t h))
 
 act_signs_grow : (ns : List NodeTree) (s : ℕ) (acts : List ActTree) (a : ActCut) (t : Sign) → IsProper t → IfSome (act_grows s acts a t) (GrownSigns ns (in_act s acts a) t)
 act_signs_grow ns s acts (behind_peer p) t proper = marks_grow ns s acts p t (mark_kind t) refl
 act_signs_grow ns s acts (behind_mark p k) t proper = labels_grow ns s acts p k t (word_text t) proper refl
-act_signs_grow ns s acts (behind_label p k l) t proper = if_grown (is_open_paren t) (stays (in_act s acts (behind_paren p k l))) _ (λ h. in_signs (length ns) s acts (act_cut_signs (behind_label p k l)) (act_cut_signs (behind_paren p k l)) t (ap (λ z. plain p ∷ mark_sign k ∷ word_sign l ∷ z ∷ []) (sym (open_paren_is t h))))
+act_signs_grow ns s acts (behind_label p k l) t proper =
+    if_grown (is_open_paren t) (stays (in_act s acts (behind_paren p k l))) _
+    (λ h. in_signs (length ns) s acts (act_cut_signs (behind_label p k l)) (act_cut_signs (behind_paren p k l)) t (ap (λ z. plain p ∷ mark_sign k ∷ word_sign l ∷ z ∷ []) (sym (open_paren_is t h))))
 act_signs_grow ns s acts (behind_paren p k l) t proper = sorts_grow ns s acts p k l t (plain_text t) refl
-act_signs_grow ns s acts (behind_sort p k l q) t proper = if_grown (is_close_paren t) (stays (acted s acts (act_tree p k l (Some q)))) _ (λ h. act_ends ns s acts (behind_sort p k l q) (act_tree p k l (Some q)) t refl (close_paren_is t h))
+act_signs_grow ns s acts (behind_sort p k l q) t proper =
+    if_grown (is_close_paren t) (stays (acted s acts (act_tree p k l (Some q)))) _ (λ h. act_ends ns s acts (behind_sort p k l q) (act_tree p k l (Some q)) t refl (close_paren_is t h))
 
 numbers_grow : (ns : List NodeTree) (t : Sign) (o : Option ℕ) → number_value t ≡ o → IfSome (number_step ns o (is_close_brace t)) (GrownSigns ns at_number t)
 numbers_grow ns t (Some n) e = if_grown (n == length ns) (stays at_colon) _ (λ h. ap (λ z. z ∷ []) (ap number (sym (eqb-true n (length ns) h)) ∙ sym (value_is t n e)))
@@ -310,7 +331,8 @@ peers_grow : (ns : List NodeTree) (s : ℕ) (acts : List ActTree) (t : Sign) (o 
 peers_grow ns s acts t (Some w) e = ap (λ z. begun (length ns) s (elements_with_commas act_signs acts ++ z ∷ [])) (sym (plain_is t w e))
 peers_grow ns s acts t None e = if_grown (is_close_bracket t && is_none_of acts) (stays (at_above s acts)) _ (λ h.
     let k = both (is_close_bracket t) (is_none_of acts) h in
-    ap (λ z. begun (length ns) s (z ++ close_bracket ∷ [])) (no_acts acts (none_there acts k.1)) ∙ ap (λ z. begun (length ns) s (elements_with_commas act_signs acts ++ z ∷ [])) (sym (close_bracket_is t k.0)))
+    ap (λ z. begun (length ns) s (z ++ close_bracket ∷ [])) (no_acts acts (none_there acts k.1))
+    ∙ ap (λ z. begun (length ns) s (elements_with_commas act_signs acts ++ z ∷ [])) (sym (close_bracket_is t k.0)))
 
 aboves_grow : (ns : List NodeTree) (s : ℕ) (acts : List ActTree) (t : Sign) (o : Option ℕ) → number_value t ≡ o → IfSome (above_step s acts o) (GrownSigns ns (at_above s acts) t)
 aboves_grow ns s acts t None e = tt
@@ -318,10 +340,13 @@ aboves_grow ns s acts t (Some n) e = ap (λ z. node_behind_acts (length ns) s ac
 
 ranks_grow : (ns : List NodeTree) (s : ℕ) (acts : List ActTree) (a : ℕ) (t : Sign) (o : Option ℕ) → number_value t ≡ o → IfSome (rank_step s acts a o) (GrownSigns ns (at_rank s acts a) t)
 ranks_grow ns s acts a t None e = tt
-ranks_grow ns s acts a t (Some n) e = ap (λ z. node_behind_acts (length ns) s acts ++ (number a ∷ plain (codes "rank") ∷ z ∷ [])) (sym (value_is t n e)) ∙ on_acts (length ns) s acts (number a ∷ plain (codes "rank") ∷ []) t
+ranks_grow ns s acts a t (Some n) e =
+    ap (λ z. node_behind_acts (length ns) s acts ++ (number a ∷ plain (codes "rank") ∷ z ∷ [])) (sym (value_is t n e)) ∙ on_acts (length ns) s acts (number a ∷ plain (codes "rank") ∷ []) t
 
-nexts_grow : (ns : List NodeTree) (s : ℕ) (acts : List ActTree) (a r : ℕ) (next : List ℕ) (t : Sign) (o : Option ℕ) → number_value t ≡ o → IfSome (next_step s acts a r next o (is_close_bracket t)) (GrownSigns ns (at_next s acts a r next) t)
-nexts_grow ns s acts a r next t (Some n) e = nexted_signs (length ns) s acts a r next n ∙ ap (λ z. (node_before_nexts (length ns) s acts a r ++ elements_with_commas number_signs next) ++ z ∷ []) (sym (value_is t n e))
+nexts_grow : (ns : List NodeTree) (s : ℕ) (acts : List ActTree) (a r : ℕ) (next : List ℕ) (t : Sign) (o : Option ℕ) → number_value t ≡ o
+    → IfSome (next_step s acts a r next o (is_close_bracket t)) (GrownSigns ns (at_next s acts a r next) t)
+nexts_grow ns s acts a r next t (Some n) e =
+    nexted_signs (length ns) s acts a r next n ∙ ap (λ z. (node_before_nexts (length ns) s acts a r ++ elements_with_commas number_signs next) ++ z ∷ []) (sym (value_is t n e))
 nexts_grow ns s acts a r next t None e = if_grown (is_close_bracket t && is_none_of next) (ends (node_tree s acts a r next)) _ (λ h.
     let k = both (is_close_bracket t) (is_none_of next) h in
     node_whole (length ns) s acts a r next ∙ ap (λ z. (node_before_nexts (length ns) s acts a r ++ z) ++ close_bracket ∷ []) (no_numbers next (none_there next k.1))
@@ -338,13 +363,22 @@ node_signs_grow ns (behind_act s x xs) t proper = either_grown (is_comma t) (is_
     (λ h. ap (λ z. begun (length ns) s (acts_signs (x ∷ xs) ++ z ∷ [])) (sym (comma_is t h)))
     (λ h. ap (λ z. begun (length ns) s (acts_signs (x ∷ xs) ++ z ∷ [])) (sym (close_bracket_is t h)))
 node_signs_grow ns (at_above s acts) t proper = aboves_grow ns s acts t (number_value t) refl
-node_signs_grow ns (at_rank_word s acts a) t proper = if_grown (is_keyword (codes "rank") t) (stays (at_rank s acts a)) _ (λ h. ap (λ z. node_behind_acts (length ns) s acts ++ (number a ∷ z ∷ [])) (sym (keyword_is (codes "rank") t h)) ∙ on_acts (length ns) s acts (number a ∷ []) t)
+node_signs_grow ns (at_rank_word s acts a) t proper =
+    if_grown (is_keyword (codes "rank") t) (stays (at_rank s acts a)) _
+    (λ h. ap (λ z. node_behind_acts (length ns) s acts ++ (number a ∷ z ∷ [])) (sym (keyword_is (codes "rank") t h)) ∙ on_acts (length ns) s acts (number a ∷ []) t)
 node_signs_grow ns (at_rank s acts a) t proper = ranks_grow ns s acts a t (number_value t) refl
-node_signs_grow ns (at_next_word s acts a r) t proper = if_grown (is_keyword (codes "next") t) (stays (at_nexts s acts a r)) _ (λ h. ap (λ z. node_behind_acts (length ns) s acts ++ (number a ∷ plain (codes "rank") ∷ number r ∷ z ∷ [])) (sym (keyword_is (codes "next") t h)) ∙ on_acts (length ns) s acts (number a ∷ plain (codes "rank") ∷ number r ∷ []) t)
-node_signs_grow ns (at_nexts s acts a r) t proper = if_grown (is_open_bracket t) (stays (at_next s acts a r [])) _ (λ h. append-nil (node_before_nexts (length ns) s acts a r) ∙ ap (λ z. node_behind_acts (length ns) s acts ++ (number a ∷ plain (codes "rank") ∷ number r ∷ plain (codes "next") ∷ z ∷ [])) (sym (open_bracket_is t h)) ∙ on_acts (length ns) s acts (number a ∷ plain (codes "rank") ∷ number r ∷ plain (codes "next") ∷ []) t)
+node_signs_grow ns (at_next_word s acts a r) t proper =
+    if_grown (is_keyword (codes "next") t) (stays (at_nexts s acts a r)) _
+    (λ h. ap (λ z. node_behind_acts (length ns) s acts ++ (number a ∷ plain (codes "rank") ∷ number r ∷ z ∷ [])) (sym (keyword_is (codes "next") t h))
+    ∙ on_acts (length ns) s acts (number a ∷ plain (codes "rank") ∷ number r ∷ []) t)
+node_signs_grow ns (at_nexts s acts a r) t proper =
+    if_grown (is_open_bracket t) (stays (at_next s acts a r [])) _
+    (λ h. append-nil (node_before_nexts (length ns) s acts a r) ∙ ap (λ z. node_behind_acts (length ns) s acts ++ (number a ∷ plain (codes "rank") ∷ number r ∷ plain (codes "next") ∷ z ∷ []))
+    (sym (open_bracket_is t h)) ∙ on_acts (length ns) s acts (number a ∷ plain (codes "rank") ∷ number r ∷ plain (codes "next") ∷ []) t)
 node_signs_grow ns (at_next s acts a r next) t proper = nexts_grow ns s acts a r next t (number_value t) refl
 node_signs_grow ns (behind_next s acts a r x xs) t proper = either_grown (is_comma t) (is_close_bracket t) (stays (at_next s acts a r (x ∷ xs))) (ends (node_tree s acts a r (x ∷ xs))) _
-    (λ h. ap (λ z. node_before_nexts (length ns) s acts a r ++ (numbers_signs (x ∷ xs) ++ z ∷ [])) (sym (comma_is t h)) ∙ sym (append_assoc (node_before_nexts (length ns) s acts a r) (numbers_signs (x ∷ xs)) (t ∷ [])))
+    (λ h. ap (λ z. node_before_nexts (length ns) s acts a r ++ (numbers_signs (x ∷ xs) ++ z ∷ [])) (sym (comma_is t h))
+    ∙ sym (append_assoc (node_before_nexts (length ns) s acts a r) (numbers_signs (x ∷ xs)) (t ∷ [])))
     (λ h. node_whole (length ns) s acts a r (x ∷ xs) ∙ ap (λ z. (node_before_nexts (length ns) s acts a r ++ numbers_signs (x ∷ xs)) ++ z ∷ []) (sym (close_bracket_is t h)))
 
 -- ---- the same of a derivation
@@ -353,14 +387,23 @@ node_signs_grow ns (behind_next s acts a r x xs) t proper = either_grown (is_com
 abbrev pub GoesOn : Cut → Sign → Cut → Type 0
 GoesOn c t d = (cut_signs d ≡ cut_signs c ++ t ∷ []) × IsPlace d
 
-to_grown : (x : List ℕ) (b : ℕ) (ns : List NodeTree) (p : NodeCut) (t : Sign) (o : Option Grown) → IsBound b → IfSome o (GrownSigns ns p t) → IfSome (option_map (grown_to x b ns) o) (GoesOn (in_nodes x b ns p) t)
+to_grown : (x : List ℕ) (b : ℕ) (ns : List NodeTree) (p : NodeCut) (t : Sign) (o : Option Grown) → IsBound b → IfSome o (GrownSigns ns p t)
+    → IfSome (option_map (grown_to x b ns) o) (GoesOn (in_nodes x b ns p) t)
 to_grown x b ns p t None right h = tt
-to_grown x b ns p t (Some (stays q)) right h = (ap (λ z. head_signs x b ++ (nodes_signs 0 ns ++ z)) h ∙ ap (λ z. head_signs x b ++ z) (sym (append_assoc (nodes_signs 0 ns) (node_cut_signs (length ns) p) (t ∷ []))), right)
+to_grown x b ns p t (Some (stays q)) right h =
+    (ap (λ z. head_signs x b ++ (nodes_signs 0 ns ++ z)) h ∙ ap (λ z. head_signs x b ++ z) (sym (append_assoc (nodes_signs 0 ns) (node_cut_signs (length ns) p) (t ∷ []))), right)
 to_grown x b ns p t (Some (ends node)) right h =
-    let e : 0 + length ns ≡ length ns = omega arith in
-    (ap (λ z. head_signs x b ++ z) (append-nil (nodes_signs 0 (ns ++ node ∷ [])) ∙ nodes_more 0 ns node ∙ ap (λ z. nodes_signs 0 ns ++ z) (ap (λ z. node_signs z node) e ∙ h) ∙ sym (append_assoc (nodes_signs 0 ns) (node_cut_signs (length ns) p) (t ∷ []))), right)
-to_grown x b ns p t (Some closes) right h =
-    (ap (λ z. head_signs x b ++ (nodes_signs 0 ns ++ z ∷ [])) (sym h.1) ∙ ap (λ z. head_signs x b ++ (z ++ t ∷ [])) (sym (append-nil (nodes_signs 0 ns)) ∙ ap (λ z. nodes_signs 0 ns ++ z) (sym h.0)), record { bound = right; some = h.2 })
+    let e : 0 + length ns ≡ length ns = omega arith in (
+      ap (λ z. head_signs x b ++ z)
+          (append-nil (nodes_signs 0 (ns ++ node ∷ [])) ∙ nodes_more 0 ns node ∙ ap (λ z. nodes_signs 0 ns ++ z) (ap (λ z. node_signs z node) e ∙ h)
+          ∙ sym (append_assoc (nodes_signs 0 ns) (node_cut_signs (length ns) p) (t ∷ []))),
+      right,
+    )
+to_grown x b ns p t (Some closes) right h = (
+  ap (λ z. head_signs x b ++ (nodes_signs 0 ns ++ z ∷ [])) (sym h.1)
+      ∙ ap (λ z. head_signs x b ++ (z ++ t ∷ [])) (sym (append-nil (nodes_signs 0 ns)) ∙ ap (λ z. nodes_signs 0 ns ++ z) (sym h.0)),
+  record { bound = right; some = h.2 },
+)
 
 if_place : (b : Bool) (d : Cut) (P : Cut → Type 0) → (b ≡ true → P d) → IfSome (if b then Some d else None) P
 if_place true d P h = h refl
@@ -381,8 +424,10 @@ bound_place x t (Some n) e = if_place (is_bound n) (at_brace x n) _ (λ h. (ap (
 pub goes_on : (c : Cut) (t : Sign) → IsPlace c → IsProper t → IfSome (grows c t) (GoesOn c t)
 goes_on at_begin t right proper = if_place (is_keyword (codes "derivation") t) at_role _ (λ h. (ap (λ z. z ∷ []) (sym (keyword_is (codes "derivation") t h)), tt))
 goes_on at_role t right proper = role_place t (plain_text t) refl
-goes_on (at_bound_word x) t right proper = if_place (is_keyword (codes "bound") t) (at_bound x) _ (λ h. (ap (λ z. plain (codes "derivation") ∷ plain x ∷ z ∷ []) (sym (keyword_is (codes "bound") t h)), tt))
+goes_on (at_bound_word x) t right proper =
+    if_place (is_keyword (codes "bound") t) (at_bound x) _ (λ h. (ap (λ z. plain (codes "derivation") ∷ plain x ∷ z ∷ []) (sym (keyword_is (codes "bound") t h)), tt))
 goes_on (at_bound x) t right proper = bound_place x t (number_value t) refl
-goes_on (at_brace x b) t right proper = if_place (is_open_brace t) (in_nodes x b [] at_number) _ (λ h. (ap (λ z. plain (codes "derivation") ∷ plain x ∷ plain (codes "bound") ∷ number b ∷ z ∷ []) (sym (open_brace_is t h)), right))
+goes_on (at_brace x b) t right proper =
+    if_place (is_open_brace t) (in_nodes x b [] at_number) _ (λ h. (ap (λ z. plain (codes "derivation") ∷ plain x ∷ plain (codes "bound") ∷ number b ∷ z ∷ []) (sym (open_brace_is t h)), right))
 goes_on (in_nodes x b ns p) t right proper = to_grown x b ns p t (node_grows ns p t) right (node_signs_grow ns p t proper)
 goes_on (at_end d) t right proper = tt

@@ -4,7 +4,7 @@ use Rattle.std.specs.Option.{option_map}
 use Rattle.rs_model.specs.Data.{Names_data}
 use Rattle.rs_model.specs.declared.limits.TheConstants.{MOST_LABELS}
 use Rattle.rs_derive.specs.Data.{Derivation_data}
-use Rattle.rs_prefix.specs.declared.earliest.Kind.{Kind}
+use Rattle.rs_prefix.specs.declared.earliest.ActKind.{ActKind}
 use Rattle.rs_text.specs.declared.faults.TextKind.{TextKind}
 use Rattle.rs_text.specs.declared.faults.TextKind.TheVariants as kind
 use Rattle.rs_text.specs.declared.faults.Wanted.{Wanted}
@@ -17,12 +17,13 @@ use Rattle.rs_text.specs.Readings.{Reading, feed_sign, next_lexeme_of, read_all}
 use Rattle.rs_text.specs.Seen.{plain_text, word_text}
 use Rattle.rs_text.specs.Signs.{Sign, broken, finish}
 use Rattle.rs_text.proofs.Judging as judging
-use Rattle.rs_text.proofs.Judging.{Here, IsNamed, IsProper, proper_sign, Judges, Halt, halt, Wholeness, a_faulty, a_whole, wholeness}
+use Rattle.rs_text.proofs.Judging.{Here, IsProper, proper_sign, Judges, Halt, halt, Wholeness, a_faulty, a_whole, wholeness}
 use Rattle.rs_text.proofs.Standing.{StopsAtEnd}
 use Rattle.rs_derivations.specs.declared.reading.Mode.{Mode}
 use Rattle.rs_text.specs.declared.messages.MessagePlace.TheVariants as place
 use Rattle.rs_derivations.specs.declared.reading.Mode.TheVariants as mode
-use Rattle.rs_derivations.specs.Cuts.{behind_peer, behind_mark, behind_label, behind_paren, behind_sort, NodeCut, at_number, at_colon, at_act, in_act, Cut, at_begin, at_role, in_nodes, at_end, cut_signs, wanted_of, IsPlace}
+use Rattle.rs_derivations.specs.Cuts.{behind_peer, behind_mark, behind_label, behind_paren, behind_sort, NodeCut, at_number, at_colon, at_act, in_act, Cut, at_begin, at_role, in_nodes, at_end}
+use Rattle.rs_derivations.specs.Cuts.{cut_signs, wanted_of, IsPlace}
 use Rattle.rs_derivations.specs.Data.{Reader_data}
 use Rattle.rs_derivations.specs.Derivations.{labels_of_acts, labels_of_nodes, derivation_of}
 use Rattle.rs_text.specs.Names.{names_with}
@@ -90,7 +91,7 @@ by_test : (b : Bool) (full : Option TextKind) → (if b then Some (stays at_colo
 by_test true full h = absurd (cc h)
 by_test false full h = refl
 
-unfit_label : (labels : List (List ℕ)) (s : ℕ) (acts : List ActTree) (p : List ℕ) (k : Kind) (o : Option (List ℕ)) → label_step s acts p k o ≡ None → fault_of_label labels o ≡ None
+unfit_label : (labels : List (List ℕ)) (s : ℕ) (acts : List ActTree) (p : List ℕ) (k : ActKind) (o : Option (List ℕ)) → label_step s acts p k o ≡ None → fault_of_label labels o ≡ None
 unfit_label labels s acts p k None h = refl
 unfit_label labels s acts p k (Some w) h = absurd (cc h)
 
@@ -159,16 +160,19 @@ told_ok old None f w at d h = absurd (cc h)
 told_ok old (Some c) None w at d h = (c, refl, refl, cc)
 told_ok old (Some c) (Some k) w at d h = absurd (cc h)
 
-fed_is : (old : Names_data) (xs : List Sign) (t : Sign) (at : ℕ) (n : Lexeme) (r : Reader_data) (s : Stood old xs r) → IsWhole t → feed_sign feeding t at n r ≡ told old (grows s.place t) (fault_of old s.place t) (wanted_of s.place) at
+fed_is : (old : Names_data) (xs : List Sign) (t : Sign) (at : ℕ) (n : Lexeme) (r : Reader_data) (s : Stood old xs r) → IsWhole t
+    → feed_sign feeding t at n r ≡ told old (grows s.place t) (fault_of old s.place t) (wanted_of s.place) at
 fed_is old xs t at n r s w = whole_fed t at n r w ∙ ap (λ (z : Reader_data). feed_at z.mode t at z) s.is ∙ says old s.place t at
 
-stood_on : (old : Names_data) (xs : List Sign) (t : Sign) (r d : Reader_data) (s : Stood old xs r) → IsProper t → (c : Cut) → grows s.place t ≡ Some c → fault_of old s.place t ≡ None → d ≡ stand old c → Stood old (xs ++ t ∷ []) d
+stood_on : (old : Names_data) (xs : List Sign) (t : Sign) (r d : Reader_data) (s : Stood old xs r) → IsProper t → (c : Cut) → grows s.place t ≡ Some c → fault_of old s.place t ≡ None → d ≡ stand old c
+    → Stood old (xs ++ t ∷ []) d
 stood_on old xs t r d s proper c g f e =
     let on : GoesOn s.place t c = if_some_at (GoesOn s.place t) (grows s.place t) c (goes_on s.place t s.right proper) g in
     let adds : Change old s.place t c = if_some_at (Change old s.place t) (grows s.place t) c (change old s.place t) g in
     record { place = c; right = on.1; signs = on.0 ∙ ap (λ z. z ++ t ∷ []) s.signs; is = e; fits = fits_on old s.place t c adds f s.fits }
 
-taken_by : (t : Sign) → Wholeness t → (old : Names_data) (xs : List Sign) (at : ℕ) (n : Lexeme) (r d : Reader_data) → Stood old xs r → IsProper t → feed_sign feeding t at n r ≡ Ok d → Stood old (xs ++ t ∷ []) d
+taken_by : (t : Sign) → Wholeness t → (old : Names_data) (xs : List Sign) (at : ℕ) (n : Lexeme) (r d : Reader_data) → Stood old xs r → IsProper t → feed_sign feeding t at n r ≡ Ok d
+    → Stood old (xs ++ t ∷ []) d
 taken_by _ (a_faulty k) old xs at n r d s proper e = absurd (cc e)
 taken_by _ (a_whole t w) old xs at n r d s proper e =
     let o = told_ok old (grows s.place t) (fault_of old s.place t) (wanted_of s.place) at d (sym (fed_is old xs t at n r s w) ∙ e) in
@@ -186,7 +190,8 @@ begins_on old xs t r s proper c g =
 no_misplaced : (old : Names_data) (xs : List Sign) (t : Sign) (r : Reader_data) (s : Stood old xs r) (k : TextKind) → fault_of old s.place t ≡ None → IsMisplaced old xs t k → ⊥
 no_misplaced old xs t r s k f m = absurd (cc (sym m.fault ∙ ap (λ z. fault_of old z t) (same_place old xs r s m.place m.stands) ∙ f))
 
-clear_of : (old : Names_data) (xs : List Sign) (t u : Sign) (r : Reader_data) (s : Stood old xs r) → IsProper t → IsWhole t → (c : Cut) → grows s.place t ≡ Some c → fault_of old s.place t ≡ None → IsClear (FaultAt old) xs t u
+clear_of : (old : Names_data) (xs : List Sign) (t u : Sign) (r : Reader_data) (s : Stood old xs r) → IsProper t → IsWhole t → (c : Cut) → grows s.place t ≡ Some c → fault_of old s.place t ≡ None
+    → IsClear (FaultAt old) xs t u
 clear_of old xs t u r s proper w c g f k h = elim h [
   | inl x ↦ x.2.stops (begins_on old xs t r s proper c g)
   | inr (inl m) ↦ no_misplaced old xs t r s k f m
@@ -196,7 +201,8 @@ clear_of old xs t u r s proper w c g f k h = elim h [
 at_place : (old : Names_data) (xs : List Sign) (r : Reader_data) (s : Stood old xs r) → IsInDerivation s.place → StandsAt xs s.place
 at_place old xs r s h = record { right = s.right; within = h; signs = s.signs }
 
-misplaced : (old : Names_data) (xs : List Sign) (t : Sign) (at : ℕ) (u : Sign) (r : Reader_data) (s : Stood old xs r) → IsProper t → IsWhole t → (c : Cut) (k : TextKind) → grows s.place t ≡ Some c → fault_of old s.place t ≡ Some k → Here (FaultAt old) xs t at u (record { kind = k; at = at })
+misplaced : (old : Names_data) (xs : List Sign) (t : Sign) (at : ℕ) (u : Sign) (r : Reader_data) (s : Stood old xs r) → IsProper t → IsWhole t → (c : Cut) (k : TextKind) → grows s.place t ≡ Some c
+    → fault_of old s.place t ≡ Some k → Here (FaultAt old) xs t at u (record { kind = k; at = at })
 misplaced old xs t at u r s proper w c k g f = record {
   at_is = refl;
   fault = inr (inl (record { place = s.place; stands = at_place old xs r s (goes_within s.place c t g); fault = f }));
@@ -207,7 +213,8 @@ misplaced old xs t at u r s proper w c k g f = record {
   ];
 }
 
-unexpected : (old : Names_data) (xs : List Sign) (t : Sign) (at : ℕ) (u : Sign) (r : Reader_data) (s : Stood old xs r) → IsInDerivation s.place → IsWhole t → grows s.place t ≡ None → Here (FaultAt old) xs t at u (record { kind = kind.Expected (wanted_of s.place); at = at })
+unexpected : (old : Names_data) (xs : List Sign) (t : Sign) (at : ℕ) (u : Sign) (r : Reader_data) (s : Stood old xs r) → IsInDerivation s.place → IsWhole t → grows s.place t ≡ None
+    → Here (FaultAt old) xs t at u (record { kind = kind.Expected (wanted_of s.place); at = at })
 unexpected old xs t at u r s h w g = record {
   at_is = refl;
   fault = inl (
@@ -228,7 +235,8 @@ unexpected old xs t at u r s h w g = record {
   ];
 }
 
-verdict_of : (old : Names_data) (xs : List Sign) (t : Sign) (at : ℕ) (n : Lexeme) (r : Reader_data) (s : Stood old xs r) → IsInDerivation s.place → IsProper t → IsWhole t → (g : Option Cut) (f : Option TextKind) → grows s.place t ≡ g → fault_of old s.place t ≡ f
+verdict_of : (old : Names_data) (xs : List Sign) (t : Sign) (at : ℕ) (n : Lexeme) (r : Reader_data) (s : Stood old xs r) → IsInDerivation s.place → IsProper t → IsWhole t
+    → (g : Option Cut) (f : Option TextKind) → grows s.place t ≡ g → fault_of old s.place t ≡ f
     → judging.Verdict (FaultAt old) LeavesAny r xs t at n (told old g f (wanted_of s.place) at)
 verdict_of old xs t at n r s h proper w None f g e = inl (unexpected old xs t at n.sign r s h w g)
 verdict_of old xs t at n r s h proper w (Some c) None g e = clear_of old xs t n.sign r s proper w c g e
@@ -237,7 +245,8 @@ verdict_of old xs t at n r s h proper w (Some c) (Some k) g e = inl (misplaced o
 broken_same : (i j : FaultKind) → broken i ≡ broken j → i ≡ j
 broken_same i j h = cc
 
-faulty : (old : Names_data) (xs : List Sign) (j : FaultKind) (at : ℕ) (u : Sign) (r : Reader_data) (s : Stood old xs r) → IsInDerivation s.place → Here (FaultAt old) xs (broken j) at u (record { kind = kind_of j; at = at })
+faulty : (old : Names_data) (xs : List Sign) (j : FaultKind) (at : ℕ) (u : Sign) (r : Reader_data) (s : Stood old xs r) → IsInDerivation s.place
+    → Here (FaultAt old) xs (broken j) at u (record { kind = kind_of j; at = at })
 faulty old xs j at u r s h = record {
   at_is = refl;
   fault = inr (inr (j, refl, record { broken_is = refl; place = s.place; stands = at_place old xs r s h }));
@@ -248,9 +257,12 @@ faulty old xs j at u r s h = record {
   ];
 }
 
-verdict_by : (t : Sign) → Wholeness t → (old : Names_data) (xs : List Sign) (at : ℕ) (n : Lexeme) (r : Reader_data) (s : Stood old xs r) → IsInDerivation s.place → IsProper t → judging.Verdict (FaultAt old) LeavesAny r xs t at n (feed_sign feeding t at n r)
+verdict_by : (t : Sign) → Wholeness t → (old : Names_data) (xs : List Sign) (at : ℕ) (n : Lexeme) (r : Reader_data) (s : Stood old xs r) → IsInDerivation s.place → IsProper t
+    → judging.Verdict (FaultAt old) LeavesAny r xs t at n (feed_sign feeding t at n r)
 verdict_by _ (a_faulty j) old xs at n r s h proper = inl (faulty old xs j at n.sign r s h)
-verdict_by _ (a_whole t w) old xs at n r s h proper = subst (λ (z : Fed). judging.Verdict (FaultAt old) LeavesAny r xs t at n z) (sym (fed_is old xs t at n r s w)) (verdict_of old xs t at n r s h proper w (grows s.place t) (fault_of old s.place t) refl refl)
+verdict_by _ (a_whole t w) old xs at n r s h proper =
+    subst (λ (z : Fed). judging.Verdict (FaultAt old) LeavesAny r xs t at n z) (sym (fed_is old xs t at n r s w))
+    (verdict_of old xs t at n r s h proper w (grows s.place t) (fault_of old s.place t) refl refl)
 
 -- ---- the end
 
@@ -313,7 +325,8 @@ fits_of old tree formed f = record { formed = formed; roles = f.roles; labels = 
 pub fits_so : (old : Names_data) (tree : DerivationTree) → Fits old tree → FitsSo old (at_end tree)
 fits_so old tree f = record { roles = f.roles; labels = f.labels; count = f.nodes }
 
-spelt_by : (old : Names_data) (bytes : List ℕ) (at : ℕ) (ls : List Lexeme) (x : Reading Reader_data) → Lexed bytes at ls → Halt feeding (At old) [] ls x → SpellsDerivation bytes at old (names_read x.reader) (derivation_read x.reader) x.until
+spelt_by : (old : Names_data) (bytes : List ℕ) (at : ℕ) (ls : List Lexeme) (x : Reading Reader_data) → Lexed bytes at ls → Halt feeding (At old) [] ls x
+    → SpellsDerivation bytes at old (names_read x.reader) (derivation_read x.reader) x.until
 spelt_by old bytes at ls x lexed h =
     let s : Stood old (signs_of h.xs) x.reader = h.stands in
     let e = end_of old s.place (ap is_read (sym s.is) ∙ h.read) in
@@ -331,7 +344,8 @@ spelt_by old bytes at ls x lexed h =
       goes_on = h.until;
     }
 
-pub sound : (old : Names_data) → length old.labels ≤ MOST_LABELS → (bytes : List ℕ) (at : ℕ) (ls : List Lexeme) (x : Reading Reader_data) → Lexed bytes at ls → read_all feeding (Ok (start_of_derivation old)) ls ≡ Ok x → SpellsDerivation bytes at old (names_read x.reader) (derivation_read x.reader) x.until
+pub sound : (old : Names_data) → length old.labels ≤ MOST_LABELS → (bytes : List ℕ) (at : ℕ) (ls : List Lexeme) (x : Reading Reader_data) → Lexed bytes at ls
+    → read_all feeding (Ok (start_of_derivation old)) ls ≡ Ok x → SpellsDerivation bytes at old (names_read x.reader) (derivation_read x.reader) x.until
 sound old few bytes at ls x lexed e = spelt_by old bytes at ls x lexed (halt (judges old) (start_of_derivation old) bytes at ls x (begins old few) lexed e)
 
 -- ---- what is spelt is read
@@ -348,15 +362,19 @@ fits_along old (t ∷ ts) c d h f = elim (some_or (grows c t)) [
 ]
 
 -- one token that is taken
-step_read : (old : Names_data) (x : Lexeme) (c e : Cut) (rest : List Lexeme) → grows c x.sign ≡ Some e → FitsSo old e → read_all feeding (Ok (stand old c)) (x ∷ rest) ≡ read_all feeding (Ok (stand old e)) rest
+step_read : (old : Names_data) (x : Lexeme) (c e : Cut) (rest : List Lexeme) → grows c x.sign ≡ Some e → FitsSo old e
+    → read_all feeding (Ok (stand old c)) (x ∷ rest) ≡ read_all feeding (Ok (stand old e)) rest
 step_read old x c e rest g f =
     let clear : fault_of old c x.sign ≡ None = (fits_back old c x.sign e (if_some_at (Change old c x.sign) (grows c x.sign) e (change old c x.sign) g) f).1 in
     let fed : feed_sign feeding x.sign x.from (next_lexeme_of x rest) (stand old c) ≡ Ok (stand old e) =
-    whole_fed x.sign x.from (next_lexeme_of x rest) (stand old c) (goes_whole c e x.sign (wholeness x.sign) g) ∙ says old c x.sign x.from ∙ ap (λ z. told old z (fault_of old c x.sign) (wanted_of c) x.from) g ∙ ap (λ z. told old (Some e) z (wanted_of c) x.from) clear in
-    ap (λ z. if z then Ok (record { reader = stand old c; until = x.from }) else read_all feeding (feed_sign feeding x.sign x.from (next_lexeme_of x rest) (stand old c)) rest) (unread old c (goes_within c e x.sign g))
+    whole_fed x.sign x.from (next_lexeme_of x rest) (stand old c) (goes_whole c e x.sign (wholeness x.sign) g) ∙ says old c x.sign x.from
+    ∙ ap (λ z. told old z (fault_of old c x.sign) (wanted_of c) x.from) g ∙ ap (λ z. told old (Some e) z (wanted_of c) x.from) clear in
+    ap (λ z. if z then Ok (record { reader = stand old c; until = x.from }) else read_all feeding (feed_sign feeding x.sign x.from (next_lexeme_of x rest) (stand old c)) rest)
+    (unread old c (goes_within c e x.sign g))
     ∙ ap (λ z. read_all feeding z rest) fed
 
-runs : (old : Names_data) (xs : List Lexeme) (c : Cut) (tree : DerivationTree) (l : Lexeme) (others : List Lexeme) → along (Some c) (signs_of xs) ≡ Some (at_end tree) → FitsSo old (at_end tree) → read_all feeding (Ok (stand old c)) (xs ++ l ∷ others) ≡ Ok (record { reader = stand old (at_end tree); until = l.from })
+runs : (old : Names_data) (xs : List Lexeme) (c : Cut) (tree : DerivationTree) (l : Lexeme) (others : List Lexeme) → along (Some c) (signs_of xs) ≡ Some (at_end tree) → FitsSo old (at_end tree)
+    → read_all feeding (Ok (stand old c)) (xs ++ l ∷ others) ≡ Ok (record { reader = stand old (at_end tree); until = l.from })
 runs old [] c tree l others h f = let same : c ≡ at_end tree = cc in ap (λ z. read_all feeding (Ok (stand old z)) (l ∷ others)) same
 runs old (x ∷ xs) c tree l others h f = elim (some_or (grows c x.sign)) [
   | inl g ↦ absurd (cc (sym h ∙ ap (λ z. along z (signs_of xs)) g))
@@ -366,5 +384,7 @@ runs old (x ∷ xs) c tree l others h f = elim (some_or (grows c x.sign)) [
 ]
 
 -- the reading of what is spelt
-pub complete : (old new : Names_data) (bytes : List ℕ) (at : ℕ) (derivation : Derivation_data) (until : ℕ) (s : SpellsDerivation bytes at old new derivation until) → read_all feeding (Ok (start_of_derivation old)) (s.lexemes ++ s.behind ∷ s.others) ≡ Ok (record { reader = stand old (at_end s.tree); until = s.behind.from })
-complete old new bytes at derivation until s = runs old s.lexemes at_begin s.tree s.behind s.others (ap (along (Some at_begin)) s.spelt ∙ path (at_end s.tree) s.fits.formed) (fits_so old s.tree s.fits)
+pub complete : (old new : Names_data) (bytes : List ℕ) (at : ℕ) (derivation : Derivation_data) (until : ℕ) (s : SpellsDerivation bytes at old new derivation until)
+    → read_all feeding (Ok (start_of_derivation old)) (s.lexemes ++ s.behind ∷ s.others) ≡ Ok (record { reader = stand old (at_end s.tree); until = s.behind.from })
+complete old new bytes at derivation until s =
+    runs old s.lexemes at_begin s.tree s.behind s.others (ap (along (Some at_begin)) s.spelt ∙ path (at_end s.tree) s.fits.formed) (fits_so old s.tree s.fits)

@@ -3,7 +3,7 @@ use Rattle.std.proofs.Common.{ℕ, ◌≤◌, List, length, Bool, true, false, �
 use Rattle.std.specs.Prelude.{IfErr}
 use Rattle.rs_model.specs.declared.graph.Role.{Role}
 use Rattle.rs_model.specs.declared.limits.TheConstants.{MOST_CANDIDATES}
-use Rattle.rs_prefix.specs.declared.earliest.Kind.{Kind}
+use Rattle.rs_prefix.specs.declared.earliest.ActKind.{ActKind}
 use Rattle.rs_text.specs.declared.faults.TextFault.{TextFault}
 use Rattle.rs_text.specs.declared.faults.TextKind.TheVariants as kind
 use Rattle.rs_text.specs.declared.faults.Wanted.{Wanted}
@@ -13,12 +13,14 @@ use Rattle.rs_text.specs.Seen.{plain_text}
 use Rattle.rs_text.specs.Signs.{Sign, broken}
 use Rattle.rs_text.proofs.Keeping.{StaysBelow, Below}
 use Rattle.rs_text.proofs.MessageLaws.{message_below}
-use Rattle.rs_text.specs.Messages.{Message, goes_on, ends, feed_message}
+use Rattle.rs_text.specs.Messages.{MessageFed, goes_on, ends, feed_message}
 use Rattle.rs_derivations.specs.declared.reading.Mode.{Mode}
 use Rattle.rs_derivations.specs.declared.reading.Mode.TheVariants as mode
 use Rattle.rs_derivations.specs.Data.{Reader_data}
 use Rattle.rs_derivations.specs.Faults.{number_value}
-use Rattle.rs_derivations.specs.Feeding.{Fed, in_mode, passes, feed_derivation_role, feed_role, feed_bound, feed_node, feed_state, feed_peer, feed_act, feed_mark, in_message, feed_behind_act, feed_above, feed_rank, feed_node_end, feed_next, feed_behind_next, feed_rest, feed_at, feeding, is_bound, is_some_of, is_none_of, is_comma, is_close_bracket, is_close_brace, mark_kind}
+use Rattle.rs_derivations.specs.Feeding.{Fed, in_mode, passes, feed_derivation_role, feed_role, feed_bound, feed_node, feed_state, feed_peer, feed_act, feed_mark, in_message, feed_behind_act}
+use Rattle.rs_derivations.specs.Feeding.{feed_above, feed_rank, feed_node_end, feed_next, feed_behind_next, feed_rest, feed_at, feeding, is_bound, is_some_of, is_none_of, is_comma, is_close_bracket}
+use Rattle.rs_derivations.specs.Feeding.{is_close_brace, mark_kind}
 
 -- the fault stands there
 abbrev Stays : ℕ → Fed → Type 0
@@ -61,11 +63,11 @@ act : (n : ℕ) (o : Option (List ℕ)) (c : Bool) (at : ℕ) (r : Reader_data) 
 act n None c at r h = passed n (c && is_none_of r.node.pending) _ mode.AtAbove at r h
 act n (Some w) c at r h = met n (place_of w r.roles) at r h
 
-mark : (n : ℕ) (p : Role) (o : Option Kind) (at : ℕ) (r : Reader_data) → at ≤ n → Stays n (feed_mark p o at r)
+mark : (n : ℕ) (p : Role) (o : Option ActKind) (at : ℕ) (r : Reader_data) → at ≤ n → Stays n (feed_mark p o at r)
 mark n p None at r h = h
 mark n p (Some k) at r h = tt
 
-message : (n : ℕ) (p : Role) (m : Kind) (x : Result Message TextFault) (r : Reader_data) → IfErr x (Below n) → Stays n (in_message p m x r)
+message : (n : ℕ) (p : Role) (m : ActKind) (x : Result MessageFed TextFault) (r : Reader_data) → IfErr x (Below n) → Stays n (in_message p m x r)
 message n p m (Err e) r h = h
 message n p m (Ok (goes_on labels x)) r h = tt
 message n p m (Ok (ends l s)) r h = tt

@@ -2,8 +2,8 @@
 use Rattle.std.proofs.Common.{◌≡◌, ℕ, suc, ◌≤◌, List, [], ◌∷◌, ◌++◌, codes, true, false, Option, Some, None, refl, sym, ap, ◌∙◌, subst, append_assoc}
 use Rattle.std.specs.Fmt.{decimal}
 use Rattle.rs_model.specs.declared.values.Sort.{Sort}
-use Rattle.rs_prefix.specs.declared.earliest.Kind.{Kind}
-use Rattle.rs_prefix.specs.declared.earliest.Kind.TheVariants as act
+use Rattle.rs_prefix.specs.declared.earliest.ActKind.{ActKind}
+use Rattle.rs_prefix.specs.declared.earliest.ActKind.TheVariants as act
 use Rattle.rs_text.specs.Arms.{sort_text, sort_signs}
 use Rattle.rs_text.specs.Bytes.{is_word_byte, is_digit, begins}
 use Rattle.rs_text.specs.Shown.{shown_text}
@@ -49,18 +49,20 @@ sort_written : (q : Option Sort) (behind : List ℕ) → IsWritten (sort_signs q
 sort_written None behind = closing behind
 sort_written (Some s) behind = before_role (sort_text s) (close_paren ∷ []) (codes ")") behind (sort_is_word s) refl (closing behind)
 
-mark_written : (k : Kind) (signs : List Sign) (text behind : List ℕ) → IsWritten signs text behind → IsWritten (mark_sign k ∷ signs) (mark_text k ++ text) behind
+mark_written : (k : ActKind) (signs : List Sign) (text behind : List ℕ) → IsWritten signs text behind → IsWritten (mark_sign k ∷ signs) (mark_text k ++ text) behind
 mark_written act.Send signs text behind w = before_mark bang signs (codes "!") text behind refl refl w
 mark_written act.Receive signs text behind w = before_mark question signs (codes "?") text behind refl refl w
 
-ends_word : (k : Kind) (text behind : List ℕ) → begins is_word_byte ((mark_text k ++ text) ++ behind) ≡ false
+ends_word : (k : ActKind) (text behind : List ℕ) → begins is_word_byte ((mark_text k ++ text) ++ behind) ≡ false
 ends_word act.Send text behind = refl
 ends_word act.Receive text behind = refl
 
 act_written : (a : ActTree) (behind : List ℕ) → IsActWritable a → IsWritten (act_signs a) (act_text a) behind
 act_written a behind h =
-    let tail : IsWritten (open_paren ∷ (sort_signs a.sort ++ close_paren ∷ [])) (codes "(" ++ (shown_text a.sort ++ codes ")")) behind = before_mark open_paren (sort_signs a.sort ++ close_paren ∷ []) (codes "(") (shown_text a.sort ++ codes ")") behind refl refl (sort_written a.sort behind) in
-    before_role a.peer (mark_sign a.kind ∷ word_sign a.label ∷ open_paren ∷ (sort_signs a.sort ++ close_paren ∷ [])) (mark_text a.kind ++ (a.label ++ (codes "(" ++ (shown_text a.sort ++ codes ")")))) behind h.0 (ends_word a.kind (a.label ++ (codes "(" ++ (shown_text a.sort ++ codes ")"))) behind)
+    let tail : IsWritten (open_paren ∷ (sort_signs a.sort ++ close_paren ∷ [])) (codes "(" ++ (shown_text a.sort ++ codes ")")) behind
+    = before_mark open_paren (sort_signs a.sort ++ close_paren ∷ []) (codes "(") (shown_text a.sort ++ codes ")") behind refl refl (sort_written a.sort behind) in
+    before_role a.peer (mark_sign a.kind ∷ word_sign a.label ∷ open_paren ∷ (sort_signs a.sort ++ close_paren ∷ []))
+    (mark_text a.kind ++ (a.label ++ (codes "(" ++ (shown_text a.sort ++ codes ")")))) behind h.0 (ends_word a.kind (a.label ++ (codes "(" ++ (shown_text a.sort ++ codes ")"))) behind)
     (mark_written a.kind (word_sign a.label ∷ open_paren ∷ (sort_signs a.sort ++ close_paren ∷ [])) (a.label ++ (codes "(" ++ (shown_text a.sort ++ codes ")"))) behind
     (before_word a.label (open_paren ∷ (sort_signs a.sort ++ close_paren ∷ [])) (codes "(" ++ (shown_text a.sort ++ codes ")")) behind h.1 refl tail))
 
@@ -69,11 +71,14 @@ later_written [] behind h = nothing_written behind
 later_written (a ∷ acts) behind h =
     before_mark comma (act_signs a ++ with_separators (comma ∷ []) act_signs acts) (codes ",") (codes " " ++ (act_text a ++ with_separators (codes ", ") act_text acts)) behind refl refl
     (before_blank 32 (act_signs a ++ with_separators (comma ∷ []) act_signs acts) (act_text a ++ with_separators (codes ", ") act_text acts) behind refl
-    (joined (act_signs a) (with_separators (comma ∷ []) act_signs acts) (act_text a) (with_separators (codes ", ") act_text acts) behind (act_written a (with_separators (codes ", ") act_text acts ++ behind) h.0) (later_written acts behind h.1)))
+    (joined (act_signs a) (with_separators (comma ∷ []) act_signs acts) (act_text a) (with_separators (codes ", ") act_text acts) behind
+    (act_written a (with_separators (codes ", ") act_text acts ++ behind) h.0) (later_written acts behind h.1)))
 
 acts_written : (acts : List ActTree) (behind : List ℕ) → AreActsWritable acts → IsWritten (acts_signs acts) (acts_text acts) behind
 acts_written [] behind h = nothing_written behind
-acts_written (a ∷ acts) behind h = joined (act_signs a) (with_separators (comma ∷ []) act_signs acts) (act_text a) (with_separators (codes ", ") act_text acts) behind (act_written a (with_separators (codes ", ") act_text acts ++ behind) h.0) (later_written acts behind h.1)
+acts_written (a ∷ acts) behind h =
+    joined (act_signs a) (with_separators (comma ∷ []) act_signs acts) (act_text a) (with_separators (codes ", ") act_text acts) behind
+    (act_written a (with_separators (codes ", ") act_text acts ++ behind) h.0) (later_written acts behind h.1)
 
 -- ---- numbers
 
@@ -82,7 +87,8 @@ no_digit : (ns : List ℕ) (behind : List ℕ) → begins is_digit behind ≡ fa
 no_digit [] behind h = h
 no_digit (n ∷ ns) behind h = refl
 
-more_written : (ns : List ℕ) (behind : List ℕ) → begins is_digit behind ≡ false → AreNumbersWritable ns → IsWritten (with_separators (comma ∷ []) number_signs ns) (with_separators (codes ", ") decimal ns) behind
+more_written : (ns : List ℕ) (behind : List ℕ) → begins is_digit behind ≡ false → AreNumbersWritable ns
+    → IsWritten (with_separators (comma ∷ []) number_signs ns) (with_separators (codes ", ") decimal ns) behind
 more_written [] behind e h = nothing_written behind
 more_written (n ∷ ns) behind e h =
     before_mark comma (number n ∷ with_separators (comma ∷ []) number_signs ns) (codes ",") (codes " " ++ (decimal n ++ with_separators (codes ", ") decimal ns)) behind refl refl
@@ -91,7 +97,8 @@ more_written (n ∷ ns) behind e h =
 
 numbers_written : (ns : List ℕ) (behind : List ℕ) → begins is_digit behind ≡ false → AreNumbersWritable ns → IsWritten (numbers_signs ns) (numbers_text ns) behind
 numbers_written [] behind e h = nothing_written behind
-numbers_written (n ∷ ns) behind e h = before_number n (with_separators (comma ∷ []) number_signs ns) (with_separators (codes ", ") decimal ns) behind h.0 (no_digit ns behind e) (more_written ns behind e h.1)
+numbers_written (n ∷ ns) behind e h =
+    before_number n (with_separators (comma ∷ []) number_signs ns) (with_separators (codes ", ") decimal ns) behind h.0 (no_digit ns behind e) (more_written ns behind e h.1)
 
 -- ---- nodes
 
@@ -100,11 +107,14 @@ last_written behind = before_mark close_bracket [] (codes "]") (codes "\n") behi
 
 rest_written : (t : NodeTree) (behind : List ℕ) → IsNodeWritable t → IsWritten (rest_signs t) (rest_text t) behind
 rest_written t behind h =
-    let nexts : IsWritten (numbers_signs t.next ++ close_bracket ∷ []) (numbers_text t.next ++ codes "]\n") behind = joined (numbers_signs t.next) (close_bracket ∷ []) (numbers_text t.next) (codes "]\n") behind (numbers_written t.next (codes "]\n" ++ behind) refl h.next) (last_written behind) in
+    let nexts : IsWritten (numbers_signs t.next ++ close_bracket ∷ []) (numbers_text t.next ++ codes "]\n") behind
+    = joined (numbers_signs t.next) (close_bracket ∷ []) (numbers_text t.next) (codes "]\n") behind (numbers_written t.next (codes "]\n" ++ behind) refl h.next) (last_written behind) in
     let s5 : List Sign = numbers_signs t.next ++ close_bracket ∷ [] in
     let t5 : List ℕ = numbers_text t.next ++ codes "]\n" in
-    before_mark close_bracket (number t.above ∷ plain (codes "rank") ∷ number t.rank ∷ plain (codes "next") ∷ open_bracket ∷ s5) (codes "]") (codes " " ++ (decimal t.above ++ (codes " rank " ++ (decimal t.rank ++ (codes " next [" ++ t5))))) behind refl refl
-    (before_blank 32 (number t.above ∷ plain (codes "rank") ∷ number t.rank ∷ plain (codes "next") ∷ open_bracket ∷ s5) (decimal t.above ++ (codes " rank " ++ (decimal t.rank ++ (codes " next [" ++ t5)))) behind refl
+    before_mark close_bracket (number t.above ∷ plain (codes "rank") ∷ number t.rank ∷ plain (codes "next") ∷ open_bracket ∷ s5) (codes "]")
+    (codes " " ++ (decimal t.above ++ (codes " rank " ++ (decimal t.rank ++ (codes " next [" ++ t5))))) behind refl refl
+    (before_blank 32 (number t.above ∷ plain (codes "rank") ∷ number t.rank ∷ plain (codes "next") ∷ open_bracket ∷ s5)
+    (decimal t.above ++ (codes " rank " ++ (decimal t.rank ++ (codes " next [" ++ t5)))) behind refl
     (before_number t.above (plain (codes "rank") ∷ number t.rank ∷ plain (codes "next") ∷ open_bracket ∷ s5) (codes " rank " ++ (decimal t.rank ++ (codes " next [" ++ t5))) behind h.above refl
     (before_blank 32 (plain (codes "rank") ∷ number t.rank ∷ plain (codes "next") ∷ open_bracket ∷ s5) (codes "rank " ++ (decimal t.rank ++ (codes " next [" ++ t5))) behind refl
     (before_role (codes "rank") (number t.rank ∷ plain (codes "next") ∷ open_bracket ∷ s5) (codes " " ++ (decimal t.rank ++ (codes " next [" ++ t5))) behind refl refl
@@ -117,7 +127,8 @@ rest_written t behind h =
 
 node_written : (n : ℕ) (t : NodeTree) (behind : List ℕ) → n ≤ 4294967295 → IsNodeWritable t → IsWritten (node_signs n t) (node_text n t) behind
 node_written n t behind small h =
-    let acts : IsWritten (acts_signs t.pending ++ rest_signs t) (acts_text t.pending ++ rest_text t) behind = joined (acts_signs t.pending) (rest_signs t) (acts_text t.pending) (rest_text t) behind (acts_written t.pending (rest_text t ++ behind) h.acts) (rest_written t behind h) in
+    let acts : IsWritten (acts_signs t.pending ++ rest_signs t) (acts_text t.pending ++ rest_text t) behind
+    = joined (acts_signs t.pending) (rest_signs t) (acts_text t.pending) (rest_text t) behind (acts_written t.pending (rest_text t ++ behind) h.acts) (rest_written t behind h) in
     let s3 : List Sign = acts_signs t.pending ++ rest_signs t in
     let t3 : List ℕ = acts_text t.pending ++ rest_text t in
     before_number n (colon ∷ number t.state ∷ open_bracket ∷ s3) (codes ": " ++ (decimal t.state ++ (codes " [" ++ t3))) behind small refl
@@ -129,7 +140,8 @@ node_written n t behind small h =
 
 nodes_written : (n : ℕ) (ts : List NodeTree) (behind : List ℕ) → AreNodesWritable n ts → IsWritten (nodes_signs n ts) (nodes_text n ts) behind
 nodes_written n [] behind h = nothing_written behind
-nodes_written n (t ∷ ts) behind h = joined (node_signs n t) (nodes_signs (suc n) ts) (node_text n t) (nodes_text (suc n) ts) behind (node_written n t (nodes_text (suc n) ts ++ behind) h.0 h.1) (nodes_written (suc n) ts behind h.2)
+nodes_written n (t ∷ ts) behind h =
+    joined (node_signs n t) (nodes_signs (suc n) ts) (node_text n t) (nodes_text (suc n) ts) behind (node_written n t (nodes_text (suc n) ts ++ behind) h.0 h.1) (nodes_written (suc n) ts behind h.2)
 
 -- ---- the whole
 
@@ -138,8 +150,10 @@ pub record IsTreeWritable (t : DerivationTree) : Type 0 where
   pub bound : t.bound ≤ 4294967295
   pub nodes : AreNodesWritable 0 t.nodes
 
-texts : (role bound rest : List ℕ) → (codes "derivation " ++ (role ++ (codes " bound " ++ (bound ++ codes " {\n")))) ++ rest ≡ codes "derivation " ++ (role ++ (codes " bound " ++ (bound ++ (codes " {\n" ++ rest))))
-texts role bound rest = ap (λ z. codes "derivation " ++ z) (append_assoc role (codes " bound " ++ (bound ++ codes " {\n")) rest ∙ ap (λ z. role ++ (codes " bound " ++ z)) (append_assoc bound (codes " {\n") rest))
+texts : (role bound rest : List ℕ)
+    → (codes "derivation " ++ (role ++ (codes " bound " ++ (bound ++ codes " {\n")))) ++ rest ≡ codes "derivation " ++ (role ++ (codes " bound " ++ (bound ++ (codes " {\n" ++ rest))))
+texts role bound rest =
+    ap (λ z. codes "derivation " ++ z) (append_assoc role (codes " bound " ++ (bound ++ codes " {\n")) rest ∙ ap (λ z. role ++ (codes " bound " ++ z)) (append_assoc bound (codes " {\n") rest))
 
 pub written : (t : DerivationTree) (behind : List ℕ) → IsTreeWritable t → IsWritten (derivation_signs t) (derivation_text t) behind
 written t behind h =
@@ -149,7 +163,8 @@ written t behind h =
     let all : IsWritten s6 t6 behind = joined (nodes_signs 0 t.nodes) (close_brace ∷ []) (nodes_text 0 t.nodes) (codes "}\n") behind (nodes_written 0 t.nodes (codes "}\n" ++ behind) h.nodes) last in
     let shape : derivation_text t ≡ codes "derivation " ++ (t.role ++ (codes " bound " ++ (decimal t.bound ++ (codes " {\n" ++ t6)))) = texts t.role (decimal t.bound) t6 in
     subst (λ (z : List ℕ). IsWritten (derivation_signs t) z behind) (sym shape)
-    (before_role (codes "derivation") (plain t.role ∷ plain (codes "bound") ∷ number t.bound ∷ open_brace ∷ s6) (codes " " ++ (t.role ++ (codes " bound " ++ (decimal t.bound ++ (codes " {\n" ++ t6))))) behind refl refl
+    (before_role (codes "derivation") (plain t.role ∷ plain (codes "bound") ∷ number t.bound ∷ open_brace ∷ s6)
+    (codes " " ++ (t.role ++ (codes " bound " ++ (decimal t.bound ++ (codes " {\n" ++ t6))))) behind refl refl
     (before_blank 32 (plain t.role ∷ plain (codes "bound") ∷ number t.bound ∷ open_brace ∷ s6) (t.role ++ (codes " bound " ++ (decimal t.bound ++ (codes " {\n" ++ t6)))) behind refl
     (before_role t.role (plain (codes "bound") ∷ number t.bound ∷ open_brace ∷ s6) (codes " bound " ++ (decimal t.bound ++ (codes " {\n" ++ t6))) behind h.role refl
     (before_blank 32 (plain (codes "bound") ∷ number t.bound ∷ open_brace ∷ s6) (codes "bound " ++ (decimal t.bound ++ (codes " {\n" ++ t6))) behind refl

@@ -4,7 +4,7 @@ use Rattle.std.specs.List.{list_all}
 use Rattle.rs_model.specs.Data.{Names_data}
 use Rattle.rs_model.specs.declared.graph.Role.{Role}
 use Rattle.rs_model.specs.declared.limits.TheConstants.{MOST_CANDIDATES}
-use Rattle.rs_prefix.specs.declared.earliest.Kind.{Kind}
+use Rattle.rs_prefix.specs.declared.earliest.ActKind.{ActKind}
 use Rattle.rs_text.specs.declared.faults.TextKind.TheVariants as kind
 use Rattle.rs_text.specs.declared.faults.Wanted.{Wanted}
 use Rattle.rs_text.specs.Lexemes.{Lexeme}
@@ -19,14 +19,17 @@ use Rattle.rs_text.proofs.Judging.{IsNamed, named}
 use Rattle.rs_text.proofs.Basics.{both}
 use Rattle.rs_text.proofs.MessageLaws.{GoodLabels, GoodBehind, labels_first, message_good}
 use Rattle.rs_text.proofs.Naming.{decides_sound}
-use Rattle.rs_text.specs.Messages.{Message, goes_on, ends, feed_message}
+use Rattle.rs_text.specs.Messages.{MessageFed, goes_on, ends, feed_message}
 use Rattle.rs_text.proofs.Keeping.{if_ok}
 use Rattle.rs_text.specs.declared.faults.TextFault.{TextFault}
 use Rattle.rs_derivations.specs.declared.reading.Mode.{Mode}
 use Rattle.rs_derivations.specs.declared.reading.Mode.TheVariants as mode
 use Rattle.rs_derivations.specs.Data.{Reader_data}
-use Rattle.rs_derivations.specs.Faults.{Keeps, number_value}
-use Rattle.rs_derivations.specs.Feeding.{Fed, in_mode, passes, feed_derivation_role, feed_role, feed_bound, feed_node, feed_state, feed_peer, feed_act, feed_mark, in_message, feed_behind_act, feed_above, feed_rank, feed_node_end, feed_next, feed_behind_next, feed_rest, feed_at, feed_of, names_read, is_bound, is_some_of, is_none_of, is_comma, is_close_bracket, is_close_brace, mark_kind, feeding}
+use Rattle.rs_derivations.specs.Faults.{number_value}
+use Rattle.rs_text.specs.Kept.{Keeps}
+use Rattle.rs_derivations.specs.Feeding.{Fed, in_mode, passes, feed_derivation_role, feed_role, feed_bound, feed_node, feed_state, feed_peer, feed_act, feed_mark, in_message, feed_behind_act}
+use Rattle.rs_derivations.specs.Feeding.{feed_above, feed_rank, feed_node_end, feed_next, feed_behind_next, feed_rest, feed_at, feed_of, names_read, is_bound, is_some_of, is_none_of, is_comma}
+use Rattle.rs_derivations.specs.Feeding.{is_close_bracket, is_close_brace, mark_kind, feeding}
 
 -- names that are still sound, with further labels behind the old ones
 pub record GoodNames (old : Names_data) (roles labels : List (List ℕ)) : Type 0 where
@@ -76,11 +79,11 @@ act : (old : Names_data) (o : Option (List ℕ)) (c : Bool) (at : ℕ) (r : Read
 act old None c at r h = passed old (c && is_none_of r.node.pending) _ mode.AtAbove at r h
 act old (Some w) c at r h = met old (place_of w r.roles) at r h
 
-mark : (old : Names_data) (p : Role) (o : Option Kind) (at : ℕ) (r : Reader_data) → Good old r → Stays old (feed_mark p o at r)
+mark : (old : Names_data) (p : Role) (o : Option ActKind) (at : ℕ) (r : Reader_data) → Good old r → Stays old (feed_mark p o at r)
 mark old p None at r h = tt
 mark old p (Some k) at r h = h
 
-message : (old : Names_data) (p : Role) (m : Kind) (x : Result Message TextFault) (r : Reader_data) → IfOk x (GoodBehind old.labels r.labels) → Good old r → Stays old (in_message p m x r)
+message : (old : Names_data) (p : Role) (m : ActKind) (x : Result MessageFed TextFault) (r : Reader_data) → IfOk x (GoodBehind old.labels r.labels) → Good old r → Stays old (in_message p m x r)
 message old p m (Err e) r k h = tt
 message old p m (Ok (goes_on labels x)) r k h = record { roles_are = h.roles_are; labels_good = k }
 message old p m (Ok (ends l s)) r k h = h

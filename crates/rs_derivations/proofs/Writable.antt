@@ -7,7 +7,7 @@ use Rattle.std.specs.List.{All, flat_map, list_all, list_any}
 use Rattle.std.specs.Set.{distinct_count}
 use Rattle.rs_model.specs.Data.{Names_data}
 use Rattle.rs_model.specs.declared.machines.Act.{Act}
-use Rattle.rs_prefix.specs.declared.earliest.Kind.TheVariants as act
+use Rattle.rs_prefix.specs.declared.earliest.ActKind.TheVariants as act
 use Rattle.rs_text.specs.Names.{names_with, is_among, place_of, number_or}
 use Rattle.rs_text.proofs.Naming.{not_among}
 use Rattle.rs_text.proofs.Numbers.{place_below}
@@ -19,12 +19,13 @@ use Rattle.std.specs.Set.{unique_keys}
 use Rattle.rs_model.specs.declared.graph.Label.{Label}
 use Rattle.rs_model.specs.declared.graph.Role.{Role}
 use Rattle.rs_model.specs.declared.values.Sort.{Sort}
-use Rattle.rs_prefix.specs.declared.earliest.Kind.{Kind}
+use Rattle.rs_prefix.specs.declared.earliest.ActKind.{ActKind}
 use Rattle.rs_text.proofs.Basics.{both}
 use Rattle.rs_text.specs.Arms.{sort_or_unit}
 use Rattle.rs_derive.specs.Data.{DNode_data}
-use Rattle.rs_derivations.specs.Derivations.{act_of_kind, role_named, label_named, labels_of_acts, labels_of_node, labels_of_nodes, peers_of_acts, peers_of_node, peers_of_nodes, act_of, node_of, derivation_of, names_of}
-use Rattle.rs_derivations.specs.Printable.{peer_of, label_of, IsPrintable}
+use Rattle.rs_derivations.specs.Derivations.{act_of_kind, role_named, label_named, labels_of_acts, labels_of_node, labels_of_nodes, peers_of_acts, peers_of_node, peers_of_nodes, act_of_tree}
+use Rattle.rs_derivations.specs.Derivations.{node_of_tree, derivation_of, names_of}
+use Rattle.rs_derivations.specs.Printable.{peer_of, label_number, IsPrintable}
 use Rattle.rs_derivations.specs.Spells.{Fits}
 use Rattle.rs_derivations.specs.Trees.{ActTree, NodeTree, DerivationTree}
 
@@ -38,18 +39,18 @@ below_by names x (Some n) e h = subst (λ (z : Option ℕ). number_or z < length
 pub below : (names : List (List ℕ)) (x : List ℕ) → is_among x names ≡ true → number_or (place_of x names) < length names
 below names x h = below_by names x (place_of x names) refl h
 
-peer_made : (k : Kind) (p : Role) (l : Label) (s : Sort) → peer_of (act_of_kind k p l s) ≡ p.0
+peer_made : (k : ActKind) (p : Role) (l : Label) (s : Sort) → peer_of (act_of_kind k p l s) ≡ p.0
 peer_made act.Send p l s = refl
 peer_made act.Receive p l s = refl
 
-label_made : (k : Kind) (p : Role) (l : Label) (s : Sort) → label_of (act_of_kind k p l s) ≡ l.0
+label_made : (k : ActKind) (p : Role) (l : Label) (s : Sort) → label_number (act_of_kind k p l s) ≡ l.0
 label_made act.Send p l s = refl
 label_made act.Receive p l s = refl
 
-peer_is : (names : Names_data) (a : ActTree) → peer_of (act_of names a) ≡ number_or (place_of a.peer names.roles)
+peer_is : (names : Names_data) (a : ActTree) → peer_of (act_of_tree names a) ≡ number_or (place_of a.peer names.roles)
 peer_is names a = peer_made a.kind (role_named names a.peer) (label_named names a.label) (sort_or_unit a.sort)
 
-label_is : (names : Names_data) (a : ActTree) → label_of (act_of names a) ≡ number_or (place_of a.label names.labels)
+label_is : (names : Names_data) (a : ActTree) → label_number (act_of_tree names a) ≡ number_or (place_of a.label names.labels)
 label_is names a = label_made a.kind (role_named names a.peer) (label_named names a.label) (sort_or_unit a.sort)
 
 -- ---- acts and nodes
@@ -57,32 +58,36 @@ label_is names a = label_made a.kind (role_named names a.peer) (label_named name
 nothing : (P : Act → Type 0) → All P []
 nothing P = λ k d h. absurd (omega arith)
 
-peers_below : (names : Names_data) (acts : List ActTree) → Known names.roles (peers_of_acts acts) → All (λ a. peer_of a < length names.roles) (map (act_of names) acts)
+peers_below : (names : Names_data) (acts : List ActTree) → Known names.roles (peers_of_acts acts) → All (λ a. peer_of a < length names.roles) (map (act_of_tree names) acts)
 peers_below names [] h = nothing (λ a. peer_of a < length names.roles)
 peers_below names (a ∷ acts) h =
     let k = both (is_among a.peer names.roles) (list_all (λ x. is_among x names.roles) (peers_of_acts acts)) h in
-    All-cons (λ a. peer_of a < length names.roles) (act_of names a) (map (act_of names) acts) (subst (λ (z : ℕ). z < length names.roles) (sym (peer_is names a)) (below names.roles a.peer k.0)) (peers_below names acts k.1)
+    All-cons (λ a. peer_of a < length names.roles) (act_of_tree names a) (map (act_of_tree names) acts)
+    (subst (λ (z : ℕ). z < length names.roles) (sym (peer_is names a)) (below names.roles a.peer k.0))
+    (peers_below names acts k.1)
 
-labels_below : (names : Names_data) (acts : List ActTree) → Known names.labels (labels_of_acts acts) → All (λ a. label_of a < length names.labels) (map (act_of names) acts)
-labels_below names [] h = nothing (λ a. label_of a < length names.labels)
+labels_below : (names : Names_data) (acts : List ActTree) → Known names.labels (labels_of_acts acts) → All (λ a. label_number a < length names.labels) (map (act_of_tree names) acts)
+labels_below names [] h = nothing (λ a. label_number a < length names.labels)
 labels_below names (a ∷ acts) h =
     let k = both (is_among a.label names.labels) (list_all (λ x. is_among x names.labels) (labels_of_acts acts)) h in
-    All-cons (λ a. label_of a < length names.labels) (act_of names a) (map (act_of names) acts) (subst (λ (z : ℕ). z < length names.labels) (sym (label_is names a)) (below names.labels a.label k.0)) (labels_below names acts k.1)
+    All-cons (λ a. label_number a < length names.labels) (act_of_tree names a) (map (act_of_tree names) acts)
+    (subst (λ (z : ℕ). z < length names.labels) (sym (label_is names a)) (below names.labels a.label k.0))
+    (labels_below names acts k.1)
 
 abbrev acts_in : Names_data → List NodeTree → List Act
-acts_in names ns = flat_map (λ (n : DNode_data). n.pending) (map (node_of names) ns)
+acts_in names ns = flat_map (λ (n : DNode_data). n.pending) (map (node_of_tree names) ns)
 
 all_peers : (names : Names_data) (ns : List NodeTree) → Known names.roles (peers_of_nodes ns) → All (λ a. peer_of a < length names.roles) (acts_in names ns)
 all_peers names [] h = nothing (λ a. peer_of a < length names.roles)
 all_peers names (n ∷ ns) h =
     let k = known_parts names.roles (peers_of_node n) (peers_of_nodes ns) h in
-    All-append (λ a. peer_of a < length names.roles) (map (act_of names) n.pending) (acts_in names ns) (peers_below names n.pending k.0) (all_peers names ns k.1)
+    All-append (λ a. peer_of a < length names.roles) (map (act_of_tree names) n.pending) (acts_in names ns) (peers_below names n.pending k.0) (all_peers names ns k.1)
 
-all_labels : (names : Names_data) (ns : List NodeTree) → Known names.labels (labels_of_nodes ns) → All (λ a. label_of a < length names.labels) (acts_in names ns)
-all_labels names [] h = nothing (λ a. label_of a < length names.labels)
+all_labels : (names : Names_data) (ns : List NodeTree) → Known names.labels (labels_of_nodes ns) → All (λ a. label_number a < length names.labels) (acts_in names ns)
+all_labels names [] h = nothing (λ a. label_number a < length names.labels)
 all_labels names (n ∷ ns) h =
     let k = known_parts names.labels (labels_of_node n) (labels_of_nodes ns) h in
-    All-append (λ a. label_of a < length names.labels) (map (act_of names) n.pending) (acts_in names ns) (labels_below names n.pending k.0) (all_labels names ns k.1)
+    All-append (λ a. label_number a < length names.labels) (map (act_of_tree names) n.pending) (acts_in names ns) (labels_below names n.pending k.0) (all_labels names ns k.1)
 
 -- ---- few labels
 
@@ -94,7 +99,8 @@ or_first : (a b : Bool) → (a || b) ≡ true → (a ≡ true) ⊎ (b ≡ true)
 or_first true b h = inl refl
 or_first false b h = inr h
 
-same_by : (b c : Bool) (xs : List ℕ) (x q : ℕ) → list_any (eqb x) xs ≡ b → eqb q x ≡ c → list_any (eqb q) (unique_keys eqb xs) ≡ list_any (eqb q) xs → list_any (eqb q) (cond b (unique_keys eqb xs) (x ∷ unique_keys eqb xs)) ≡ (c || list_any (eqb q) xs)
+same_by : (b c : Bool) (xs : List ℕ) (x q : ℕ) → list_any (eqb x) xs ≡ b → eqb q x ≡ c → list_any (eqb q) (unique_keys eqb xs) ≡ list_any (eqb q) xs
+    → list_any (eqb q) (cond b (unique_keys eqb xs) (x ∷ unique_keys eqb xs)) ≡ (c || list_any (eqb q) xs)
 same_by true true xs x q m t r = r ∙ ap (λ z. list_any (eqb z) xs) (eqb-true q x t) ∙ m
 same_by true false xs x q m t r = r
 same_by false c xs x q m t r = ap (λ z. z || list_any (eqb q) (unique_keys eqb xs)) t ∙ ap (λ z. c || z) r
@@ -123,11 +129,11 @@ unique_distinct (x ∷ xs) = distinct_by (list_any (eqb x) xs) xs x refl (unique
 few_below : (xs : List ℕ) (n : ℕ) → ((q : ℕ) → list_any (eqb q) xs ≡ true → q < n) → distinct_count eqb xs ≤ n
 few_below xs n h = length-le_from_distinct_below (unique_keys eqb xs) n (unique_distinct xs) (λ q e. h q (sym (unique_same xs q) ∙ e))
 
-label_there : (acts : List Act) (n q : ℕ) → All (λ a. label_of a < n) acts → list_any (eqb q) (map label_of acts) ≡ true → q < n
+label_there : (acts : List Act) (n q : ℕ) → All (λ a. label_number a < n) acts → list_any (eqb q) (map label_number acts) ≡ true → q < n
 label_there [] n q h e = absurd (cc e)
-label_there (a ∷ acts) n q h e = elim (or_first (eqb q (label_of a)) (list_any (eqb q) (map label_of acts)) e) [
-  | inl k ↦ subst (λ (z : ℕ). z < n) (sym (eqb-true q (label_of a) k)) (All-head (λ a. label_of a < n) a acts h)
-  | inr k ↦ label_there acts n q (All-tail (λ a. label_of a < n) a acts h) k
+label_there (a ∷ acts) n q h e = elim (or_first (eqb q (label_number a)) (list_any (eqb q) (map label_number acts)) e) [
+  | inl k ↦ subst (λ (z : ℕ). z < n) (sym (eqb-true q (label_number a) k)) (All-head (λ a. label_number a < n) a acts h)
+  | inr k ↦ label_there acts n q (All-tail (λ a. label_number a < n) a acts h) k
 ]
 
 -- ---- the whole
@@ -140,9 +146,9 @@ printable old t f =
     let names : Names_data = names_of old t in
     let k = both (is_among t.role old.roles) (list_all (λ x. is_among x old.roles) (peers_of_nodes t.nodes)) f.roles in
     let labels = all_labels names t.nodes (grown_known old (labels_of_nodes t.nodes)) in
-    let few = few_below (map label_of (acts_in names t.nodes)) (length names.labels) (λ q e. label_there (acts_in names t.nodes) (length names.labels) q labels e) in
+    let few = few_below (map label_number (acts_in names t.nodes)) (length names.labels) (λ q e. label_there (acts_in names t.nodes) (length names.labels) q labels e) in
     let most = f.labels in
-    let size = length-map t.nodes (node_of names) in
+    let size = length-map t.nodes (node_of_tree names) in
     let some = f.formed.some in
     let all = f.nodes in
     record {

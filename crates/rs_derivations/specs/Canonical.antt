@@ -6,8 +6,8 @@ use Rattle.rs_model.specs.declared.graph.Role.{Role}
 use Rattle.rs_model.specs.declared.machines.Act.{Act}
 use Rattle.rs_model.specs.declared.machines.Act.TheVariants.{Puts, Takes}
 use Rattle.rs_model.specs.declared.values.Sort.{Sort}
-use Rattle.rs_prefix.specs.declared.earliest.Kind.{Kind}
-use Rattle.rs_prefix.specs.declared.earliest.Kind.TheVariants as act
+use Rattle.rs_prefix.specs.declared.earliest.ActKind.{ActKind}
+use Rattle.rs_prefix.specs.declared.earliest.ActKind.TheVariants as act
 use Rattle.rs_derive.specs.Data.{DNode_data, Derivation_data}
 use Rattle.rs_text.specs.NamePlaces.{name_at}
 use Rattle.rs_text.specs.Shown.{shown_sort}
@@ -15,7 +15,7 @@ use Rattle.rs_derivations.specs.Trees.{ActTree, NodeTree, DerivationTree}
 use Rattle.rs_derivations.specs.Texts.{derivation_text}
 
 -- the names of the peer and the label; the unit isn't shown
-abbrev pub shown_act : Names_data → Kind → Role → Label → Sort → ActTree
+abbrev pub shown_act : Names_data → ActKind → Role → Label → Sort → ActTree
 shown_act names kind peer label sort = record { peer = name_at names.roles peer.0; kind = kind; label = name_at names.labels label.0; sort = shown_sort sort }
 
 -- the tree of an act

@@ -1,22 +1,23 @@
 -- Believed: the places of the grammar, and what is wanted there.
 use Rattle.std.specs.Prelude.{ℕ, List, [], ◌∷◌, ◌++◌, codes, length}
 use Rattle.rs_model.specs.declared.values.Sort.{Sort}
-use Rattle.rs_prefix.specs.declared.earliest.Kind.{Kind}
+use Rattle.rs_prefix.specs.declared.earliest.ActKind.{ActKind}
 use Rattle.rs_text.specs.Arms.{sort_text}
 use Rattle.rs_text.specs.Signs.{Sign, plain, number, word_sign, colon, comma, open_paren, open_bracket, close_bracket}
 use Rattle.rs_text.specs.declared.faults.Wanted.{Wanted}
 use Rattle.rs_text.specs.declared.faults.Wanted.TheVariants as wanted
 use Rattle.rs_derivations.specs.Lists.{list_with_separators}
-use Rattle.rs_derivations.specs.Spells.{IsBound, IsFormed}
+use Rattle.rs_derivations.specs.Spells.{IsFormed}
+use Rattle.rs_model.specs.Limits.{IsBound}
 use Rattle.rs_derivations.specs.Trees.{ActTree, NodeTree, DerivationTree, mark_sign, act_signs, acts_signs, number_signs, numbers_signs, head_signs, nodes_signs, derivation_signs}
 
 -- an act cut off at a place
 pub data ActCut : Type 0 where
   behind_peer : (peer : List ℕ) → ActCut
-  behind_mark : (peer : List ℕ) → (kind : Kind) → ActCut
-  behind_label : (peer : List ℕ) → (kind : Kind) → (label : List ℕ) → ActCut
-  behind_paren : (peer : List ℕ) → (kind : Kind) → (label : List ℕ) → ActCut
-  behind_sort : (peer : List ℕ) → (kind : Kind) → (label : List ℕ) → (sort : Sort) → ActCut
+  behind_mark : (peer : List ℕ) → (kind : ActKind) → ActCut
+  behind_label : (peer : List ℕ) → (kind : ActKind) → (label : List ℕ) → ActCut
+  behind_paren : (peer : List ℕ) → (kind : ActKind) → (label : List ℕ) → ActCut
+  behind_sort : (peer : List ℕ) → (kind : ActKind) → (label : List ℕ) → (sort : Sort) → ActCut
 
 -- a node cut off at a place: what stands before the place
 pub data NodeCut : Type 0 where
@@ -106,12 +107,12 @@ abbrev pub node_wanted : {A : Type 0} → List A → Wanted
 node_wanted [] = wanted.Node
 node_wanted (x ∷ xs) = wanted.NodeOrCloseBrace
 
--- .. for a further act
+-- what is wanted for a further act
 abbrev pub act_wanted : {A : Type 0} → List A → Wanted
 act_wanted [] = wanted.ActOrCloseBracket
 act_wanted (x ∷ xs) = wanted.Role
 
--- .. for a further next
+-- what is wanted for a further next
 abbrev pub next_wanted : {A : Type 0} → List A → Wanted
 next_wanted [] = wanted.NumberOrCloseBracket
 next_wanted (x ∷ xs) = wanted.Number

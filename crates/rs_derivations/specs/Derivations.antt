@@ -7,8 +7,8 @@ use Rattle.rs_model.specs.declared.graph.Role.{Role}
 use Rattle.rs_model.specs.declared.machines.Act.{Act}
 use Rattle.rs_model.specs.declared.machines.Act.TheVariants.{Puts, Takes}
 use Rattle.rs_model.specs.declared.values.Sort.{Sort}
-use Rattle.rs_prefix.specs.declared.earliest.Kind.{Kind}
-use Rattle.rs_prefix.specs.declared.earliest.Kind.TheVariants as act
+use Rattle.rs_prefix.specs.declared.earliest.ActKind.{ActKind}
+use Rattle.rs_prefix.specs.declared.earliest.ActKind.TheVariants as act
 use Rattle.rs_derive.specs.Data.{DNode_data, Derivation_data}
 use Rattle.rs_text.specs.Arms.{sort_or_unit}
 use Rattle.rs_text.specs.Names.{place_of, names_with, number_or}
@@ -18,7 +18,7 @@ use Rattle.rs_derivations.specs.Trees.{ActTree, NodeTree, DerivationTree}
 abbrev pub labels_of_acts : List ActTree → List (List ℕ)
 labels_of_acts acts = map (λ a. a.label) acts
 
--- .. of a node
+-- the labels of a node
 abbrev pub labels_of_node : NodeTree → List (List ℕ)
 labels_of_node t = labels_of_acts t.pending
 
@@ -30,21 +30,21 @@ labels_of_nodes nodes = flat_map labels_of_node nodes
 abbrev pub peers_of_acts : List ActTree → List (List ℕ)
 peers_of_acts acts = map (λ a. a.peer) acts
 
--- .. of a node
+-- the peers of a node
 abbrev pub peers_of_node : NodeTree → List (List ℕ)
 peers_of_node t = peers_of_acts t.pending
 
--- .. of nodes
+-- the peers of nodes
 abbrev pub peers_of_nodes : List NodeTree → List (List ℕ)
 peers_of_nodes nodes = flat_map peers_of_node nodes
 
 -- the names that were there, with the labels that are new behind them in order of their first places
-abbrev pub with_labels : Names_data → List (List ℕ) → Names_data
-with_labels old labels = record { roles = old.roles; labels = names_with old.labels labels }
+abbrev pub with_new_labels : Names_data → List (List ℕ) → Names_data
+with_new_labels old labels = record { roles = old.roles; labels = names_with old.labels labels }
 
--- .. with the labels of a tree
+-- the names with the labels of a tree
 abbrev pub names_of : Names_data → DerivationTree → Names_data
-names_of old t = with_labels old (labels_of_nodes t.nodes)
+names_of old t = with_new_labels old (labels_of_nodes t.nodes)
 
 -- roles and labels are known by the places of their names
 abbrev pub role_named : Names_data → List ℕ → Role
@@ -55,18 +55,18 @@ abbrev pub label_named : Names_data → List ℕ → Label
 label_named names name = record { 0 = number_or (place_of name names.labels) }
 
 -- a send or a receive
-abbrev pub act_of_kind : Kind → Role → Label → Sort → Act
+abbrev pub act_of_kind : ActKind → Role → Label → Sort → Act
 act_of_kind act.Send peer label sort = Puts peer label sort
 act_of_kind act.Receive peer label sort = Takes peer label sort
 
 -- the act that a tree spells, with these names
-abbrev pub act_of : Names_data → ActTree → Act
-act_of names a = act_of_kind a.kind (role_named names a.peer) (label_named names a.label) (sort_or_unit a.sort)
+abbrev pub act_of_tree : Names_data → ActTree → Act
+act_of_tree names a = act_of_kind a.kind (role_named names a.peer) (label_named names a.label) (sort_or_unit a.sort)
 
 -- the node that a tree spells, with these names
-abbrev pub node_of : Names_data → NodeTree → DNode_data
-node_of names t = record { state = t.state; pending = map (act_of names) t.pending; above = t.above; rank = t.rank; next = t.next }
+abbrev pub node_of_tree : Names_data → NodeTree → DNode_data
+node_of_tree names t = record { state = t.state; pending = map (act_of_tree names) t.pending; above = t.above; rank = t.rank; next = t.next }
 
 -- the derivation that a tree spells, with these names
 abbrev pub derivation_of : Names_data → DerivationTree → Derivation_data
-derivation_of names t = record { role = role_named names t.role; bound = t.bound; nodes = map (node_of names) t.nodes }
+derivation_of names t = record { role = role_named names t.role; bound = t.bound; nodes = map (node_of_tree names) t.nodes }

@@ -91,9 +91,3 @@ FaultAt old before t next k = ((w : Wanted) × (k ≡ kind.Expected w) × IsUnex
 -- the fault at the least offset, and at one token the one with the least number
 abbrev pub FirstFault : (old : Names_data) → (bytes : List ℕ) → (at : ℕ) → TextKind → (offset : ℕ) → Type 0
 FirstFault old bytes at kind offset = FirstFaultBy (FaultAt old) bytes at kind offset
-
--- the names that were there stay in their places
-pub record Keeps (old new : Names_data) : Type 0 where
-  pub later : List (List ℕ)
-  pub roles : new.roles ≡ old.roles
-  pub labels : new.labels ≡ old.labels ++ later

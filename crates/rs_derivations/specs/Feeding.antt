@@ -5,15 +5,15 @@ use Rattle.rs_model.specs.declared.graph.Label.{Label}
 use Rattle.rs_model.specs.declared.graph.Role.{Role}
 use Rattle.rs_model.specs.declared.limits.TheConstants.{MOST_BOUND, MOST_CANDIDATES}
 use Rattle.rs_model.specs.declared.values.Sort.{Sort}
-use Rattle.rs_prefix.specs.declared.earliest.Kind.{Kind}
-use Rattle.rs_prefix.specs.declared.earliest.Kind.TheVariants as act
+use Rattle.rs_prefix.specs.declared.earliest.ActKind.{ActKind}
+use Rattle.rs_prefix.specs.declared.earliest.ActKind.TheVariants as act
 use Rattle.rs_derive.specs.Data.{DNode_data, Derivation_data}
 use Rattle.rs_text.specs.declared.faults.TextFault.{TextFault}
 use Rattle.rs_text.specs.declared.faults.TextKind.TheVariants as kind
 use Rattle.rs_text.specs.declared.faults.Wanted.{Wanted}
 use Rattle.rs_text.specs.declared.faults.Wanted.TheVariants as wanted
 use Rattle.rs_text.specs.declared.messages.MessagePlace.TheVariants as place
-use Rattle.rs_text.specs.Messages.{Message, goes_on, ends, feed_message}
+use Rattle.rs_text.specs.Messages.{MessageFed, goes_on, ends, feed_message}
 use Rattle.rs_text.specs.Names.{place_of}
 use Rattle.rs_text.specs.Readings.{Automaton, fault, expected, Fails}
 use Rattle.rs_text.specs.declared.reading.Stop.{Stop}
@@ -59,7 +59,7 @@ is_close_bracket close_bracket = true
 is_close_bracket _ = false
 
 -- a mark, which tells the kind of an act
-abbrev pub mark_kind : Sign → Option Kind
+abbrev pub mark_kind : Sign → Option ActKind
 mark_kind bang = Some act.Send
 mark_kind question = Some act.Receive
 mark_kind _ = None
@@ -109,7 +109,7 @@ abbrev pub feed_derivation_role : Option ℕ → ℕ → Reader_data → Fed
 feed_derivation_role None at r = fault kind.UnknownRole at
 feed_derivation_role (Some k) at r = Ok (record r { role = record { 0 = k }; mode = mode.AtBoundWord })
 
--- .. by its name
+-- the role of the derivation, by its name
 abbrev pub feed_role : Option (List ℕ) → ℕ → Reader_data → Fed
 feed_role None at r = expected wanted.Role at
 feed_role (Some word) at r = feed_derivation_role (place_of word r.roles) at r
@@ -121,7 +121,8 @@ feed_bound (Some n) at r = if is_bound n then Ok (record r { bound = n; mode = m
 
 -- a further node, by its number, or the end
 abbrev pub feed_node : Option ℕ → Bool → ℕ → Reader_data → Fed
-feed_node (Some n) closes at r = if n == length r.nodes then (if nat_le MOST_CANDIDATES (length r.nodes) then fault kind.TooManyNodes at else in_mode mode.AtColon r) else expected (node_wanted r.nodes) at
+feed_node (Some n) closes at r =
+    if n == length r.nodes then (if nat_le MOST_CANDIDATES (length r.nodes) then fault kind.TooManyNodes at else in_mode mode.AtColon r) else expected (node_wanted r.nodes) at
 feed_node None closes at r = passes (closes && is_some_of r.nodes) (node_wanted r.nodes) mode.Behind at r
 
 -- the number of the machine's state
@@ -140,16 +141,16 @@ feed_act (Some word) closes at r = feed_peer (place_of word r.roles) at r
 feed_act None closes at r = passes (closes && is_none_of r.node.pending) (act_wanted r.node.pending) mode.AtAbove at r
 
 -- the mark of an act
-abbrev pub feed_mark : Role → Option Kind → ℕ → Reader_data → Fed
+abbrev pub feed_mark : Role → Option ActKind → ℕ → Reader_data → Fed
 feed_mark p None at r = expected wanted.Mark at
 feed_mark p (Some k) at r = in_mode (mode.InMessage p k place.Label) r
 
 -- the act is pending
-abbrev pub feed_pending : Role → Kind → Label → Sort → Reader_data → Fed
+abbrev pub feed_pending : Role → ActKind → Label → Sort → Reader_data → Fed
 feed_pending p m l s r = Ok (record r { node = record r.node { pending = r.node.pending ++ act_of_kind m p l s ∷ [] }; mode = mode.BehindAct })
 
 -- a message of an act, behind a token
-abbrev pub in_message : Role → Kind → Result Message TextFault → Reader_data → Fed
+abbrev pub in_message : Role → ActKind → Result MessageFed TextFault → Reader_data → Fed
 in_message p m (Err f) r = Err f
 in_message p m (Ok (goes_on labels x)) r = Ok (record r { labels = labels; mode = mode.InMessage p m x })
 in_message p m (Ok (ends l s)) r = feed_pending p m l s r
@@ -181,7 +182,7 @@ feed_next None closes at r = if closes && is_none_of r.node.next then feed_node_
 abbrev pub feed_behind_next : Bool → Bool → ℕ → Reader_data → Fed
 feed_behind_next goes closes at r = if goes then in_mode mode.AtNext r else if closes then feed_node_end r else expected wanted.CommaOrCloseBracket at
 
--- one token: of a node from behind an act ..
+-- one token of a node, from behind an act on
 abbrev pub feed_rest : Mode → Sign → ℕ → Reader_data → Fed
 feed_rest mode.BehindAct t at r = feed_behind_act (is_comma t) (is_close_bracket t) at r
 feed_rest mode.AtAbove t at r = feed_above (number_value t) at r
@@ -193,7 +194,7 @@ feed_rest mode.AtNext t at r = feed_next (number_value t) (is_close_bracket t) a
 feed_rest mode.BehindNext t at r = feed_behind_next (is_comma t) (is_close_bracket t) at r
 feed_rest _ t at r = expected wanted.DerivationOrEnd at
 
--- .. and before that
+-- a token before that
 abbrev pub feed_at : Mode → Sign → ℕ → Reader_data → Fed
 feed_at mode.Derivation t at r = passes (is_keyword (codes "derivation") t) wanted.DerivationOrEnd mode.AtRole at r
 feed_at mode.AtRole t at r = feed_role (plain_text t) at r
@@ -209,7 +210,7 @@ feed_at (mode.AtMark p) t at r = feed_mark p (mark_kind t) at r
 feed_at (mode.InMessage p m x) t at r = in_message p m (feed_message x t at r.labels) r
 feed_at m t at r = feed_rest m t at r
 
--- .. in the mode of the reader
+-- a token in the mode of the reader
 abbrev pub feed_of : Sign → ℕ → Reader_data → Fed
 feed_of t at r = feed_at r.mode t at r
 
@@ -230,7 +231,7 @@ feeding = record { feed = λ t at next r. feed_of t at r; is_read = λ r. is_rea
 abbrev pub names_read : Reader_data → Names_data
 names_read r = record { roles = r.roles; labels = r.labels }
 
--- .. as a derivation
+-- what was read, as a derivation
 abbrev pub derivation_read : Reader_data → Derivation_data
 derivation_read r = record { role = r.role; bound = r.bound; nodes = r.nodes }
 

@@ -7,6 +7,7 @@ pub mod Faults
 pub mod Texts
 pub mod Canonical
 pub mod Printable
+pub mod Read
 pub mod Numbers
 pub mod Data
 pub mod Feeding

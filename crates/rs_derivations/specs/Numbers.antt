@@ -11,6 +11,6 @@ pub record HasSmallNumbers (n : DNode_data) : Type 0 where
   pub rank : n.rank ≤ MOST_NUMBER
   pub next : All (λ k. k ≤ MOST_NUMBER) n.next
 
--- .. of any node of the derivation
+-- the numbers of any node of the derivation are small
 abbrev pub AreSmall : Derivation_data → Type 0
 AreSmall d = All HasSmallNumbers d.nodes

@@ -2,7 +2,8 @@
 use Rattle.std.specs.Prelude.{◌≡◌, ℕ, ◌≤◌, List, ◌∷◌, ◌++◌, length, true}
 use Rattle.std.specs.List.{list_all}
 use Rattle.rs_model.specs.Data.{Names_data}
-use Rattle.rs_model.specs.declared.limits.TheConstants.{MOST_LABELS, MOST_BOUND, MOST_CANDIDATES}
+use Rattle.rs_model.specs.Limits.{IsBound}
+use Rattle.rs_model.specs.declared.limits.TheConstants.{MOST_LABELS, MOST_CANDIDATES}
 use Rattle.rs_derive.specs.Data.{Derivation_data}
 use Rattle.rs_text.specs.Lexemes.{Lexeme, signs_of}
 use Rattle.rs_text.specs.Tokens.{AreTokens}
@@ -10,11 +11,7 @@ use Rattle.rs_text.specs.Names.{is_among, names_with}
 use Rattle.rs_derivations.specs.Derivations.{derivation_of, labels_of_nodes, peers_of_nodes, names_of}
 use Rattle.rs_derivations.specs.Trees.{DerivationTree, derivation_signs}
 
--- the bound is from 1 to 64, and there is a node at least: so the grammar has it
-abbrev pub IsBound : ℕ → Type 0
-IsBound n = (1 ≤ n) × (n ≤ MOST_BOUND)
-
--- .. of a tree
+-- the numbers of a tree are within their limits
 pub record IsFormed (t : DerivationTree) : Type 0 where
   pub bound : IsBound t.bound
   pub some : 1 ≤ length t.nodes

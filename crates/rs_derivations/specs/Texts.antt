@@ -2,14 +2,14 @@
 -- and a line for the brace.
 use Rattle.std.specs.Prelude.{ℕ, suc, List, [], ◌∷◌, ◌++◌, codes}
 use Rattle.std.specs.Fmt.{decimal}
-use Rattle.rs_prefix.specs.declared.earliest.Kind.{Kind}
-use Rattle.rs_prefix.specs.declared.earliest.Kind.TheVariants as act
+use Rattle.rs_prefix.specs.declared.earliest.ActKind.{ActKind}
+use Rattle.rs_prefix.specs.declared.earliest.ActKind.TheVariants as act
 use Rattle.rs_text.specs.Shown.{shown_text}
 use Rattle.rs_derivations.specs.Lists.{list_with_separators}
 use Rattle.rs_derivations.specs.Trees.{ActTree, NodeTree, DerivationTree}
 
 -- ! sends, ? receives
-abbrev pub mark_text : Kind → List ℕ
+abbrev pub mark_text : ActKind → List ℕ
 mark_text act.Send = codes "!"
 mark_text act.Receive = codes "?"
 
@@ -43,9 +43,9 @@ abbrev pub bound_text : ℕ → List ℕ
 bound_text bound = codes " bound " ++ (decimal bound ++ codes " {\n")
 
 -- the first line: `derivation ROLE bound NUM {`
-abbrev pub head_text : List ℕ → ℕ → List ℕ
-head_text role bound = codes "derivation " ++ (role ++ bound_text bound)
+abbrev pub first_line_text : List ℕ → ℕ → List ℕ
+first_line_text role bound = codes "derivation " ++ (role ++ bound_text bound)
 
 -- the text of a derivation tree
 abbrev pub derivation_text : DerivationTree → List ℕ
-derivation_text t = head_text t.role t.bound ++ (nodes_text 0 t.nodes ++ codes "}\n")
+derivation_text t = first_line_text t.role t.bound ++ (nodes_text 0 t.nodes ++ codes "}\n")

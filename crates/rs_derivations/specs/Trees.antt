@@ -1,8 +1,8 @@
 -- Believed: how texts of the derivation grammar are built, and their tokens.
 use Rattle.std.specs.Prelude.{ℕ, suc, List, [], ◌∷◌, ◌++◌, codes, Option}
 use Rattle.rs_model.specs.declared.values.Sort.{Sort}
-use Rattle.rs_prefix.specs.declared.earliest.Kind.{Kind}
-use Rattle.rs_prefix.specs.declared.earliest.Kind.TheVariants as act
+use Rattle.rs_prefix.specs.declared.earliest.ActKind.{ActKind}
+use Rattle.rs_prefix.specs.declared.earliest.ActKind.TheVariants as act
 use Rattle.rs_text.specs.Arms.{sort_signs}
 use Rattle.rs_text.specs.Signs.{Sign, plain, number, word_sign, bang, question, colon, comma, open_brace, close_brace, open_paren, close_paren, open_bracket, close_bracket}
 use Rattle.rs_derivations.specs.Lists.{list_with_separators}
@@ -10,7 +10,7 @@ use Rattle.rs_derivations.specs.Lists.{list_with_separators}
 -- a pending act: its peer, whether it sends or receives, its label, and its sort where one is shown
 pub record ActTree : Type 0 where
   pub peer : List ℕ
-  pub kind : Kind
+  pub kind : ActKind
   pub label : List ℕ
   pub sort : Option Sort
 
@@ -29,7 +29,7 @@ pub record DerivationTree : Type 0 where
   pub nodes : List NodeTree
 
 -- ! sends, ? receives
-abbrev pub mark_sign : Kind → Sign
+abbrev pub mark_sign : ActKind → Sign
 mark_sign act.Send = bang
 mark_sign act.Receive = question
 

@@ -1,12 +1,13 @@
-ghost use Rattle.std.specs.Prelude.{◌≡◌, ◌≤◌, length, IfOk, IfErr, ◌⊎◌, Ok};
-ghost use Rattle.rs_model.specs.declared.limits.TheConstants.{MOST_ROLES, MOST_LABELS};
-ghost use Rattle.rs_text.specs.declared.faults.TextKind.TheVariants as kind;
+//! The reader of derivations.
+
+ghost use Rattle.std.specs.Prelude.{◌≤◌, length, IfOk, IfErr, Ok};
+ghost use Rattle.rs_text.specs.FirstFaults.{IsRefusal};
+ghost use Rattle.rs_text.specs.Kept.{Keeps};
 ghost use Rattle.rs_text.specs.Readings.{ReadsBy, StopsBy};
-ghost use Rattle.rs_text.specs.Sound.{IsSound};
-ghost use Rattle.rs_derivations.specs.Faults.{FirstFault, Keeps};
+ghost use Rattle.rs_text.specs.Sound.{AreReadable, IsSound};
+ghost use Rattle.rs_derivations.specs.Faults.{FirstFault};
 ghost use Rattle.rs_derivations.specs.Feeding.{feeding, names_read};
-ghost use Rattle.rs_derivations.specs.Printable.{IsPrintable};
-ghost use Rattle.rs_derivations.specs.Spells.{SpellsDerivation};
+ghost use Rattle.rs_derivations.specs.Read.{IsDerivationRead};
 
 use crate::reading::Reader;
 use rs_derive::Derivation;
@@ -31,18 +32,11 @@ pub fn read_derivation(
     names: &mut Names,
 ) -> Result<(Derivation, usize), TextFault>
     requires at { at ≤ length bytes.now }
-    requires sound { IsSound names.old }
-    requires roles { length names.old.roles ≤ MOST_ROLES }
-    requires labels { length names.old.labels ≤ MOST_LABELS }
-    ensures ok { IfOk result (λ r. SpellsDerivation bytes.now at names.old names.new r.0 r.1) }
-    ensures err { IfErr result (λ e. (e.kind ≡ kind.NoMemory) ⊎ FirstFault names.old bytes.now at e.kind e.at) }
-    ensures sound { IsSound names.new }
-    ensures roles { names.new.roles ≡ names.old.roles }
-    ensures labels { length names.new.labels ≤ MOST_LABELS }
+    requires names { AreReadable names.old }
+    ensures ok { IfOk result (λ r. IsDerivationRead bytes.now at names.old names.new r.0 r.1) }
+    ensures err { IfErr result (λ e. IsRefusal (FirstFault names.old bytes.now at) bytes.now e) }
+    ensures names { AreReadable names.new }
     ensures kept { Keeps names.old names.new }
-    ensures printable { IfOk result (λ r. IsPrintable names.new r.0) }
-    ensures within { IfOk result (λ r. r.1 ≤ length bytes.now) }
-    ensures place { IfErr result (λ e. e.at ≤ length bytes.now) }
 {
     let labels = mem::replace(&mut names.labels, Vec::new(alloc));
     let mut reader = Reader::new(alloc, names.roles.as_slice(), labels);

@@ -1,4 +1,5 @@
-// What the definitions of derivation texts say together. The functions do nothing: each states a law.
+//! What the definitions of derivation texts say together. The functions do nothing: each states a law.
+
 ghost use Rattle.std.specs.Prelude.{◌≡◌, ◌≤◌, ◌⊎◌, ◌+◌, ◌++◌, ℕ, List, drop, length};
 ghost use Rattle.rs_model.specs.Data.{Names_data};
 ghost use Rattle.rs_model.specs.declared.limits.TheConstants.{MOST_LABELS};
@@ -15,22 +16,26 @@ ghost use Rattle.rs_derivations.specs.Spells.{SpellsDerivation};
 
 /// A text spells one derivation at most, with one list of names and one offset behind it.
 pub fn text_spells_one_derivation()
-    ensures { (old new other : Names_data) (bytes : List ℕ) (at until stop : ℕ) (d e : Derivation_data) → SpellsDerivation bytes at old new d until → SpellsDerivation bytes at old other e stop → (new ≡ other) × (d ≡ e) × (until ≡ stop) }
+    ensures { (old new other : Names_data) (bytes : List ℕ) (at until stop : ℕ) (d e : Derivation_data) → SpellsDerivation bytes at old new d until → SpellsDerivation bytes at old other e stop
+        → (new ≡ other) × (d ≡ e) × (until ≡ stop) }
 {}
 
-/// It has one first fault at most ..
+/// It has one first fault at most.
 pub fn text_has_one_first_fault()
-    ensures { (old : Names_data) → length old.labels ≤ MOST_LABELS → (bytes : List ℕ) (at : ℕ) (kind other : TextKind) (offset stop : ℕ) → FirstFault old bytes at kind offset → FirstFault old bytes at other stop → (kind ≡ other) × (offset ≡ stop) }
+    ensures { (old : Names_data) → length old.labels ≤ MOST_LABELS → (bytes : List ℕ) (at : ℕ) (kind other : TextKind) (offset stop : ℕ) → FirstFault old bytes at kind offset
+        → FirstFault old bytes at other stop → (kind ≡ other) × (offset ≡ stop) }
 {}
 
-/// .. it spells a derivation or has a first fault ..
+/// A text spells a derivation or has a first fault.
 pub fn text_is_spelt_or_has_a_fault()
-    ensures { (old : Names_data) (bytes : List ℕ) (at : ℕ) → length old.labels ≤ MOST_LABELS → at ≤ length bytes → ((new : Names_data) × (d : Derivation_data) × (until : ℕ) × SpellsDerivation bytes at old new d until) ⊎ ((kind : TextKind) × (offset : ℕ) × FirstFault old bytes at kind offset) }
+    ensures { (old : Names_data) (bytes : List ℕ) (at : ℕ) → length old.labels ≤ MOST_LABELS → at ≤ length bytes
+        → ((new : Names_data) × (d : Derivation_data) × (until : ℕ) × SpellsDerivation bytes at old new d until) ⊎ ((kind : TextKind) × (offset : ℕ) × FirstFault old bytes at kind offset) }
 {}
 
-/// .. and not both.
+/// A text that spells a derivation has no first fault.
 pub fn spelt_text_has_no_fault()
-    ensures { (old new : Names_data) (bytes : List ℕ) (at until : ℕ) (d : Derivation_data) (kind : TextKind) (offset : ℕ) → length old.labels ≤ MOST_LABELS → SpellsDerivation bytes at old new d until → FirstFault old bytes at kind offset → ⊥ }
+    ensures { (old new : Names_data) (bytes : List ℕ) (at until : ℕ) (d : Derivation_data) (kind : TextKind) (offset : ℕ) → length old.labels ≤ MOST_LABELS → SpellsDerivation bytes at old new d until
+        → FirstFault old bytes at kind offset → ⊥ }
 {}
 
 /// What a text spells can be printed: its roles and labels have names, and it is within all limits.
@@ -39,28 +44,34 @@ pub fn spelt_derivations_are_printable()
 {}
 
 /// The canonical text of a derivation, wherever it stands, spells the derivation, where its labels bring the names that
-/// were there to those that it is printed with ..
+/// were there to those that it is printed with.
 pub fn canonical_text_is_read_again()
-    ensures { (old names : Names_data) (d : Derivation_data) (bytes : List ℕ) (at : ℕ) (rest : List ℕ) → IsSound names → IsPrintable names d → AreSmall d → length names.labels ≤ MOST_LABELS → names_of old (tree_of names d) ≡ names → drop at bytes ≡ canonical_text names d ++ rest → SpellsDerivation bytes at old names d (next_lexeme bytes (at + length (canonical_text names d))).from }
+    ensures { (old names : Names_data) (d : Derivation_data) (bytes : List ℕ) (at : ℕ) (rest : List ℕ) → IsSound names → IsPrintable names d → AreSmall d → length names.labels ≤ MOST_LABELS
+        → names_of old (tree_of names d) ≡ names → drop at bytes ≡ canonical_text names d ++ rest
+        → SpellsDerivation bytes at old names d (next_lexeme bytes (at + length (canonical_text names d))).from }
 {}
 
-/// .. as these do themselves.
+/// The canonical text has no labels but those of the names.
 pub fn canonical_text_has_no_new_labels()
     ensures { (names : Names_data) (d : Derivation_data) → IsSound names → IsPrintable names d → names_of names (tree_of names d) ≡ names }
 {}
 
-/// .. With any older names that have its roles it spells the derivation too, but for the numbers of labels: each label has
-/// the number that its name gets ..
+/// With any older names that have its roles the canonical text spells the derivation too, but for the numbers of labels:
+/// each label has the number that its name gets.
 pub fn canonical_text_is_read_with_older_names()
-    ensures { (old names : Names_data) (d : Derivation_data) (bytes : List ℕ) (at : ℕ) (rest : List ℕ) → IsSound names → IsPrintable names d → AreSmall d → old.roles ≡ names.roles → length (names_of old (tree_of names d)).labels ≤ MOST_LABELS → drop at bytes ≡ canonical_text names d ++ rest → SpellsDerivation bytes at old (names_of old (tree_of names d)) (derivation_of (names_of old (tree_of names d)) (tree_of names d)) (next_lexeme bytes (at + length (canonical_text names d))).from }
+    ensures { (old names : Names_data) (d : Derivation_data) (bytes : List ℕ) (at : ℕ) (rest : List ℕ) → IsSound names → IsPrintable names d → AreSmall d → old.roles ≡ names.roles
+        → length (names_of old (tree_of names d)).labels ≤ MOST_LABELS → drop at bytes ≡ canonical_text names d ++ rest
+        → SpellsDerivation bytes at old (names_of old (tree_of names d)) (derivation_of (names_of old (tree_of names d)) (tree_of names d))
+        (next_lexeme bytes (at + length (canonical_text names d))).from }
 {}
 
-/// .. since its canonical tree spells the derivation, with the names that it is printed with.
+/// The canonical tree spells the derivation, with the names that it is printed with.
 pub fn canonical_tree_spells_the_derivation()
     ensures { (names : Names_data) (d : Derivation_data) → IsSound names → IsPrintable names d → derivation_of names (tree_of names d) ≡ d }
 {}
 
 /// What is read from a canonical text is printed as it.
 pub fn canonical_text_is_printed_again()
-    ensures { (names new : Names_data) (d e : Derivation_data) (until : ℕ) → IsSound names → IsPrintable names d → AreSmall d → length names.labels ≤ MOST_LABELS → SpellsDerivation (canonical_text names d) 0 names new e until → canonical_text new e ≡ canonical_text names d }
+    ensures { (names new : Names_data) (d e : Derivation_data) (until : ℕ) → IsSound names → IsPrintable names d → AreSmall d → length names.labels ≤ MOST_LABELS
+        → SpellsDerivation (canonical_text names d) 0 names new e until → canonical_text new e ≡ canonical_text names d }
 {}

@@ -1,8 +1,10 @@
+//! The printer of derivations.
+
 ghost use Rattle.std.specs.Prelude.{◌≡◌, ◌≤◌, ◌++◌, codes, length, map, IfOk, OnOk};
 ghost use Rattle.std.specs.Fmt.{decimal};
 ghost use Rattle.rs_text.specs.Sound.{IsSound};
 ghost use Rattle.rs_model.specs.declared.limits.TheConstants.{MOST_ROLES, MOST_BOUND, MOST_CANDIDATES};
-ghost use Rattle.rs_prefix.specs.declared.earliest.Kind.TheVariants as act;
+ghost use Rattle.rs_prefix.specs.declared.earliest.ActKind.TheVariants as act;
 ghost use Rattle.rs_derivations.specs.Canonical.{canonical_text, shown_act, tree_of_act, tree_of_node};
 ghost use Rattle.rs_derivations.specs.Lists.{with_separators};
 ghost use Rattle.rs_derivations.specs.Printable.{RolesHaveNames, LabelsHaveNames, HasFewLabels};
@@ -11,7 +13,7 @@ ghost use Rattle.rs_text.specs.NamePlaces.{name_at};
 
 use rs_derive::{DNode, Derivation};
 use rs_model::{Act, Label, Names, NoMemory, Role, Sort};
-use rs_prefix::Kind;
+use rs_prefix::ActKind;
 use rs_text::Text;
 use rs_text::shown::{push_name, push_sort};
 use std::alloc::Global;
@@ -42,7 +44,7 @@ pub fn print_derivation(
 
 /// The first line.
 fn push_head(text: &mut Text, names: &Names, role: Role, bound: u8) -> Result<(), NoMemory>
-    ensures { OnOk result (text.new ≡ text.old ++ spec.head_text (name_at names.now.roles role.0) bound) }
+    ensures { OnOk result (text.new ≡ text.old ++ spec.first_line_text (name_at names.now.roles role.0) bound) }
 {
     text.push(b"derivation ")?;
     push_role(text, names, role)?;
@@ -87,7 +89,8 @@ fn push_node(text: &mut Text, names: &Names, number: u64, node: &DNode) -> Resul
 
 /// What stands behind the pending acts.
 fn push_rest(text: &mut Text, node: &DNode) -> Result<(), NoMemory>
-    ensures { OnOk result (text.new ≡ text.old ++ (codes "] " ++ (decimal node.now.above ++ (codes " rank " ++ (decimal node.now.rank ++ (codes " next [" ++ (spec.numbers_text node.now.next ++ codes "]\n"))))))) }
+    ensures { OnOk result (text.new ≡ text.old ++ (codes "] " ++
+        (decimal node.now.above ++ (codes " rank " ++ (decimal node.now.rank ++ (codes " next [" ++ (spec.numbers_text node.now.next ++ codes "]\n"))))))) }
 {
     text.push(b"] ")?;
     text.push_number(u64::from(node.above))?;
@@ -130,9 +133,9 @@ fn push_act(text: &mut Text, names: &Names, act: Act) -> Result<(), NoMemory>
     ensures { OnOk result (text.new ≡ text.old ++ spec.act_text (tree_of_act names.now act)) }
 {
     match act {
-        Act::Puts { peer, label, sort } => push_pair(text, names, peer, Kind::Send, label, sort),
+        Act::Puts { peer, label, sort } => push_pair(text, names, peer, ActKind::Send, label, sort),
         Act::Takes { peer, label, sort } => {
-            push_pair(text, names, peer, Kind::Receive, label, sort)
+            push_pair(text, names, peer, ActKind::Receive, label, sort)
         }
     }
 }
@@ -141,7 +144,7 @@ fn push_pair(
     text: &mut Text,
     names: &Names,
     peer: Role,
-    kind: Kind,
+    kind: ActKind,
     label: Label,
     sort: Sort,
 ) -> Result<(), NoMemory>
@@ -155,12 +158,12 @@ fn push_pair(
     text.push(b")")
 }
 
-fn mark_text(kind: Kind) -> &'static [u8]
+fn mark_text(kind: ActKind) -> &'static [u8]
     ensures { result.now ≡ spec.mark_text kind }
 {
     match kind {
-        Kind::Send => b"!",
-        Kind::Receive => b"?",
+        ActKind::Send => b"!",
+        ActKind::Receive => b"?",
     }
 }
 

@@ -1,4 +1,6 @@
-ghost use Rattle.std.specs.Prelude.{◌≡◌, ◌≤◌, ◌++◌, ◌∷◌, [], length, OnOk, OnErr, IfOk, IfErr, IfSome, IfNone, Some, None, Ok, Err, codes};
+//! The reader of derivations, token by token.
+
+ghost use Rattle.std.specs.Prelude.{◌≡◌, ◌≤◌, ◌++◌, ◌∷◌, [], length, OnOk, OnErr, IfOk, IfErr, IfSome, IfNone, MatchOption, Some, None, Ok, Err, codes};
 ghost use Rattle.std.specs.Option.{option_map};
 ghost use Rattle.rs_model.specs.declared.limits.TheConstants.{MOST_LABELS, MOST_ROLES};
 ghost use Rattle.rs_text.specs.Lexemes.{Lexeme};
@@ -13,9 +15,9 @@ ghost use Rattle.rs_derivations.specs.Feeding as spec;
 ghost use Rattle.rs_derivations.specs.Feeding.{names_read};
 
 use rs_derive::DNode;
-use rs_graph::Row;
+use rs_graph::NodeRow;
 use rs_model::{Act, Label, MOST_BOUND, MOST_CANDIDATES, Name, Role, Sort};
-use rs_prefix::{Kind, Pending};
+use rs_prefix::{ActKind, Pending};
 use rs_text::{
     MessagePlace, MessageStep, NameTable, Stop, Terminal, TextKind, TextToken, Wanted, expected,
     fault, feed_message, find,
@@ -48,7 +50,7 @@ pub(crate) enum Mode {
     /// Within the message of an act.
     InMessage {
         peer: Role,
-        kind: Kind,
+        kind: ActKind,
         place: MessagePlace,
     },
     BehindAct,
@@ -100,16 +102,16 @@ fn no_node(alloc: Global) -> DNode
         pending: Pending::new(alloc),
         above: 0,
         rank: 0,
-        next: Row::new(alloc),
+        next: NodeRow::new(alloc),
     }
 }
 
-fn act_of(peer: Role, kind: Kind, label: Label, sort: Sort) -> Act
+fn act_of(peer: Role, kind: ActKind, label: Label, sort: Sort) -> Act
     ensures { result ≡ act_of_kind kind peer label sort }
 {
     match kind {
-        Kind::Send => Act::Puts { peer, label, sort },
-        Kind::Receive => Act::Takes { peer, label, sort },
+        ActKind::Send => Act::Puts { peer, label, sort },
+        ActKind::Receive => Act::Takes { peer, label, sort },
     }
 }
 
@@ -131,6 +133,16 @@ fn value(token: &TextToken) -> Option<u32>
     match token.terminal() {
         Terminal::Number(value) => Some(value),
         _ => None,
+    }
+}
+
+/// The number of a token, or that a number is wanted in its place.
+fn wanted_number(number: Option<u32>, at: usize) -> Result<u32, Stop>
+    ensures { MatchOption number (result ≡ Err (Stop.Fault (record { kind = TextKind.Expected Wanted.Number; at = at }))) (λ n. result ≡ Ok n) }
+{
+    match number {
+        Some(number) => Ok(number),
+        None => expected(Wanted::Number, at),
     }
 }
 
@@ -198,12 +210,12 @@ fn is_close_bracket(token: &TextToken) -> bool
 }
 
 /// Whether a mark sends or receives.
-fn mark_kind(token: &TextToken) -> Option<Kind>
+fn mark_kind(token: &TextToken) -> Option<ActKind>
     ensures { result ≡ spec.mark_kind token.now.sign }
 {
     match token.terminal() {
-        Terminal::Bang => Some(Kind::Send),
-        Terminal::Question => Some(Kind::Receive),
+        Terminal::Bang => Some(ActKind::Send),
+        Terminal::Question => Some(ActKind::Receive),
         _ => None,
     }
 }
@@ -357,10 +369,7 @@ impl<'a> Reader<'a> {
     fn state(&mut self, number: Option<u32>, at: usize) -> Result<(), Stop>
         ensures { spec.Feeds result (spec.feed_state number at self.old) self.old self.new }
     {
-        let Some(number) = number else {
-            return expected(Wanted::Number, at);
-        };
-        self.node.state = number;
+        self.node.state = wanted_number(number, at)?;
         self.mode = Mode::AtActs;
         Ok(())
     }
@@ -389,7 +398,7 @@ impl<'a> Reader<'a> {
         Ok(())
     }
 
-    fn mark(&mut self, peer: Role, kind: Option<Kind>, at: usize) -> Result<(), Stop>
+    fn mark(&mut self, peer: Role, kind: Option<ActKind>, at: usize) -> Result<(), Stop>
         ensures { spec.Feeds result (spec.feed_mark peer kind at self.old) self.old self.new }
     {
         let Some(kind) = kind else {
@@ -406,7 +415,7 @@ impl<'a> Reader<'a> {
     fn message(
         &mut self,
         peer: Role,
-        kind: Kind,
+        kind: ActKind,
         place: MessagePlace,
         token: &TextToken,
     ) -> Result<(), Stop>
@@ -422,7 +431,7 @@ impl<'a> Reader<'a> {
     }
 
     /// The act is pending.
-    fn pend(&mut self, peer: Role, kind: Kind, label: Label, sort: Sort) -> Result<(), Stop>
+    fn pend(&mut self, peer: Role, kind: ActKind, label: Label, sort: Sort) -> Result<(), Stop>
         ensures ok { OnOk result (spec.feed_pending peer kind label sort self.old ≡ Ok self.new) }
         ensures err { IfErr result (λ e. e ≡ Stop.Memory) }
         ensures kept { OnErr result (names_read self.new ≡ names_read self.old) }
@@ -445,10 +454,7 @@ impl<'a> Reader<'a> {
     fn above(&mut self, number: Option<u32>, at: usize) -> Result<(), Stop>
         ensures { spec.Feeds result (spec.feed_above number at self.old) self.old self.new }
     {
-        let Some(number) = number else {
-            return expected(Wanted::Number, at);
-        };
-        self.node.above = number;
+        self.node.above = wanted_number(number, at)?;
         self.mode = Mode::AtRankWord;
         Ok(())
     }
@@ -456,10 +462,7 @@ impl<'a> Reader<'a> {
     fn rank(&mut self, number: Option<u32>, at: usize) -> Result<(), Stop>
         ensures { spec.Feeds result (spec.feed_rank number at self.old) self.old self.new }
     {
-        let Some(number) = number else {
-            return expected(Wanted::Number, at);
-        };
-        self.node.rank = number;
+        self.node.rank = wanted_number(number, at)?;
         self.mode = Mode::AtNextWord;
         Ok(())
     }
@@ -514,7 +517,7 @@ impl<'a> Reader<'a> {
         }
     }
 
-    /// Takes one that isn't faulty: from the head, and of a node as far as its acts ..
+    /// Takes one that isn't faulty: from the head, and of a node as far as its acts.
     fn feed_whole(&mut self, token: &TextToken) -> Result<(), Stop>
         ensures { spec.Feeds result (spec.feed_of token.now.sign token.now.from self.old) self.old self.new }
     {
@@ -559,7 +562,7 @@ impl<'a> Reader<'a> {
         }
     }
 
-    /// .. and of a node from behind an act.
+    /// A token of a node from behind an act.
     fn feed_rest(&mut self, token: &TextToken) -> Result<(), Stop>
         ensures { spec.Feeds result (spec.feed_rest self.old.mode token.now.sign token.now.from self.old) self.old self.new }
     {

@@ -135,4 +135,5 @@ pub none_left : (r : Bool) (acts pending : List Act) (place : ℕ) → length pe
     → r ≡ same_acts acts (without pending place)
 none_left r acts [] place l lt f g = absurd (omega arith)
 none_left r [] (b ∷ bs) place l lt f g = g refl ∙ sym (ap (λ (z : List Act). same_acts [] z) (alone b bs place (omega arith) (omega arith)))
-none_left r (a ∷ as') (b ∷ bs) place l lt f g = bools r false (λ e. let z = f e in absurd (omega arith)) (λ e. absurd (false≢true e)) ∙ sym (ap (λ (z : List Act). same_acts (a ∷ as') z) (alone b bs place (omega arith) (omega arith)))
+none_left r (a ∷ as') (b ∷ bs) place l lt f g =
+    bools r false (λ e. let z = f e in absurd (omega arith)) (λ e. absurd (false≢true e)) ∙ sym (ap (λ (z : List Act). same_acts (a ∷ as') z) (alone b bs place (omega arith) (omega arith)))

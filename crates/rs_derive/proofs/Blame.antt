@@ -1,33 +1,28 @@
 -- What the first fault of a derivation says.
-use Rattle.std.proofs.Common.{◌≡◌, ◌⊎◌, ℕ, zero, suc, ◌+◌, ◌≤◌, List, [], ◌∷◌, length, map, slice_get, Bool, true, false, cond, eqb, ltb, leb, ◌&&◌, Option, Some, None, inl, inr, ⊎_elim, sym, refl, ap, subst, ◌∙◌, arith, zero-add}
+use Rattle.std.proofs.Common.{◌≡◌, ◌⊎◌, ℕ, zero, suc, ◌+◌, ◌≤◌, List, [], ◌∷◌, length, map, slice_get, Bool, true, false, cond, ltb, leb, ◌&&◌, Option, Some, None, inl, inr, ⊎_elim, sym, refl}
+use Rattle.std.proofs.Common.{ap, subst, ◌∙◌, arith, zero-add}
 use Rattle.std.proofs.lemmas.Bool.{ltb-false, leb-true, leb-false, and_cases, and_parts, false≢true}
 use Rattle.std.proofs.lemmas.Option.{none-some, same_Some}
 use Rattle.rs_model.specs.Data.{Machine_data}
-use Rattle.rs_model.specs.Serving.{serves}
 use Rattle.rs_model.specs.declared.graph.Arm.{Arm}
-use Rattle.rs_model.specs.declared.graph.Role.{Role}
 use Rattle.rs_model.specs.declared.machines.Act.{Act}
-use Rattle.rs_model.specs.declared.machines.Act.TheVariants as act
-use Rattle.rs_model.specs.declared.machines.State.{State}
-use Rattle.rs_model.specs.declared.machines.State.TheVariants.{Done, Puts, Takes}
-use Rattle.rs_model.specs.declared.values.Sort.{Sort}
-use Rattle.rs_prefix.specs.Search.{earliest}
-use Rattle.rs_prefix.specs.declared.earliest.Found.{Found}
-use Rattle.rs_prefix.specs.declared.earliest.Found.TheVariants.{At, Blocked, Absent}
-use Rattle.rs_prefix.specs.declared.earliest.Kind.TheVariants.{Send, Receive}
 use Rattle.rs_model.specs.FirstFailed.{or_later}
 use Rattle.rs_model.proofs.FirstFailed.{or_some}
 use Rattle.rs_derive.proofs.Order.{in_order}
-use Rattle.rs_derive.proofs.Rows.{Is, complete, follow_picks, served, sound}
+use Rattle.rs_derive.proofs.Rows.{Is, by_rule, complete, follow_picks, served, sound}
+use Rattle.rs_derive.proofs.Ruled.{fitting}
 use Rattle.rs_derive.proofs.Whole.{is_named, named_is, starts_right}
 use Rattle.rs_derive.specs.Checks.{edge_fault, fault_of_edge, length_fault, move_fault, names, node_fault, nodes_fault, nexts_fault, starts, state_fault}
 use Rattle.rs_derive.specs.Data.{DNode_data, Derivation_data}
 use Rattle.rs_derive.specs.Derivations.{spot_of}
-use Rattle.rs_derive.specs.Due.{Chosen, Due, all_serve, both_at, due, due_at, ends, follows, guesses, due_behind_payment, pays_receive, due_of_send, receives, receives_past, sends, sends_both, sends_past, due_where_served, serves_some}
+use Rattle.rs_derive.specs.Due.{Chosen, Due, both_at, due, nexts_by}
 use Rattle.rs_derive.specs.Faults.{Blames, Misnames, first_fault}
 use Rattle.rs_derive.specs.Moves.{Spot, arm_of, owing_receive, owing_send, spot}
+use Rattle.rs_derive.specs.Rules.{RuleFits, all_serve, arms_at, arms_of, serves_some}
 use Rattle.rs_derive.specs.declared.faults.DeriveFault.{DeriveFault}
 use Rattle.rs_derive.specs.declared.faults.DeriveFault.TheVariants.{BadStart, BadState, TooLongPending, NoMove, WrongNext, Forgets}
+use Rattle.rs_derive.specs.declared.rules.Rule.{Rule}
+use Rattle.rs_derive.specs.declared.rules.Rule.TheVariants.{Stops, Pays, SendsBoth, Guesses, Follows}
 
 failed : (b : Bool) (g f : DeriveFault) → cond b None (Some g) ≡ Some f → (b ≡ false) × (g ≡ f)
 failed true g f e = absurd (none-some f e)
@@ -35,13 +30,8 @@ failed false g f e = (refl, same_Some g f e)
 
 -- where something is due there is a choice
 
-abbrev Choice : Option Due → Type 0
-Choice None = Unit {0}
-Choice (Some d) = (p : ℕ) (spots : List Spot) (r : Spot) → slice_get d.nexts p ≡ Some spots → Is spots r → (rs : List Spot) × Chosen d.nexts rs
-
-choice_if : (b : Bool) (o : Option Due) → (b ≡ true → Choice o) → Choice (cond b o None)
-choice_if true o h = h refl
-choice_if false o h = tt
+abbrev Choice : List (List Spot) → Type 0
+Choice ds = (n : ℕ) (spots : List Spot) (r : Spot) → slice_get ds n ≡ Some spots → Is spots r → (rs : List Spot) × Chosen ds rs
 
 both_choice : (theirs : List Arm) (pending : List Act) (arms : List Arm) → all_serve theirs arms ≡ true
     → (rs : List Spot) × Chosen (map (λ a. both_at pending a (arm_of theirs a.label)) arms) rs
@@ -58,69 +48,18 @@ guess_choice : (spots : List Spot) (p : ℕ) (ss : List Spot) (r : Spot) → sli
 guess_choice spots zero ss r g i = (r ∷ [], (subst (λ x. Is x r) (sym (same_Some spots ss g)) i, tt))
 guess_choice spots (suc p) ss r g i = absurd (none-some ss g)
 
-follow_choice : (p : Spot) (r : Role) (theirs : List Arm) → Choice (follows p r theirs)
-follow_choice p r theirs = λ n ss x g i. (map (λ b. owing_receive p r b) theirs, follow_picks p r theirs)
+choice_by : (p : Spot) (arms theirs : List Arm) (rule : Rule) → RuleFits p.pending arms theirs rule → Choice (nexts_by p arms theirs rule)
+choice_by p arms theirs Stops h n ss x g i = ([], tt)
+choice_by p arms theirs (Pays place a) h n ss x g i = guess_choice _ n ss x g i
+choice_by p arms theirs SendsBoth h n ss x g i = both_choice theirs p.pending arms h
+choice_by p arms theirs (Guesses r) h n ss x g i = guess_choice (map (λ b. owing_send p r b) theirs) n ss x g i
+choice_by p arms theirs (Follows r) h n ss x g i = (map (λ b. owing_receive p r b) theirs, follow_picks p r theirs)
 
-paid_choice : (p : Spot) (place : ℕ) (a : Arm) → Choice (Some (due_behind_payment p place a))
-paid_choice p place a = λ n ss x g i. guess_choice _ n ss x g i
-
-ends_choice : (p : Spot) (t : Option State) → Choice (ends p.pending t)
-ends_choice p None = tt
-ends_choice p (Some Done) = choice_if (eqb (length p.pending) 0) _ (λ e n ss x g i. ([], tt))
-ends_choice p (Some (Puts r theirs)) = tt
-ends_choice p (Some (Takes r theirs)) = tt
-
-puts_choice : (p : Spot) (r : Role) (arms theirs : List Arm) (b : Bool) → Choice (cond b (sends_both p theirs arms) (guesses p r theirs))
-puts_choice p r arms theirs true = choice_if (all_serve theirs arms) _ (λ e n ss x g i. both_choice theirs p.pending arms e)
-puts_choice p r arms theirs false = λ n ss x g i. guess_choice (map (λ b. owing_send p r b) theirs) n ss x g i
-
-past_choice : (p : Spot) (q : Role) (arms : List Arm) (t : Option State) → Choice (sends_past p q arms t)
-past_choice p q arms None = tt
-past_choice p q arms (Some Done) = tt
-past_choice p q arms (Some (Puts r theirs)) = puts_choice p r arms theirs (eqb r.0 q.0)
-past_choice p q arms (Some (Takes r theirs)) = follow_choice p r theirs
-
-pays_choice : (p : Spot) (place : ℕ) (arms : List Arm) (o : Option Act) → Choice (due_of_send p place arms o)
-pays_choice p place [] o = tt
-pays_choice p place (a ∷ b ∷ more) o = tt
-pays_choice p place (a ∷ []) None = tt
-pays_choice p place (a ∷ []) (Some (act.Takes r l so)) = tt
-pays_choice p place (a ∷ []) (Some (act.Puts r l so)) =
-    choice_if (eqb a.label.0 l.0 && serves a.sort so) (Some (due_behind_payment p place a)) (λ e. paid_choice p place a)
-
-served_choice : (p : Spot) (place : ℕ) (o : Option Arm) (s : Sort) → Choice (due_where_served p place s o)
-served_choice p place None s = tt
-served_choice p place (Some a) s = choice_if (serves s a.sort) (Some (due_behind_payment p place a)) (λ e. paid_choice p place a)
-
-takes_choice : (p : Spot) (place : ℕ) (arms : List Arm) (o : Option Act) → Choice (pays_receive p place arms o)
-takes_choice p place arms None = tt
-takes_choice p place arms (Some (act.Puts r l so)) = tt
-takes_choice p place arms (Some (act.Takes r l so)) = served_choice p place (arm_of arms l) so
-
-sends_choice : (p : Spot) (q : Role) (arms : List Arm) (t : Option State) (f : Found) → Choice (sends p q arms t f)
-sends_choice p q arms t (At place) = pays_choice p place arms (slice_get p.pending place)
-sends_choice p q arms t (Blocked place) = tt
-sends_choice p q arms t Absent = past_choice p q arms t
-
-receives_past_choice : (p : Spot) (t : Option State) → Choice (receives_past p t)
-receives_past_choice p None = tt
-receives_past_choice p (Some Done) = tt
-receives_past_choice p (Some (Puts r theirs)) = tt
-receives_past_choice p (Some (Takes r theirs)) = follow_choice p r theirs
-
-receives_choice : (p : Spot) (arms : List Arm) (t : Option State) (f : Found) → Choice (receives p arms t f)
-receives_choice p arms t (At place) = takes_choice p place arms (slice_get p.pending place)
-receives_choice p arms t (Blocked place) = tt
-receives_choice p arms t Absent = receives_past_choice p t
-
-at_choice : (p : Spot) (s t : Option State) → Choice (due_at p s t)
-at_choice p None t = tt
-at_choice p (Some Done) t = ends_choice p t
-at_choice p (Some (Puts q arms)) t = sends_choice p q arms t (earliest p.pending Send q)
-at_choice p (Some (Takes q arms)) t = receives_choice p arms t (earliest p.pending Receive q)
-
-some_choice : (sub above : Machine_data) (p : Spot) (d : Due) → due sub above p ≡ Some d → Choice (Some d)
-some_choice sub above p d e = subst (λ o. Choice o) e (at_choice p (slice_get sub.states p.state) (slice_get above.states p.above))
+some_choice : (sub above : Machine_data) (p : Spot) (d : Due) → due sub above p ≡ Some d → Choice d.nexts
+some_choice sub above p d e =
+    let t = slice_get above.states p.above in
+    let b = by_rule p (slice_get sub.states p.state) t d e in
+    subst (λ (x : Due). Choice x.nexts) (sym b.is) (choice_by p (arms_at b.state) (arms_of t) b.rule (fitting p.pending b.state t b.rule b.row))
 
 -- the first next that is wrong
 
@@ -137,7 +76,7 @@ record Level (nodes : List DNode_data) (keeps : Bool) (rank : ℕ) (ds : List (L
   next : slice_get js p ≡ Some j
   node : slice_get nodes j ≡ Some m
   due' : slice_get ds p ≡ Some spots
-  there : Is spots (spot_of m)
+  present : Is spots (spot_of m)
   rank' : rank ≤ m.rank
 
 abbrev Told : List DNode_data → Bool → ℕ → ℕ → List (List Spot) → List ℕ → ℕ → DeriveFault → Type 0
@@ -186,7 +125,7 @@ edge_some nodes keeps rank i k d ds j js (Some m) f g e =
     inr (
       zero,
       ap (λ x. Forgets i x) n ∙ h.3,
-      record { head = h.1; j = j; m = m; spots = d; next = refl; node = g; due' = refl; there = named_is m d h.0; rank' = h.2 },
+      record { head = h.1; j = j; m = m; spots = d; next = refl; node = g; due' = refl; present = named_is m d h.0; rank' = h.2 },
     ))
     (judged_some keeps rank i k (names m d) m.rank f e)
 
@@ -201,7 +140,7 @@ later_told nodes keeps rank i d ds j js k f (inr t) =
     inr (
       suc t.0,
       ap (λ x. Forgets i x) n ∙ t.1,
-      record { head = s.head; j = s.j; m = s.m; spots = s.spots; next = s.next; node = s.node; due' = s.due'; there = s.there; rank' = s.rank' },
+      record { head = s.head; j = s.j; m = s.m; spots = s.spots; next = s.next; node = s.node; due' = s.due'; present = s.present; rank' = s.rank' },
     )
 
 nexts_some : (nodes : List DNode_data) (keeps : Bool) (rank i : ℕ) (ds : List (List Spot)) (js : List ℕ) (k : ℕ) (f : DeriveFault)
@@ -267,7 +206,7 @@ told_blames d sub above i n x f g e (inl t) =
 told_blames d sub above i n x f g e (inr t) =
     let q : Forgets i t.0 ≡ f = ap (λ y. Forgets i y) (sym (zero-add t.0)) ∙ t.1 in
     let s = t.2 in
-    let choice = some_choice sub above (spot_of n) x e t.0 s.spots (spot_of s.m) s.due' s.there in
+    let choice = some_choice sub above (spot_of n) x e t.0 s.spots (spot_of s.m) s.due' s.present in
     let move = sound sub above (spot_of n) x choice.0 e choice.1 in
     subst (λ y. Blames d sub above y) q
     (n, g, record { makes = move.makes; results = choice.0; move = move.move; keeps = move.agrees.from s.head; j = s.j; m = s.m; next = s.next; node = s.node; stays = s.rank' })

@@ -33,12 +33,12 @@ here (x ∷ xs) m =
     (λ r. inr (suc r.0, r.1)) (here xs (max m x))
 
 pub is : (xs : List ℕ) → IsGreatest xs (greatest xs 0)
-is [] = record { most = λ i x g. absurd (none-some x g); is = inl (refl, refl) }
+is [] = record { most = λ i x g. absurd (none-some x g); among = inl (refl, refl) }
 is (x ∷ xs) =
     let z : max 0 x ≡ x = max-eq_right (omega arith) in
     record {
       most = most (x ∷ xs) 0;
-      is = inr (⊎_elim (λ e. (zero, ap Some (sym (e ∙ z)))) (λ r. (suc r.0, r.1)) (here xs (max 0 x)));
+      among = inr (⊎_elim (λ e. (zero, ap Some (sym (e ∙ z)))) (λ r. (suc r.0, r.1)) (here xs (max 0 x)));
     }
 
 pub at_end : {A : Type 0} (f : A → ℕ) (xs : List A) (n m : ℕ) → greatest (map f (drop n xs)) m ≡ greatest (map f xs) 0 → length xs ≤ n → IsGreatest (map f xs) m

@@ -3,6 +3,7 @@ pub mod Blame
 pub mod Few
 pub mod Greatest
 pub mod Loops
+pub mod Mapped
 pub mod Order
 pub mod Rows
 pub mod Ruled

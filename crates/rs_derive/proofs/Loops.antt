@@ -1,5 +1,6 @@
 -- The loops over arms and nexts, step by step.
-use Rattle.std.proofs.Common.{◌≡◌, ◌≢◌, ◌⊎◌, ℕ, zero, suc, ◌+◌, ◌<◌, ◌≤◌, List, [], ◌∷◌, length, map, drop, Bool, true, false, cond, eqb, get_or, min, Option, Some, None, slice_get, inl, inr, ⊎_elim, sym, refl, ap, ◌∙◌, arith}
+use Rattle.std.proofs.Common.{◌≡◌, ◌≢◌, ◌⊎◌, ℕ, zero, suc, ◌+◌, ◌<◌, ◌≤◌, List, [], ◌∷◌, length, map, drop, Bool, true, false, cond, eqb, get_or, min, Option, Some, None, slice_get, inl, inr, ⊎_elim}
+use Rattle.std.proofs.Common.{sym, refl, ap, ◌∙◌, arith}
 use Rattle.std.proofs.Math.Nat.{min-le_left, min-le_right, min-eq_left, min-eq_right}
 use Rattle.std.proofs.lemmas.Bool.{cases_order, eqb-true, eq-eqb, false≢true}
 use Rattle.std.proofs.lemmas.Option.{none-some, same_Some, slice_get-get_or}
@@ -33,7 +34,8 @@ step_on f nodes keeps rank i arms nexts k a j whole ga gj e inv =
     ∙ ap (λ js. nexts_fault nodes keeps rank i (map f (drop k arms)) js k) (sym (drop_here nexts k j gj))
     ∙ inv
 
-pub step_out : (f : Arm → List Spot) (nodes : List DNode_data) (keeps : Bool) (rank i : ℕ) (arms : List Arm) (nexts : List ℕ) (k : ℕ) (a : Arm) (j : ℕ) (whole : Option DeriveFault) (fault : DeriveFault)
+pub step_out : (f : Arm → List Spot) (nodes : List DNode_data) (keeps : Bool) (rank i : ℕ) (arms : List Arm) (nexts : List ℕ) (k : ℕ) (a : Arm) (j : ℕ) (whole : Option DeriveFault)
+    (fault : DeriveFault)
     → slice_get arms k ≡ Some a → slice_get nexts k ≡ Some j → edge_fault keeps rank i k (f a) (slice_get nodes j) ≡ Some fault
     → nexts_fault nodes keeps rank i (map f (drop k arms)) (drop k nexts) k ≡ whole → Some fault ≡ whole
 step_out f nodes keeps rank i arms nexts k a j whole fault ga gj e inv =

@@ -1,19 +1,16 @@
 -- The fault that the code finds is that of the first test that isn't passed.
-use Rattle.std.proofs.Common.{◌≡◌, ℕ, ◌+◌, ◌≤◌, List, [], ◌∷◌, ◌++◌, length, map, Bool, true, false, not, cond, ltb, leb, ◌&&◌, ◌||◌, Option, Some, None, slice_get, ⊎_elim, sym, refl, ap, ◌∙◌}
-use Rattle.std.proofs.lemmas.Bool.{cases_lt, lt-ltb, le-ltb, le-leb, lt-leb, ne_eqb}
+use Rattle.std.proofs.Common.{◌≡◌, ℕ, ◌+◌, ◌≤◌, List, [], ◌∷◌, ◌++◌, length, Bool, true, false, not, cond, ltb, leb, ◌&&◌, ◌||◌, Option, Some, None, slice_get, ⊎_elim, sym, refl, ap, ◌∙◌}
+use Rattle.std.proofs.lemmas.Bool.{cases_lt, lt-ltb, le-ltb, le-leb, lt-leb}
 use Rattle.std.proofs.lemmas.Option.{slice_get_within}
 use Rattle.rs_model.specs.Data.{Machine_data}
-use Rattle.rs_model.specs.declared.graph.Arm.{Arm}
-use Rattle.rs_model.specs.declared.graph.Role.{Role}
 use Rattle.rs_model.specs.declared.machines.State.{State}
-use Rattle.rs_model.specs.declared.machines.State.TheVariants.{Puts}
 use Rattle.rs_model.specs.FirstFailed.{Test, first_failed, or_later}
 use Rattle.rs_derive.specs.Checks.{derive_fault, edge_fault, move_fault, names, node_fault, nodes_fault, nexts_fault, starts}
 use Rattle.rs_derive.specs.Data.{DNode_data, Derivation_data}
 use Rattle.rs_derive.specs.Derivations.{spot_of}
-use Rattle.rs_derive.specs.Due.{Due, due, due_at, sends_past}
+use Rattle.rs_derive.specs.Due.{Due, due, due_at}
 use Rattle.rs_derive.specs.Faults.{falls, first_fault, is_named, move_tests, next_tests, node_tests, nodes_tests}
-use Rattle.rs_derive.specs.Moves.{Spot, owing_send}
+use Rattle.rs_derive.specs.Moves.{Spot}
 use Rattle.rs_derive.specs.declared.faults.DeriveFault.{DeriveFault}
 use Rattle.rs_derive.specs.declared.faults.DeriveFault.TheVariants.{BadStart, BadState, TooLongPending, WrongNext, Forgets}
 

@@ -1,5 +1,6 @@
 -- A derivation has no fault exactly where it is one and forgets nothing.
-use Rattle.std.proofs.Common.{◌≡◌, ℕ, zero, suc, ◌+◌, ◌<◌, List, [], ◌∷◌, length, slice_get, Bool, true, false, cond, eqb, ltb, leb, ◌&&◌, ◌||◌, Option, Some, None, ⊎_elim, sym, refl, ap, subst, ◌∙◌, arith}
+use Rattle.std.proofs.Common.{◌≡◌, ℕ, zero, suc, ◌+◌, ◌<◌, List, [], ◌∷◌, length, slice_get, Bool, true, false, cond, eqb, ltb, leb, ◌&&◌, ◌||◌, Option, Some, None, ⊎_elim, sym, refl, ap, subst, ◌∙◌}
+use Rattle.std.proofs.Common.{arith}
 use Rattle.std.proofs.lemmas.Bool.{eqb-true, eq-eqb, ltb-true, leb-true, leb-false, lt-ltb, lt-leb, le-leb, and_parts, or_cases, false≢true}
 use Rattle.std.proofs.lemmas.Option.{none-some, same_Some}
 use Rattle.rs_model.specs.Data.{Machine_data}
@@ -11,7 +12,7 @@ use Rattle.rs_derive.proofs.Order.{in_order}
 use Rattle.rs_derive.proofs.Rows.{Is, complete, sound}
 use Rattle.rs_derive.specs.Checks.{derive_fault, edge_fault, fault_of_edge, length_fault, move_fault, names, node_fault, nodes_fault, nexts_fault, same_acts, same_spot, starts, state_fault}
 use Rattle.rs_derive.specs.Data.{DNode_data, Derivation_data}
-use Rattle.rs_derive.specs.Derivations.{IsDerivation, Names, NodeFits, Remembers, spot_of}
+use Rattle.rs_derive.specs.Derivations.{IsDerivation, NameResults, NodeFits, Remembers, spot_of}
 use Rattle.rs_derive.specs.Due.{Chosen, Due, due}
 use Rattle.rs_derive.specs.Faults.{first_fault}
 use Rattle.rs_derive.specs.Moves.{Spot, spot}
@@ -64,7 +65,7 @@ Falls nodes js rank = (k j : ℕ) (m : DNode_data) → slice_get js k ≡ Some j
 record Named (nodes : List DNode_data) (keeps : Bool) (rank : ℕ) (ds : List (List Spot)) (js : List ℕ) : Type 0 where
   results : List Spot
   picks : Chosen ds results
-  named : Names nodes js results
+  named : NameResults nodes js results
   falls : keeps ≡ true → Falls nodes js rank
 
 kept : (b : Bool) (rank there : ℕ) (f : DeriveFault) → leb rank there ≡ b → cond b (Some f) None ≡ None → there < rank
@@ -123,7 +124,7 @@ edge_right keeps rank i k d o m r eo er h falls =
     ∙ judged_right keeps rank i k m.rank falls
 
 nexts_right : (nodes : List DNode_data) (keeps : Bool) (rank i : ℕ) (ds : List (List Spot)) (js : List ℕ) (k : ℕ) (rs : List Spot) → Chosen ds rs
-    → Names nodes js rs → (keeps ≡ true → Falls nodes js rank) → nexts_fault nodes keeps rank i ds js k ≡ None
+    → NameResults nodes js rs → (keeps ≡ true → Falls nodes js rank) → nexts_fault nodes keeps rank i ds js k ≡ None
 nexts_right nodes keeps rank i [] [] k rs p n f = refl
 nexts_right nodes keeps rank i [] (j ∷ js) k [] p n f = absurd n
 nexts_right nodes keeps rank i [] (j ∷ js) k (r ∷ rs) p n f = absurd p
@@ -154,7 +155,7 @@ fits d sub above n a b c m =
     let s = sound sub above (spot_of n) m.due' m.named.results m.is m.named.picks in
     record {
       state = ltb-true n.state (length sub.states) a;
-      there = ltb-true n.above (length above.states) b;
+      present = ltb-true n.above (length above.states) b;
       short = leb-true (length n.pending) d.bound c;
       makes = s.makes;
       results = m.named.results;
@@ -211,7 +212,7 @@ derives d sub above e =
     let b = begins sub above d.nodes p.0 in
     record {
       first = b.0;
-      is = b.1;
+      stands = b.1;
       starts = b.2;
       each = λ i n g. (nodes_none d sub above d.nodes 0 p.1 i n g).fit;
     }
@@ -239,7 +240,7 @@ node_right : (d : Derivation_data) (sub above : Machine_data) (i k : ℕ) (n : D
     → Remembers d sub above → node_fault d sub above i n ≡ None
 node_right d sub above i k n g fit rem =
     let t = complete sub above (spot_of n) fit.makes fit.results fit.move in
-    let s : state_fault sub above i n ≡ None = rw (lt-ltb n.state (length sub.states) fit.state, lt-ltb n.above (length above.states) fit.there) refl in
+    let s : state_fault sub above i n ≡ None = rw (lt-ltb n.state (length sub.states) fit.state, lt-ltb n.above (length above.states) fit.present) refl in
     let l : length_fault d.bound i n ≡ None = rw (le-leb (length n.pending) d.bound fit.short) refl in
     let m : move_fault d.nodes i n (due sub above (spot_of n)) ≡ None =
     ap (λ o. move_fault d.nodes i n o) t.is'
@@ -258,7 +259,7 @@ nodes_right d sub above (n ∷ ns) i h =
 
 faultless : (d : Derivation_data) (sub above : Machine_data) → IsDerivation d sub above → Remembers d sub above → derive_fault d sub above ≡ None
 faultless d sub above is rem =
-    ap (λ b. or_later (cond b None (Some BadStart)) (nodes_fault d sub above d.nodes 0)) (starts_right sub above d.nodes is.first is.is is.starts)
+    ap (λ b. or_later (cond b None (Some BadStart)) (nodes_fault d sub above d.nodes 0)) (starts_right sub above d.nodes is.first is.stands is.starts)
     ∙ nodes_right d sub above d.nodes 0 (λ j k n g. node_right d sub above j k n g (is.each k n g) rem)
 
 pub no_fault : (d : Derivation_data) (sub above : Machine_data) → first_fault d sub above ≡ None → IsDerivation d sub above × Remembers d sub above

@@ -16,7 +16,7 @@ use Rattle.rs_derive.specs.declared.faults.DeriveFault.{DeriveFault}
 use Rattle.rs_derive.specs.declared.faults.DeriveFault.TheVariants.{BadStart, BadState, TooLongPending, NoMove, WrongNext, Forgets}
 use Rattle.rs_derive.specs.declared.targets.Change.{Change}
 use Rattle.rs_derive.specs.declared.targets.Change.TheVariants.{Same, Without, With}
-use Rattle.rs_derive.specs.declared.targets.Target.{Target}
+use Rattle.rs_derive.specs.declared.targets.EdgeTarget.{EdgeTarget}
 
 -- tests of equality
 
@@ -27,14 +27,14 @@ same_act (Takes p l s) (Takes q k t) = (p.0 == q.0) && ((l.0 == k.0) && (sort_nu
 same_act (Puts p l s) (Takes q k t) = false
 same_act (Takes p l s) (Puts q k t) = false
 
--- .. two lists of acts
+-- whether two lists of acts are the same
 abbrev pub same_acts : List Act → List Act → Bool
 same_acts [] [] = true
 same_acts [] (b ∷ bs) = false
 same_acts (a ∷ as') [] = false
 same_acts (a ∷ as') (b ∷ bs) = same_act a b && same_acts as' bs
 
--- .. two spots
+-- whether two spots are the same
 abbrev pub same_spot : Spot → Spot → Bool
 same_spot p q = (p.state == q.state) && ((p.above == q.above) && same_acts p.pending q.pending)
 
@@ -47,7 +47,7 @@ owed_behind pending (Without place) = without pending place
 owed_behind pending (With x) = pending ++ x ∷ []
 
 -- the spot of a target, where these acts were owed
-abbrev pub target_spot : List Act → Target → Spot
+abbrev pub target_spot : List Act → EdgeTarget → Spot
 target_spot pending t = spot t.state (owed_behind pending t.change) t.above
 
 -- faults
@@ -61,7 +61,7 @@ abbrev pub fault_of_edge : Bool → ℕ → ℕ → ℕ → Bool → ℕ → Opt
 fault_of_edge keeps rank i k named there =
     if named then (if keeps && nat_le rank there then Some (Forgets i k) else None) else Some (WrongNext i k)
 
--- .. or it names no node
+-- the fault of one edge: it leads to another spot than it should, its rank doesn't fall, or it names no node
 abbrev pub edge_fault : Bool → ℕ → ℕ → ℕ → List Spot → Option DNode_data → Option DeriveFault
 edge_fault keeps rank i k spots None = Some (WrongNext i k)
 edge_fault keeps rank i k spots (Some m) = fault_of_edge keeps rank i k (names m spots) m.rank

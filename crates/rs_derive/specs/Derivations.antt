@@ -15,26 +15,26 @@ abbrev pub IsProper : Machine_data → Type 0
 IsProper machine = (roles : ℕ) × IsWellFormedMachine machine roles
 
 -- the numbers name nodes that are the results, in order and in number
-abbrev pub Names : List DNode_data → List ℕ → List Spot → Type 0
-Names nodes [] [] = Unit {0}
-Names nodes [] (r ∷ rs) = ⊥
-Names nodes (j ∷ js) [] = ⊥
-Names nodes (j ∷ js) (r ∷ rs) = ((m : DNode_data) × (slice_get nodes j ≡ Some m) × (spot_of m ≡ r)) × Names nodes js rs
+abbrev pub NameResults : List DNode_data → List ℕ → List Spot → Type 0
+NameResults nodes [] [] = Unit {0}
+NameResults nodes [] (r ∷ rs) = ⊥
+NameResults nodes (j ∷ js) [] = ⊥
+NameResults nodes (j ∷ js) (r ∷ rs) = ((m : DNode_data) × (slice_get nodes j ≡ Some m) × (spot_of m ≡ r)) × NameResults nodes js rs
 
 -- the node stands at states, owes no more than the bound, and names the results of a move that it has
 pub record NodeFits (nodes : List DNode_data) (bound : ℕ) (sub above : Machine_data) (n : DNode_data) : Type 0 where
   pub state : n.state < length sub.states
-  pub there : n.above < length above.states
+  pub present : n.above < length above.states
   pub short : length n.pending ≤ bound
   pub makes : Option ℕ
   pub results : List Spot
   pub move : HasMove sub above (spot_of n) makes results
-  pub named : Names nodes n.next results
+  pub named : NameResults nodes n.next results
 
 -- the first node is the start of both with nothing owed, and each node fits
 pub record IsDerivation (d : Derivation_data) (sub above : Machine_data) : Type 0 where
   pub first : DNode_data
-  pub is : slice_get d.nodes 0 ≡ Some first
+  pub stands : slice_get d.nodes 0 ≡ Some first
   pub starts : spot_of first ≡ spot sub.start [] above.start
   pub each : (i : ℕ) (n : DNode_data) → slice_get d.nodes i ≡ Some n → NodeFits d.nodes d.bound sub above n
 

@@ -1,5 +1,5 @@
 -- Believed: the first fault of a derivation: all its tests in order, and the first that isn't passed.
-use Rattle.std.specs.Prelude.{◌≡◌, ◌≢◌, ◌⊎◌, ℕ, ◌+◌, ◌<◌, ◌≤◌, List, [], ◌∷◌, ◌++◌, length, slice_get, Bool, true, false, not, ◌&&◌, ◌||◌, nat_lt, nat_le, if◌then◌else◌, Option, Some, None}
+use Rattle.std.specs.Prelude.{◌≡◌, ◌≢◌, ◌⊎◌, ℕ, ◌+◌, ◌<◌, ◌≤◌, List, [], ◌∷◌, ◌++◌, length, slice_get, Bool, true, false, not, ◌&&◌, ◌||◌, nat_lt, nat_le, Option, Some, None}
 use Rattle.rs_model.specs.Data.{Machine_data}
 use Rattle.rs_model.specs.FirstFailed.{Test, first_failed}
 use Rattle.rs_derive.specs.Checks.{names, starts}
@@ -20,7 +20,8 @@ abbrev pub falls : ℕ → Option DNode_data → Bool
 falls rank None = true
 falls rank (Some m) = nat_lt m.rank rank
 
--- the tests of node i's nexts from arm k on: for each arm that the next names one of the spots that are due, and that the rank falls where the head is kept; then that there are no fewer and no more nexts than are due
+-- the tests of node i's nexts from arm k on: for each arm that the next names one of the spots that are due, and that the rank falls
+-- where the head is kept; then that there are no fewer and no more nexts than are due
 abbrev pub next_tests : List DNode_data → Bool → ℕ → ℕ → List (List Spot) → List ℕ → ℕ → List (Test DeriveFault)
 next_tests nodes keeps rank i [] [] k = []
 next_tests nodes keeps rank i [] (j ∷ js) k = record { passes = false; fault = WrongNext i k } ∷ []

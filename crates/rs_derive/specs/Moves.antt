@@ -10,7 +10,7 @@ use Rattle.rs_model.specs.declared.machines.Act.TheVariants as act
 use Rattle.rs_model.specs.declared.machines.State.TheVariants.{Done, Puts, Takes}
 use Rattle.rs_model.specs.declared.values.Sort.{Sort}
 use Rattle.rs_prefix.specs.Earliest.{IsFound, IsAbsent, without}
-use Rattle.rs_prefix.specs.declared.earliest.Kind.TheVariants.{Send, Receive}
+use Rattle.rs_prefix.specs.declared.earliest.ActKind.TheVariants.{Send, Receive}
 
 -- a state of the machine, the acts of the projection that were passed and that the machine still owes, the oldest first, and a state of the projection
 pub record Spot : Type 0 where
@@ -40,7 +40,7 @@ Both theirs pending (a ∷ later) (r ∷ rs) =
 abbrev pub owing_send : Spot → Role → Arm → Spot
 owing_send p r b = spot p.state (p.pending ++ act.Puts r b.label b.sort ∷ []) b.next
 
--- .. of passing a receive
+-- where an arm leads by which the projection has received, while the machine owes the receive
 abbrev pub owing_receive : Spot → Role → Arm → Spot
 owing_receive p r b = spot p.state (p.pending ++ act.Takes r b.label b.sort ∷ []) b.next
 

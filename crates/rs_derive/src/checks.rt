@@ -1,16 +1,17 @@
+//! The checker: start, nodes, moves and ranks of a derivation, down to its first fault.
 ghost use Rattle.std.specs.Prelude.{◌≡◌, ◌<◌, ◌≤◌, ◌^◌, length, slice_get, None, Some, OnOk, IfErr};
 ghost use Rattle.rs_model.specs.declared.limits.TheConstants.{MOST_BOUND};
 ghost use Rattle.rs_derive.specs.Checks.{starts, derive_fault, node_fault, move_fault, state_fault, length_fault};
 ghost use Rattle.rs_derive.specs.Derivations.{IsProper, IsDerivation, Remembers, spot_of};
-ghost use Rattle.rs_derive.specs.Due.{due, due_at};
+ghost use Rattle.rs_derive.specs.Due.{due, due_at, due_by};
 ghost use Rattle.rs_derive.specs.Faults.{first_fault};
-ghost use Rattle.rs_derive.specs.Rules.{RuleFits, due_by};
+ghost use Rattle.rs_derive.specs.Rules.{RuleFits};
 ghost use Rattle.rs_derive.specs.Within.{HasLabelsOnce, IsOnceAt};
 ghost use Rattle.rs_derive.specs.declared.targets.Change.TheVariants.{Without};
 
-use crate::nexts::{Source, both_fault, follow_fault, guess_fault, one_fault, spare_fault};
+use crate::nexts::{EdgeSource, both_fault, follow_fault, guess_fault, one_fault, spare_fault};
 use crate::rules::{arms_at, rule_at};
-use crate::targets::{Change, Target};
+use crate::targets::{Change, EdgeTarget};
 use crate::{DNode, Derivation, DeriveFault, Rule};
 use rs_model::{Arm, Machine, State};
 
@@ -125,7 +126,7 @@ fn rule_fault(
     requires fits { RuleFits node.now.pending arms.now theirs.now rule }
     ensures { result ≡ move_fault nodes.now number node.now (Some (due_by (spot_of node.now) arms.now theirs.now rule)) }
 {
-    let source = Source {
+    let source = EdgeSource {
         node: number,
         rank: node.rank,
         keeps: rule.keeps_head(&node.pending),
@@ -145,12 +146,12 @@ fn rule_fault(
 }
 
 // Where making the act at the place leads, by that arm.
-fn target_behind_payment(node: &DNode, place: usize, arm: Arm) -> Target
+fn target_behind_payment(node: &DNode, place: usize, arm: Arm) -> EdgeTarget
     ensures state { result.state ≡ arm.next }
     ensures change { result.change ≡ Without place }
     ensures above { result.above ≡ node.now.above }
 {
-    Target {
+    EdgeTarget {
         state: arm.next,
         change: Change::Without(place),
         above: node.above,

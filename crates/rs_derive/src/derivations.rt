@@ -1,7 +1,8 @@
+//! A derivation as a vector of numbered nodes, and the greatest figures of its nodes.
 ghost use Rattle.std.specs.Prelude.{◌≡◌, ◌<◌, ◌^◌, length, map, All};
 ghost use Rattle.rs_derive.specs.Figures.{IsGreatest};
 
-use rs_graph::Row;
+use rs_graph::NodeRow;
 use rs_model::Role;
 use rs_prefix::Pending;
 use std::marker::Model;
@@ -14,7 +15,7 @@ pub struct DNode {
     pub pending: Pending,
     pub above: u32,
     pub rank: u32,
-    pub next: Row,
+    pub next: NodeRow,
 }
 
 impl Model for DNode {

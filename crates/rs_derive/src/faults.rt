@@ -1,3 +1,4 @@
+//! The reasons for which the checker refuses.
 /// Why a list of nodes is no derivation, or forgets something that is owed. `node` is the number of the node that is
 /// at fault, `arm` a place among its nexts.
 #[derive(Clone, Copy, Debug, PartialEq, Eq)]

@@ -12,6 +12,6 @@ mod targets;
 pub use checks::check;
 pub use derivations::{DNode, Derivation, longest, top_rank};
 pub use faults::DeriveFault;
-pub use rs_graph::{Graph, Steps};
+pub use rs_graph::{Graph, StepCount};
 pub use rules::{Rule, arm_of, arms_at, rule_at};
-pub use targets::{Change, Target, is_target, same_acts};
+pub use targets::{Change, EdgeTarget, is_target, same_acts};

@@ -1,3 +1,4 @@
+//! The nexts of one node against the results of its move, arm by arm.
 ghost use Rattle.std.specs.Prelude.{◌≡◌, ◌<◌, ◌^◌, [], ◌∷◌, map, slice_get, length, Some};
 ghost use Rattle.rs_model.specs.declared.graph.Arm.{Arm};
 ghost use Rattle.rs_derive.specs.Checks.{fault_of_edge, fault_of_count, edge_at, edge_fault, spare, nexts_fault, target_spot};
@@ -8,13 +9,13 @@ ghost use Rattle.rs_derive.specs.Within.{IsPlaceWithin, HasLabelsOnce};
 ghost use Rattle.rs_derive.specs.declared.faults.DeriveFault.TheVariants.{WrongNext};
 
 use crate::rules::arm_of;
-use crate::targets::{Change, Target, is_guessed, is_target};
+use crate::targets::{Change, EdgeTarget, is_guessed, is_target};
 use crate::{DNode, DeriveFault};
 use rs_model::{Act, Arm, Role};
 
 // The node that edges leave, by its number, and whether these edges keep its head.
 #[derive(Clone, Copy)]
-pub struct Source {
+pub struct EdgeSource {
     pub node: u32,
     pub rank: u32,
     pub keeps: bool,
@@ -24,9 +25,9 @@ pub struct Source {
 #[inline(always)]
 pub fn one_fault(
     nodes: &[DNode],
-    source: Source,
+    source: EdgeSource,
     node: &DNode,
-    target: Target,
+    target: EdgeTarget,
 ) -> Option<DeriveFault>
     requires { IsPlaceWithin (length node.now.pending) target.change }
     ensures { result ≡ nexts_fault nodes.now source.keeps source.rank source.node ((target_spot node.now.pending target ∷ []) ∷ []) node.now.next 0 }
@@ -46,7 +47,7 @@ pub fn one_fault(
 #[inline(always)]
 pub fn guess_fault(
     nodes: &[DNode],
-    source: Source,
+    source: EdgeSource,
     node: &DNode,
     peer: Role,
     arms: &[Arm],
@@ -68,7 +69,7 @@ pub fn guess_fault(
 #[inline(always)]
 pub fn follow_fault(
     nodes: &[DNode],
-    source: Source,
+    source: EdgeSource,
     node: &DNode,
     peer: Role,
     arms: &[Arm],
@@ -88,7 +89,7 @@ pub fn follow_fault(
 // A next for each arm of the machine's send, which the projection makes too.
 pub fn both_fault(
     nodes: &[DNode],
-    source: Source,
+    source: EdgeSource,
     node: &DNode,
     arms: &[Arm],
     theirs: &[Arm],
@@ -109,13 +110,14 @@ pub fn both_fault(
 #[inline(always)]
 fn followed_fault(
     nodes: &[DNode],
-    source: Source,
+    source: EdgeSource,
     number: u32,
     node: &DNode,
     peer: Role,
     arms: &[Arm],
 ) -> Option<DeriveFault>
-    ensures fault { result ≡ edge_at (λ b. owing_receive (spot_of node.now) peer b ∷ []) nodes.now source.keeps source.rank source.node number (slice_get arms.now number) (slice_get node.now.next number) }
+    ensures fault { result ≡ edge_at (λ b. owing_receive (spot_of node.now) peer b ∷ []) nodes.now source.keeps source.rank source.node number (slice_get arms.now number)
+        (slice_get node.now.next number) }
     ensures label { (a : Arm) → slice_get arms.now number ≡ Some a → a.label.0 < 2 ^ 16 }
 {
     let arm = arms.get(number as usize)?;
@@ -128,13 +130,14 @@ fn followed_fault(
 #[inline(always)]
 fn made_fault(
     nodes: &[DNode],
-    source: Source,
+    source: EdgeSource,
     number: u32,
     node: &DNode,
     arms: &[Arm],
     theirs: &[Arm],
 ) -> Option<DeriveFault>
-    ensures fault { result ≡ edge_at (λ a. both_at node.now.pending a (arm_of theirs.now a.label)) nodes.now source.keeps source.rank source.node number (slice_get arms.now number) (slice_get node.now.next number) }
+    ensures fault { result ≡ edge_at (λ a. both_at node.now.pending a (arm_of theirs.now a.label)) nodes.now source.keeps source.rank source.node number (slice_get arms.now number)
+        (slice_get node.now.next number) }
     ensures label { (a : Arm) → slice_get arms.now number ≡ Some a → a.label.0 < 2 ^ 16 }
 {
     let arm = arms.get(number as usize)?;
@@ -143,7 +146,7 @@ fn made_fault(
     let Some(their) = their else {
         return Some(wrong_next(source, number));
     };
-    let target = Target {
+    let target = EdgeTarget {
         state: arm.next,
         change: Change::Same,
         above: their.next,
@@ -152,7 +155,7 @@ fn made_fault(
 }
 
 // Where passing that arm of the projection's receive leads to.
-fn owing(node: &DNode, peer: Role, arm: Arm) -> Target
+fn owing(node: &DNode, peer: Role, arm: Arm) -> EdgeTarget
     ensures spot { target_spot node.now.pending result ≡ owing_receive (spot_of node.now) peer arm }
     ensures within { IsPlaceWithin (length node.now.pending) result.change }
     ensures label { arm.label.0 < 2 ^ 16 }
@@ -162,7 +165,7 @@ fn owing(node: &DNode, peer: Role, arm: Arm) -> Target
         label: arm.label,
         sort: arm.sort,
     };
-    Target {
+    EdgeTarget {
         state: node.state,
         change: Change::With(act),
         above: arm.next,
@@ -172,11 +175,11 @@ fn owing(node: &DNode, peer: Role, arm: Arm) -> Target
 #[inline(always)]
 fn edge_fault(
     nodes: &[DNode],
-    source: Source,
+    source: EdgeSource,
     number: u32,
     next: u32,
     node: &DNode,
-    target: Target,
+    target: EdgeTarget,
 ) -> Option<DeriveFault>
     requires { IsPlaceWithin (length node.now.pending) target.change }
     ensures { result ≡ edge_fault source.keeps source.rank source.node number (target_spot node.now.pending target ∷ []) (slice_get nodes.now next) }
@@ -192,7 +195,7 @@ fn edge_fault(
 
 fn guessed_fault(
     nodes: &[DNode],
-    source: Source,
+    source: EdgeSource,
     next: u32,
     node: &DNode,
     peer: Role,
@@ -207,7 +210,7 @@ fn guessed_fault(
 }
 
 #[inline(always)]
-fn judge(source: Source, arm: u32, named: bool, rank: u32) -> Option<DeriveFault>
+fn judge(source: EdgeSource, arm: u32, named: bool, rank: u32) -> Option<DeriveFault>
     ensures { result ≡ fault_of_edge source.keeps source.rank source.node arm named rank }
 {
     if !named {
@@ -223,7 +226,7 @@ fn judge(source: Source, arm: u32, named: bool, rank: u32) -> Option<DeriveFault
 }
 
 // A next too many, or too few.
-fn count_fault(source: Source, arm: u32, arms: usize, nexts: usize) -> Option<DeriveFault>
+fn count_fault(source: EdgeSource, arm: u32, arms: usize, nexts: usize) -> Option<DeriveFault>
     ensures { result ≡ fault_of_count source.node arm arms nexts }
 {
     if arms == nexts {
@@ -234,7 +237,7 @@ fn count_fault(source: Source, arm: u32, arms: usize, nexts: usize) -> Option<De
 }
 
 // More nexts than are due.
-pub fn spare_fault(source: Source, arm: u32, rest: &[u32]) -> Option<DeriveFault>
+pub fn spare_fault(source: EdgeSource, arm: u32, rest: &[u32]) -> Option<DeriveFault>
     ensures { result ≡ spare source.node arm rest.now }
 {
     if rest.is_empty() {
@@ -244,7 +247,7 @@ pub fn spare_fault(source: Source, arm: u32, rest: &[u32]) -> Option<DeriveFault
     }
 }
 
-fn wrong_next(source: Source, arm: u32) -> DeriveFault
+fn wrong_next(source: EdgeSource, arm: u32) -> DeriveFault
     ensures { result ≡ WrongNext source.node arm }
 {
     DeriveFault::WrongNext {

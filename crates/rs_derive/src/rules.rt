@@ -1,14 +1,12 @@
 //! The table of moves.
-ghost use Rattle.std.specs.Prelude.{◌≡◌, ◌<◌, ◌^◌, length, slice_get, IfSome, Some};
-ghost use Rattle.rs_model.specs.Serving.{serves, sort_number};
-ghost use Rattle.rs_derive.specs.Due.{all_serve, due_at, serves_some};
-ghost use Rattle.rs_derive.specs.Moves.{Spot, arm_of};
-ghost use Rattle.rs_derive.specs.Rules.{RuleFits, arms_at, due_of, end_rule, keeps_head, pay_receive_rule, pay_send_rule, pushes, receive_rule, rule_at, send_past_rule, send_rule};
+ghost use Rattle.std.specs.Prelude.{◌≡◌, ◌<◌, ◌^◌, slice_get, IfSome, Some};
+ghost use Rattle.rs_derive.specs.Moves.{arm_of};
+ghost use Rattle.rs_derive.specs.Rules.{RuleFits, all_serve, arms_at, end_rule, keeps_head, pay_receive_rule, pay_send_rule, receive_rule, rule_at, send_past_rule, send_rule, serves_some};
 ghost use Rattle.rs_prefix.specs.Search.{earliest};
-ghost use Rattle.rs_prefix.specs.declared.earliest.Kind.TheVariants.{Send, Receive};
+ghost use Rattle.rs_prefix.specs.declared.earliest.ActKind.TheVariants.{Send, Receive};
 
 use rs_model::{Act, Arm, Label, Role, State};
-use rs_prefix::{Found, Kind, Pending};
+use rs_prefix::{ActKind, Found, Pending};
 
 /// A rule of the table of moves, by which a machine follows its projection.
 #[derive(Clone, Copy, Debug, PartialEq, Eq)]
@@ -53,8 +51,7 @@ impl Rule {
 /// where there is no move. Takes no memory.
 #[inline(always)]
 pub fn rule_at(pending: &Pending, state: &State, there: &State) -> Option<Rule>
-    ensures is { result ≡ rule_at pending.now state.now there.now }
-    ensures due { (p : Spot) → p.pending ≡ pending.now → due_at p (Some state.now) (Some there.now) ≡ due_of p (arms_at state.now) (arms_at there.now) result }
+    ensures rule { result ≡ rule_at pending.now state.now (Some there.now) }
     ensures fits { IfSome result (λ rule. RuleFits pending.now (arms_at state.now) (arms_at there.now) rule) }
 {
     find_rule(pending, state, there)
@@ -62,7 +59,7 @@ pub fn rule_at(pending: &Pending, state: &State, there: &State) -> Option<Rule>
 
 #[inline(always)]
 fn find_rule(pending: &Pending, state: &State, there: &State) -> Option<Rule>
-    ensures { result ≡ rule_at pending.now state.now there.now }
+    ensures { result ≡ rule_at pending.now state.now (Some there.now) }
 {
     match state {
         State::Done => end_rule(pending, there),
@@ -85,7 +82,7 @@ pub fn arms_at(state: &State) -> &[Arm]
 // The machine has ended.
 #[inline(always)]
 fn end_rule(pending: &Pending, there: &State) -> Option<Rule>
-    ensures { result ≡ end_rule pending.now there.now }
+    ensures { result ≡ end_rule pending.now (Some there.now) }
 {
     match there {
         State::Done if pending.as_slice().is_empty() => Some(Rule::Stops),
@@ -95,9 +92,9 @@ fn end_rule(pending: &Pending, there: &State) -> Option<Rule>
 
 #[inline(always)]
 fn send_rule(pending: &Pending, peer: Role, arms: &[Arm], there: &State) -> Option<Rule>
-    ensures { result ≡ send_rule pending.now peer arms.now there.now (earliest pending.now Send peer) }
+    ensures { result ≡ send_rule pending.now peer arms.now (Some there.now) (earliest pending.now Send peer) }
 {
-    match pending.find(Kind::Send, peer) {
+    match pending.find(ActKind::Send, peer) {
         Found::At(place) => pay_send_rule(pending.as_slice(), place, arms),
         Found::Blocked(_) => None,
         Found::Absent => send_past_rule(peer, arms, there),
@@ -106,9 +103,9 @@ fn send_rule(pending: &Pending, peer: Role, arms: &[Arm], there: &State) -> Opti
 
 #[inline(always)]
 fn receive_rule(pending: &Pending, peer: Role, arms: &[Arm], there: &State) -> Option<Rule>
-    ensures { result ≡ receive_rule pending.now arms.now there.now (earliest pending.now Receive peer) }
+    ensures { result ≡ receive_rule pending.now arms.now (Some there.now) (earliest pending.now Receive peer) }
 {
-    match (pending.find(Kind::Receive, peer), there) {
+    match (pending.find(ActKind::Receive, peer), there) {
         (Found::At(place), _) => pay_receive_rule(pending.as_slice(), place, arms),
         (Found::Absent, State::Takes { peer, .. }) => Some(Rule::Follows { peer: *peer }),
         _ => None,
@@ -146,7 +143,7 @@ fn pay_receive_rule(pending: &[Act], place: usize, arms: &[Arm]) -> Option<Rule>
 // No send to the peer is owed.
 #[inline(always)]
 fn send_past_rule(peer: Role, arms: &[Arm], there: &State) -> Option<Rule>
-    ensures { result ≡ send_past_rule peer arms.now there.now }
+    ensures { result ≡ send_past_rule peer arms.now (Some there.now) }
 {
     match there {
         State::Done => None,

@@ -1,3 +1,4 @@
+//! Where an edge leads, told by what changes, so that no list is made to compare a node with it.
 ghost use Rattle.std.specs.Prelude.{◌≡◌, ◌↔◌, IsTrue, ◌<◌, ◌≤◌, ◌∷◌, ◌++◌, [], length, map};
 ghost use Rattle.rs_prefix.specs.Earliest.{without};
 ghost use Rattle.rs_derive.specs.Checks.{names, same_act, same_acts, same_spot, owed_behind, target_spot};
@@ -21,7 +22,7 @@ pub enum Change {
 /// Where an edge leads from a node: a state of the machine, what becomes of the node's pending acts, and a state of
 /// the projection.
 #[derive(Clone, Copy, Debug, PartialEq, Eq)]
-pub struct Target {
+pub struct EdgeTarget {
     pub state: u32,
     pub change: Change,
     pub above: u32,
@@ -29,7 +30,7 @@ pub struct Target {
 
 // Whether the node is where the edge leads from one with these pending acts.
 #[inline(always)]
-pub fn is_target(next: &DNode, pending: &[Act], target: Target) -> bool
+pub fn is_target(next: &DNode, pending: &[Act], target: EdgeTarget) -> bool
     requires { IsPlaceWithin (length pending.now) target.change }
     ensures { result ≡ same_spot (spot_of next.now) (target_spot pending.now target) }
 {
@@ -58,7 +59,7 @@ fn is_owing_send(next: &DNode, node: &DNode, peer: Role, arm: Arm) -> bool
         label: arm.label,
         sort: arm.sort,
     };
-    let target = Target {
+    let target = EdgeTarget {
         state: node.state,
         change: Change::With(act),
         above: arm.next,

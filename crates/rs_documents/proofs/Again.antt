@@ -1,5 +1,6 @@
 -- The canonical text of a document is read again, and is printed as itself.
-use Rattle.std.proofs.Common.{◌≡◌, ◌⊎◌, inl, inr, ℕ, suc, ◌+◌, ◌≤◌, List, [], ◌∷◌, ◌++◌, length, map, drop, codes, true, Option, Some, None, option_map, refl, sym, ap, ◌∙◌, subst, arith, append-nil, slice_get}
+use Rattle.std.proofs.Common.{◌≡◌, ◌⊎◌, inl, inr, ℕ, suc, ◌+◌, ◌≤◌, List, [], ◌∷◌, ◌++◌, length, map, drop, codes, true, Option, Some, None, option_map, refl, sym, ap, ◌∙◌, subst, arith, append-nil}
+use Rattle.std.proofs.Common.{slice_get}
 use Rattle.std.specs.List.{flat_map}
 use Rattle.rs_derivations.proofs.Again.{no_new_labels, read_with_older, spells_the_derivation}
 use Rattle.rs_derivations.specs.Canonical.{canonical_text, tree_of}
@@ -14,32 +15,33 @@ use Rattle.rs_documents.specs.Again.{CanBeReadAgain, HasAllLabels, derivation_by
 use Rattle.rs_documents.specs.Canonical.{AreCanonicalMachines, ArePrintable, AreShown, IsCanonicalDocument, derivations_text}
 use Rattle.rs_documents.specs.Data.{Document_data}
 use Rattle.rs_documents.specs.Documents.{SpellsDocument}
-use Rattle.rs_documents.specs.Parts.{GoesOn, Row, derivation_parts, machine_parts, no_parts}
+use Rattle.rs_documents.specs.Parts.{GoesOn, PartsRead, derivation_parts, machine_parts, no_parts}
 use Rattle.rs_documents.proofs.DerivationsAgain.{IsNamedAlike, derivation_again, derivation_printed_again}
 use Rattle.rs_documents.proofs.FewLabels.{longer}
 use Rattle.rs_bodies.proofs.Moved.{Moves}
 use Rattle.rs_documents.proofs.MachinesAgain.{Renumbers, fits_again, machine_again, machine_printed_again}
-use Rattle.rs_documents.proofs.MoreNames.{AreAmong, back_among, either_among, first_among, front_among, grown_either, grown_new, later_among, name_there, no_more, number_at, number_kept, number_known, number_there}
+use Rattle.rs_documents.proofs.MoreNames.{AreAmong, back_among, either_among, first_among, front_among, grown_either, grown_new, later_among, name_there, no_more, number_at, number_kept}
+use Rattle.rs_documents.proofs.MoreNames.{number_known, number_there}
 use Rattle.rs_documents.proofs.OneCanonical.{some_text}
 use Rattle.rs_documents.proofs.OneDocument.{one_document}
 use Rattle.rs_documents.proofs.PartKinds.{of_derivations, of_machines}
 use Rattle.rs_documents.proofs.Parts.{good, row_of}
 use Rattle.rs_documents.proofs.PartsAgain.{ArePrinted, Begins, IsPrinted, all_go_again, begun, behind_text, printed_begins, printed_known}
 use Rattle.rs_documents.proofs.ProtocolsAgain.{all_are_first, front_again, front_printed_again, labels_known}
-use Rattle.rs_global.specs.Canonical.{IsCanonicalText}
-use Rattle.rs_global.specs.Graph as of_protocols
+use Rattle.rs_global.specs.Canonical.{IsCanonicalProtocolText}
 use Rattle.rs_global.specs.Spells.{SpellsProtocol}
-use Rattle.rs_global.specs.Trees as protocol_trees
 use Rattle.rs_bodies.specs.Graph as graphs
 use Rattle.rs_bodies.specs.Trees as bodies
 use Rattle.rs_bodies.specs.declared.dialects.Dialect.TheVariants.{Talks, Acts}
-use Rattle.rs_machines.proofs.CanonWhole.{IsReadable, readable}
-use Rattle.rs_machines.proofs.PrintedTrees.{tree_spelt}
+use Rattle.rs_bodies.proofs.GraphsAgain.{IsReadable, tree_spelt}
+use Rattle.rs_bodies.specs.Openings.{Opening, of_role}
+use Rattle.rs_bodies.specs.Texts.{body_text, opening_text}
+use Rattle.rs_machines.proofs.Canonical.{written}
 use Rattle.rs_machines.specs.Canonical.{IsCanonicalMachineText, IsMachineTextShaped}
 use Rattle.rs_machines.specs.Enough.{AreEnoughFor}
-use Rattle.rs_machines.specs.Machines as of_lines
+use Rattle.rs_machines.specs.Kinds as of_lines
 use Rattle.rs_machines.specs.Spells.{SpellsMachine}
-use Rattle.rs_machines.specs.Texts.{body_text, machine_text}
+use Rattle.rs_machines.specs.Texts.{machine_text}
 use Rattle.rs_machines.specs.Trees as machine_trees
 use Rattle.rs_model.specs.Data.{Machine_data, Names_data}
 use Rattle.rs_model.specs.declared.limits.TheConstants.{MOST_LABELS}
@@ -67,26 +69,32 @@ all_known labels names e l a = subst (λ (z : List (List ℕ)). is_among l z ≡
 
 -- ---- machines
 
-machine_is_printed : (names : Names_data) (machine : Machine_data) (line : List ℕ) → IsSound names → IsMachineTextShaped machine → AreEnoughFor names machine → (c : IsCanonicalMachineText names machine line)
+line_begins : (o : Opening Acts) (b : List ℕ) → (rest : List ℕ) × (opening_text Acts o b ≡ codes "machine " ++ rest)
+line_begins (of_role r) b = (r ++ (codes ": " ++ b), refl)
+
+machine_is_printed : (names : Names_data) (machine : Machine_data) (line : List ℕ) → IsSound names → IsMachineTextShaped machine → AreEnoughFor names machine
+    → (c : IsCanonicalMachineText names machine line)
     → IsPrinted machine_parts machine_by names machine line (graphs.labels_of Acts c.tree.body)
 machine_is_printed names machine line sound shaped enough c =
     let t : machine_trees.MachineTree = c.tree in
     let labels : List (List ℕ) = graphs.labels_of Acts t.body in
-    let w : IsReadable names machine t = readable names machine t shaped sound enough c.canonical in
-    let e : line ≡ machine_text t = c.is in
+    let w : IsReadable of_lines.machines names names machine t = written names machine t shaped sound enough c.canonical in
+    let e : line ≡ machine_text t = c.whole in
     record {
       known = all_known labels names.labels (ap (λ (z : Names_data). z.labels) w.names_are);
-      begins = (t.role ++ (codes ": " ++ (body_text t.body ++ codes "\n")), refl, e);
+      begins = (let b = line_begins t.opening (body_text Acts t.body ++ codes "\n") in (b.0, refl, e ∙ b.1));
       role = λ number. refl;
       reads = λ bytes at old behind sign number parts b stands roles few f.
           let ended : bodies.ends_a_name Acts (next_lexeme bytes (at + length line)).sign ≡ true = ap (bodies.ends_a_name Acts) stands ∙ ends_machines sign behind b in
-          let spelt = tree_spelt bytes at old t behind w.words (fits_again old names t w.fits roles few) (subst (λ (z : List ℕ). drop at bytes ≡ z ++ behind) e parts)
+          let spelt = tree_spelt of_lines.machines bytes at old t behind w.words (fits_again old names t w.fits roles few) (subst (λ (z : List ℕ). drop at bytes ≡ z ++ behind) e parts)
           (λ _. subst (λ (z : List ℕ). bodies.ends_a_name Acts (next_lexeme bytes (at + length z)).sign ≡ true) e ended) in
           subst (λ (z : List ℕ). SpellsMachine bytes at old (of_lines.names_of old t) (machine_by number machine) (next_lexeme bytes (at + length z)).from) (sym e)
-          (subst (λ (z : Machine_data). SpellsMachine bytes at old (of_lines.names_of old t) z (next_lexeme bytes (at + length (machine_text t))).from) (sym (machine_again old names machine t number w.spells w.names_are roles f)) spelt);
+          (subst (λ (z : Machine_data). SpellsMachine bytes at old (of_lines.names_of old t) z (next_lexeme bytes (at + length (machine_text t))).from)
+          (sym (machine_again old names machine t number w.graph_is w.names_are roles f)) spelt);
     }
 
-machines_are_printed : (names : Names_data) (machines : List (Option Machine_data)) (text : List ℕ) → IsSound names → AreShown names machines → (lines : AreCanonicalMachines names machines text) → ArePrinted machine_parts machine_by names machines text (labels_of_lines names machines text lines)
+machines_are_printed : (names : Names_data) (machines : List (Option Machine_data)) (text : List ℕ) → IsSound names → AreShown names machines → (lines : AreCanonicalMachines names machines text)
+    → ArePrinted machine_parts machine_by names machines text (labels_of_lines names machines text lines)
 machines_are_printed names [] text sound shown lines = (lines, refl)
 machines_are_printed names (None ∷ machines) text sound shown lines = machines_are_printed names machines text sound shown.1 lines
 machines_are_printed names (Some machine ∷ machines) text sound shown lines = (
@@ -102,7 +110,8 @@ machines_are_printed names (Some machine ∷ machines) text sound shown lines = 
 
 -- ---- derivations
 
-derivation_is_printed : (names : Names_data) (d : Derivation_data) → IsSound names → IsPrintable names d → AreSmall d → IsPrinted derivation_parts derivation_by names d (canonical_text names d) (labels_of_nodes (tree_of names d).nodes)
+derivation_is_printed : (names : Names_data) (d : Derivation_data) → IsSound names → IsPrintable names d → AreSmall d
+    → IsPrinted derivation_parts derivation_by names d (canonical_text names d) (labels_of_nodes (tree_of names d).nodes)
 derivation_is_printed names d sound printable small =
     let tree : DerivationTree = tree_of names d in
     let labels : List (List ℕ) = labels_of_nodes tree.nodes in
@@ -116,7 +125,8 @@ derivation_is_printed names d sound printable small =
           (sym (derivation_again names (names_of old (tree_of names d)) d number (spells_the_derivation names d sound printable) roles f)) spelt;
     }
 
-derivations_are_printed : (names : Names_data) (derivations : List (Option Derivation_data)) → IsSound names → ArePrintable names derivations → ((k : ℕ) (d : Derivation_data) → slice_get derivations k ≡ Some (Some d) → AreSmall d)
+derivations_are_printed : (names : Names_data) (derivations : List (Option Derivation_data)) → IsSound names → ArePrintable names derivations
+    → ((k : ℕ) (d : Derivation_data) → slice_get derivations k ≡ Some (Some d) → AreSmall d)
     → ArePrinted derivation_parts derivation_by names derivations (derivations_text names derivations) (flat_map (labels_of_own names) derivations)
 derivations_are_printed names [] sound printable small = (refl, refl)
 derivations_are_printed names (None ∷ derivations) sound printable small = derivations_are_printed names derivations sound (λ k d e. printable (suc k) d e) (λ k d e. small (suc k) d e)
@@ -159,7 +169,8 @@ parts_known d text r c =
     record {
       protocol = labels_known d.names d.protocol c.front r.shown.shaped sound r.shown.enough c.protocol;
       machines = printed_known machine_parts machine_by d.names d.machines c.back (lines_of d text c) (machines_are_printed d.names d.machines c.back sound r.shown.machines c.machines);
-      derivations = printed_known derivation_parts derivation_by d.names d.derivations (derivations_text d.names d.derivations) (owns_of d) (derivations_are_printed d.names d.derivations sound r.shown.derivations r.small);
+      derivations = printed_known derivation_parts derivation_by d.names d.derivations (derivations_text d.names d.derivations) (owns_of d)
+          (derivations_are_printed d.names d.derivations sound r.shown.derivations r.small);
     }
 
 text_known : (d : Document_data) (text : List ℕ) (c : IsCanonicalDocument d text) → LabelsKnown d text c → AreAmong (labels_of_text d text c) d.names.labels
@@ -174,7 +185,7 @@ text_few : (d : Document_data) (text : List ℕ) → CanBeReadAgain d → (c : I
 text_few d text r c k =
     let apart : differ (labels_of_text d text c) ≡ true = grown_differ (graphs.labels_of Talks c.protocol.tree.body ++ (lines_of d text c ++ owns_of d)) [] refl in
     let size = no_more (labels_of_text d text c) d.names.labels apart (text_known d text c k) in
-    let few = r.few in
+    let few = r.bounded in
     omega (arith, size, few)
 
 -- ---- the document is read again
@@ -194,8 +205,10 @@ not_machine own (inr e) h = let clash : finish ≡ plain (codes "machine") = sym
 not_derivation : finish ≡ plain (codes "derivation") → ⊥
 not_derivation e = cc e
 
-by_parts : (d : Document_data) (text : List ℕ) → CanBeReadAgain d → (c : IsCanonicalDocument d text) (number : ℕ → ℕ) → length (names_with (names_with (first_of d text c) (lines_of d text c)) (owns_of d)) ≤ MOST_LABELS
-    → Renumbers number d.names.labels (names_with (first_of d text c) (lines_of d text c)) (lines_of d text c) → Renumbers number d.names.labels (names_with (names_with (first_of d text c) (lines_of d text c)) (owns_of d)) (owns_of d)
+by_parts : (d : Document_data) (text : List ℕ) → CanBeReadAgain d → (c : IsCanonicalDocument d text) (number : ℕ → ℕ)
+    → length (names_with (names_with (first_of d text c) (lines_of d text c)) (owns_of d)) ≤ MOST_LABELS
+    → Renumbers number d.names.labels (names_with (first_of d text c) (lines_of d text c)) (lines_of d text c)
+    → Renumbers number d.names.labels (names_with (names_with (first_of d text c) (lines_of d text c)) (owns_of d)) (owns_of d)
     → SpellsDocument text (doc_with d number (names_with (names_with (first_of d text c) (lines_of d text c)) (owns_of d)))
 by_parts d text r c number few machine_numbers derivation_numbers =
     let names : Names_data = d.names in
@@ -215,7 +228,7 @@ by_parts d text r c number few machine_numbers derivation_numbers =
     let at1 : ℕ = 0 + length front in
     let at2 : ℕ = at1 + length back in
     let at3 : ℕ = at2 + length tail in
-    let here0 : drop 0 text ≡ front ++ (back ++ tail) = c.is in
+    let here0 : drop 0 text ≡ front ++ (back ++ tail) = c.whole in
     let here1 : drop at1 text ≡ back ++ tail = behind_text text 0 front (back ++ tail) here0 in
     let here2 : drop at2 text ≡ tail = behind_text text at1 back tail here1 in
     let here2' : drop at2 text ≡ tail ++ [] = here2 ∙ sym ends in
@@ -226,14 +239,17 @@ by_parts d text r c number few machine_numbers derivation_numbers =
     let first_names : Names_data = record { roles = names.roles; labels = first } in
     let mid_names : Names_data = record { roles = names.roles; labels = names_with first lines } in
     let protocol : SpellsProtocol text 0 first_names d.protocol at1
-    = subst (λ (z : ℕ). SpellsProtocol text 0 first_names d.protocol z) next1.from (front_again names d.protocol front r.shown.shaped sound r.shown.enough c.protocol text (back ++ tail) here0 ended) in
+    = subst (λ (z : ℕ). SpellsProtocol text 0 first_names d.protocol z) next1.from
+    (front_again names d.protocol front r.shown.shaped sound r.shown.enough c.protocol text (back ++ tail) here0 ended) in
     let mid_few = longer owns (names_with first lines) in
-    let row1 : Row Machine_data = row_of mid_names (map (option_map (machine_by number)) d.machines) at2 in
-    let row2 : Row Derivation_data = row_of (record { roles = names.roles; labels = names_with (names_with first lines) owns }) (map (option_map (derivation_by number)) d.derivations) at3 in
+    let row1 : PartsRead Machine_data = row_of mid_names (map (option_map (machine_by number)) d.machines) at2 in
+    let row2 : PartsRead Derivation_data = row_of (record { roles = names.roles; labels = names_with (names_with first lines) owns }) (map (option_map (derivation_by number)) d.derivations) at3 in
     let goes1 : GoesOn machine_parts text at1 first_names (no_parts names.roles) (good row1)
-    = all_go_again machine_parts of_machines machine_by names number d.machines back lines machines text at1 first_names tail begins2.own here1 begins2' (not_machine begins2.own begins2.is) refl (omega (arith, few, mid_few)) machine_numbers r.machines in
+    = all_go_again machine_parts of_machines machine_by names number d.machines back lines machines text at1 first_names tail begins2.own here1 begins2' (not_machine begins2.own begins2.is) refl
+    (omega (arith, few, mid_few)) machine_numbers r.machines in
     let goes2 : GoesOn derivation_parts text at2 mid_names (no_parts names.roles) (good row2)
-    = all_go_again derivation_parts of_derivations derivation_by names number d.derivations tail owns derivations text at2 mid_names [] finish here2' refl not_derivation refl few derivation_numbers r.derivations in
+    = all_go_again derivation_parts of_derivations derivation_by names number d.derivations tail owns derivations text at2 mid_names [] finish here2' refl not_derivation refl few
+    derivation_numbers r.derivations in
     record {
       next = at2;
       before = mid_names;
@@ -263,7 +279,8 @@ read_again d text r c =
 
 -- ---- and printed again
 
-machines_printed_again : (names : Names_data) (others : List (List ℕ)) (number : ℕ → ℕ) (machines : List (Option Machine_data)) (text : List ℕ) (lines : AreCanonicalMachines names machines text) → Moves number names.labels others (labels_of_lines names machines text lines)
+machines_printed_again : (names : Names_data) (others : List (List ℕ)) (number : ℕ → ℕ) (machines : List (Option Machine_data)) (text : List ℕ) (lines : AreCanonicalMachines names machines text)
+    → Moves number names.labels others (labels_of_lines names machines text lines)
     → AreCanonicalMachines (record { roles = names.roles; labels = others }) (map (option_map (machine_by number)) machines) text
 machines_printed_again names others number [] text lines f = lines
 machines_printed_again names others number (None ∷ machines) text lines f = machines_printed_again names others number machines text lines f
@@ -277,7 +294,8 @@ machines_printed_again names others number (Some machine ∷ machines) text line
       lines.4,
     )
 
-derivations_printed_again : (names : Names_data) (others : List (List ℕ)) (number : ℕ → ℕ) (derivations : List (Option Derivation_data)) → IsNamedAlike number names.labels others (flat_map (labels_of_own names) derivations)
+derivations_printed_again : (names : Names_data) (others : List (List ℕ)) (number : ℕ → ℕ) (derivations : List (Option Derivation_data))
+    → IsNamedAlike number names.labels others (flat_map (labels_of_own names) derivations)
     → derivations_text names derivations ≡ derivations_text (record { roles = names.roles; labels = others }) (map (option_map (derivation_by number)) derivations)
 derivations_printed_again names others number [] f = refl
 derivations_printed_again names others number (None ∷ derivations) f = derivations_printed_again names others number derivations f
@@ -285,7 +303,8 @@ derivations_printed_again names others number (Some d ∷ derivations) f =
     let mine : List (List ℕ) = labels_of_nodes (tree_of names d).nodes in
     let more : List (List ℕ) = flat_map (labels_of_own names) derivations in
     ap (λ (z : List ℕ). z ++ derivations_text names derivations) (sym (derivation_printed_again names others d number (λ k a. f k (front_among (name_at names.labels k) mine more a))))
-    ∙ ap (λ (z : List ℕ). canonical_text (record { roles = names.roles; labels = others }) (derivation_by number d) ++ z) (derivations_printed_again names others number derivations (λ k a. f k (back_among (name_at names.labels k) mine more a)))
+    ∙ ap (λ (z : List ℕ). canonical_text (record { roles = names.roles; labels = others }) (derivation_by number d) ++ z)
+    (derivations_printed_again names others number derivations (λ k a. f k (back_among (name_at names.labels k) mine more a)))
 
 printed_again : (d : Document_data) (text : List ℕ) → CanBeReadAgain d → (c : IsCanonicalDocument d text) → IsCanonicalDocument (document_by_labels d (labels_of_text d text c)) text
 printed_again d text r c =
@@ -304,9 +323,9 @@ printed_again d text r c =
     record {
       front = c.front;
       back = c.back;
-      protocol = subst (λ (z : List (List ℕ)). IsCanonicalText (record { roles = names.roles; labels = z }) d.protocol c.front) (sym split) protocol;
+      protocol = subst (λ (z : List (List ℕ)). IsCanonicalProtocolText (record { roles = names.roles; labels = z }) d.protocol c.front) (sym split) protocol;
       machines = machines_printed_again names all number d.machines c.back c.machines moves;
-      is = c.is ∙ ap (λ (z : List ℕ). c.front ++ (c.back ++ z)) (derivations_printed_again names all number d.derivations alike);
+      whole = c.whole ∙ ap (λ (z : List ℕ). c.front ++ (c.back ++ z)) (derivations_printed_again names all number d.derivations alike);
     }
 
 -- what is read from it is printed as it
@@ -317,27 +336,32 @@ as_itself d e text r c h =
 
 -- ---- where the labels stand in order
 
-machine_stays : (names : Names_data) (machine : Machine_data) (line : List ℕ) (number : ℕ → ℕ) → IsSound names → IsMachineTextShaped machine → AreEnoughFor names machine → (c : IsCanonicalMachineText names machine line) → Renumbers number names.labels names.labels (graphs.labels_of Acts c.tree.body) → machine_by number machine ≡ machine
+machine_stays : (names : Names_data) (machine : Machine_data) (line : List ℕ) (number : ℕ → ℕ) → IsSound names → IsMachineTextShaped machine → AreEnoughFor names machine
+    → (c : IsCanonicalMachineText names machine line) → Renumbers number names.labels names.labels (graphs.labels_of Acts c.tree.body) → machine_by number machine ≡ machine
 machine_stays names machine line number sound shaped enough c f =
     let labels : List (List ℕ) = graphs.labels_of Acts c.tree.body in
-    let w : IsReadable names machine c.tree = readable names machine c.tree shaped sound enough c.canonical in
+    let w : IsReadable of_lines.machines names names machine c.tree = written names machine c.tree shaped sound enough c.canonical in
     let same : names_with names.labels labels ≡ names.labels = ap (λ (z : Names_data). z.labels) w.names_are in
-    machine_again names names machine c.tree number w.spells w.names_are refl (λ l a. f l a ∙ ap (λ (z : List (List ℕ)). number_or (place_of l z)) (sym same)) ∙ w.spells
+    machine_again names names machine c.tree number w.graph_is w.names_are refl (λ l a. f l a ∙ ap (λ (z : List (List ℕ)). number_or (place_of l z)) (sym same)) ∙ w.graph_is
 
-machines_stay : (names : Names_data) (number : ℕ → ℕ) (machines : List (Option Machine_data)) (text : List ℕ) → IsSound names → AreShown names machines → (lines : AreCanonicalMachines names machines text) → Renumbers number names.labels names.labels (labels_of_lines names machines text lines)
+machines_stay : (names : Names_data) (number : ℕ → ℕ) (machines : List (Option Machine_data)) (text : List ℕ) → IsSound names → AreShown names machines
+    → (lines : AreCanonicalMachines names machines text) → Renumbers number names.labels names.labels (labels_of_lines names machines text lines)
     → map (option_map (machine_by number)) machines ≡ machines
 machines_stay names number [] text sound shown lines f = refl
 machines_stay names number (None ∷ machines) text sound shown lines f = ap (λ (z : List (Option Machine_data)). None ∷ z) (machines_stay names number machines text sound shown.1 lines f)
 machines_stay names number (Some machine ∷ machines) text sound shown lines f =
     let mine : List (List ℕ) = graphs.labels_of Acts lines.2.tree.body in
     let more : List (List ℕ) = labels_of_lines names machines lines.1 lines.3 in
-    ap (λ (z : Machine_data). Some z ∷ map (option_map (machine_by number)) machines) (machine_stays names machine lines.0 number sound shown.0.0 shown.0.1 lines.2 (λ l a. f l (front_among l mine more a)))
+    ap (λ (z : Machine_data). Some z ∷ map (option_map (machine_by number)) machines)
+    (machine_stays names machine lines.0 number sound shown.0.0 shown.0.1 lines.2 (λ l a. f l (front_among l mine more a)))
     ∙ ap (λ (z : List (Option Machine_data)). Some machine ∷ z) (machines_stay names number machines lines.1 sound shown.1 lines.3 (λ l a. f l (back_among l mine more a)))
 
-derivations_stay : (names : Names_data) (number : ℕ → ℕ) (derivations : List (Option Derivation_data)) → IsSound names → ArePrintable names derivations → Renumbers number names.labels names.labels (flat_map (labels_of_own names) derivations)
+derivations_stay : (names : Names_data) (number : ℕ → ℕ) (derivations : List (Option Derivation_data)) → IsSound names → ArePrintable names derivations
+    → Renumbers number names.labels names.labels (flat_map (labels_of_own names) derivations)
     → map (option_map (derivation_by number)) derivations ≡ derivations
 derivations_stay names number [] sound printable f = refl
-derivations_stay names number (None ∷ derivations) sound printable f = ap (λ (z : List (Option Derivation_data)). None ∷ z) (derivations_stay names number derivations sound (λ k d e. printable (suc k) d e) f)
+derivations_stay names number (None ∷ derivations) sound printable f =
+    ap (λ (z : List (Option Derivation_data)). None ∷ z) (derivations_stay names number derivations sound (λ k d e. printable (suc k) d e) f)
 derivations_stay names number (Some d ∷ derivations) sound printable f =
     let mine : List (List ℕ) = labels_of_nodes (tree_of names d).nodes in
     let more : List (List ℕ) = flat_map (labels_of_own names) derivations in
@@ -375,7 +399,8 @@ in_order d text r c all =
     let k = parts_known d text r c in
     let first = all_are_first d.names d.protocol c.front r.shown.shaped r.shown.sound r.shown.enough c.protocol all in
     let split : labels_of_text d text c ≡ names_with (first_of d text c) (lines ++ owns) = grown_append (graphs.labels_of Talks c.protocol.tree.body) (lines ++ owns) [] in
-    sym (split ∙ ap (λ (z : List (List ℕ)). names_with z (lines ++ owns)) first ∙ grown_same (lines ++ owns) d.names.labels (λ l a. either_among l lines owns (is_among l d.names.labels ≡ true) a (k.machines l) (k.derivations l)))
+    sym (split ∙ ap (λ (z : List (List ℕ)). names_with z (lines ++ owns)) first
+    ∙ grown_same (lines ++ owns) d.names.labels (λ l a. either_among l lines owns (is_among l d.names.labels ≡ true) a (k.machines l) (k.derivations l)))
 
 pub read_as_itself_by_protocol : (d : Document_data) (text : List ℕ) → CanBeReadAgain d → HasAllLabels d.names d.protocol → IsCanonicalDocument d text → SpellsDocument text d
 read_as_itself_by_protocol d text r all c = read_as_itself d text r c (in_order d text r c all)

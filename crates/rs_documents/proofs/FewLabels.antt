@@ -1,5 +1,5 @@
 -- A text has at most 256 labels, as far as a protocol or a machine goes.
-use Rattle.std.proofs.Common.{◌≡◌, ℕ, ◌≤◌, List, [], ◌∷◌, ◌++◌, length, Bool, true, false, if◌then◌else◌, sym, subst, arith, length-append}
+use Rattle.std.proofs.Common.{ℕ, ◌≤◌, List, [], ◌∷◌, ◌++◌, length, Bool, true, false, if◌then◌else◌, sym, subst, arith, length-append}
 use Rattle.rs_bodies.proofs.Fitting.{fits_labels}
 use Rattle.rs_global.specs.Spells.{SpellsProtocol}
 use Rattle.rs_global.specs.Trees.{roles_of}
@@ -26,7 +26,8 @@ pub protocol_few : (bytes : List ℕ) (at : ℕ) (names : Names_data) (protocol 
 protocol_few bytes at names protocol until s =
     subst (λ (z : Names_data). length z.labels ≤ MOST_LABELS) (sym s.names_are) (fits_labels Talks s.tree.body (first_scene (roles_of s.tree) []) s.fits.body (omega arith))
 
--- .. and those behind a machine
-pub machine_few : (bytes : List ℕ) (at : ℕ) (old new : Names_data) (machine : Machine_data) (until : ℕ) → length old.labels ≤ MOST_LABELS → SpellsMachine bytes at old new machine until → length new.labels ≤ MOST_LABELS
+-- the labels behind a machine
+pub machine_few : (bytes : List ℕ) (at : ℕ) (old new : Names_data) (machine : Machine_data) (until : ℕ) → length old.labels ≤ MOST_LABELS → SpellsMachine bytes at old new machine until
+    → length new.labels ≤ MOST_LABELS
 machine_few bytes at old new machine until few s =
     subst (λ (z : Names_data). length z.labels ≤ MOST_LABELS) (sym s.names_are) (fits_labels Acts s.tree.body (first_scene old.roles old.labels) s.fits.body few)

@@ -1,7 +1,7 @@
 -- Machines are printed one behind the other.
 use Rattle.std.proofs.Common.{◌≡◌, ℕ, zero, suc, ◌+◌, ◌<◌, List, [], ◌∷◌, ◌++◌, length, take, Option, Some, None, refl, sym, ap, subst, ◌∙◌, arith, slice_index_or, append_assoc, append-nil}
 use Rattle.rs_derive.specs.Data.{Derivation_data}
-use Rattle.rs_global.specs.Canonical.{IsCanonicalText}
+use Rattle.rs_global.specs.Canonical.{IsCanonicalProtocolText}
 use Rattle.rs_documents.specs.Parts.{no_parts}
 use Rattle.rs_model.specs.Data.{Names_data, Protocol_data, Machine_data}
 use Rattle.rs_machines.specs.Canonical.{IsCanonicalMachineText}
@@ -22,7 +22,8 @@ more_lines names (None ∷ ms) own later line h l = more_lines names ms own late
 more_lines names (Some m ∷ ms) own later line h l = (h.0, h.1 ++ line, h.2, more_lines names ms own h.1 line h.3 l, ap (λ z. z ++ line) h.4 ∙ append_assoc h.0 h.1 line)
 
 -- one machine more
-one_behind : (names : Names_data) (machines : List (Option Machine_data)) (own : Option Machine_data) (old mid new : List ℕ) → IsShownBehind names machines old mid → IsLineBehind names own mid new → IsShownBehind names (machines ++ own ∷ []) old new
+one_behind : (names : Names_data) (machines : List (Option Machine_data)) (own : Option Machine_data) (old mid new : List ℕ) → IsShownBehind names machines old mid → IsLineBehind names own mid new
+    → IsShownBehind names (machines ++ own ∷ []) old new
 one_behind names machines None old mid new h l = (h.0 ++ [], more_lines names machines None h.0 [] h.1 refl, l ∙ h.2 ∙ ap (λ z. old ++ z) (sym (append-nil h.0)))
 one_behind names machines (Some m) old mid new h l = (h.0 ++ l.0, more_lines names machines (Some m) h.0 l.0 h.1 l.1, l.2 ∙ ap (λ z. z ++ l.0) h.2 ∙ append_assoc old h.0 l.0)
 
@@ -42,23 +43,26 @@ next_behind names machines k own old mid new lt e h l =
     let all : take k machines ++ own ∷ [] ≡ take (k + 1) machines = ap (λ z. take k machines ++ z ∷ []) e ∙ sym (take_next machines k own lt) ∙ ap (λ z. take z machines) (sym one) in
     subst (λ (z : List (Option Machine_data)). IsShownBehind names z old new) all (one_behind names (take k machines) own old mid new h l)
 
-shown_at : (names : Names_data) (machines : List (Option Machine_data)) (k : ℕ) (d : Option Machine_data) → k < length machines → AreShown names machines → CanBePrinted names (slice_index_or machines k d)
+shown_at : (names : Names_data) (machines : List (Option Machine_data)) (k : ℕ) (d : Option Machine_data) → k < length machines → AreShown names machines
+    → CanBePrinted names (slice_index_or machines k d)
 shown_at names [] k d lt h = absurd (omega arith)
 shown_at names (x ∷ xs) zero d lt h = h.0
 shown_at names (x ∷ xs) (suc k) d lt h = shown_at names xs k d (omega arith) h.1
 
-pub own_shown : (names : Names_data) (machines : List (Option Machine_data)) (k : ℕ) (own : Option Machine_data) → k < length machines → own ≡ slice_index_or machines k own → AreShown names machines → CanBePrinted names own
+pub own_shown : (names : Names_data) (machines : List (Option Machine_data)) (k : ℕ) (own : Option Machine_data) → k < length machines → own ≡ slice_index_or machines k own → AreShown names machines
+    → CanBePrinted names own
 own_shown names machines k own lt e h = subst (CanBePrinted names) (sym e) (shown_at names machines k own lt h)
 
--- .. and the derivations behind them
-pub printed : (names : Names_data) (protocol : Protocol_data) (machines : List (Option Machine_data)) (derivations : List (Option Derivation_data)) (front mid all : List ℕ) → IsCanonicalText names protocol front → IsShownBehind names machines front mid
+-- the machines are written, and the derivations behind them
+pub printed : (names : Names_data) (protocol : Protocol_data) (machines : List (Option Machine_data)) (derivations : List (Option Derivation_data)) (front mid all : List ℕ)
+    → IsCanonicalProtocolText names protocol front → IsShownBehind names machines front mid
     → all ≡ mid ++ derivations_text names derivations → IsCanonicalDocument (record { names = names; protocol = protocol; machines = machines; derivations = derivations }) all
 printed names protocol machines derivations front mid all h k e = record {
   front = front;
   back = k.0;
   protocol = h;
   machines = k.1;
-  is = e ∙ ap (λ z. z ++ derivations_text names derivations) k.2 ∙ append_assoc front k.0 (derivations_text names derivations);
+  whole = e ∙ ap (λ z. z ++ derivations_text names derivations) k.2 ∙ append_assoc front k.0 (derivations_text names derivations);
 }
 
 -- a document without derivations ends with its machines

@@ -1,5 +1,6 @@
 -- Names among others: how many there are, and their numbers.
-use Rattle.std.proofs.Common.{◌≡◌, ℕ, suc, ◌+◌, ◌≤◌, List, [], ◌∷◌, ◌++◌, length, Bool, true, false, ◌||◌, nat_lt, if◌then◌else◌, inl, inr, Option, Some, refl, sym, ap, ◌∙◌, subst, arith, length-append, slice_get}
+use Rattle.std.proofs.Common.{◌≡◌, ℕ, suc, ◌+◌, ◌≤◌, List, [], ◌∷◌, ◌++◌, length, Bool, true, false, ◌||◌, nat_lt, if◌then◌else◌, inl, inr, Option, Some, refl, sym, ap, ◌∙◌, subst, arith}
+use Rattle.std.proofs.Common.{length-append, slice_get}
 use Rattle.std.proofs.lemmas.Bool.{lt-ltb}
 use Rattle.std.proofs.lemmas.List.Folds.{list_any-append}
 use Rattle.std.proofs.lemmas.Slice.Eq.{bytes_eq-Decides}
@@ -64,7 +65,8 @@ still_among x z (y ∷ ys) h k = elim (true_or_false (bytes_eq y x)) [
   | inl e ↦ (
       let other : bytes_eq y z ≡ false = subst (λ (w : List ℕ). bytes_eq w z ≡ false) (sym ((bytes_eq-Decides y x).0 e)) h in
       rw e (rw other at k))
-  | inr e ↦ rw e (or_either (bytes_eq y z) (is_among z ys) (is_among z (y ∷ without x ys) ≡ true) k (λ f. or_first (bytes_eq y z) (is_among z (without x ys)) f) (λ f. or_end (bytes_eq y z) (is_among z (without x ys)) (still_among x z ys h f)))
+  | inr e ↦ rw e (or_either (bytes_eq y z) (is_among z ys) (is_among z (y ∷ without x ys) ≡ true) k (λ f. or_first (bytes_eq y z) (is_among z (without x ys)) f)
+      (λ f. or_end (bytes_eq y z) (is_among z (without x ys)) (still_among x z ys h f)))
 ]
 
 apart : (x z : List ℕ) (xs : List (List ℕ)) → is_among x xs ≡ false → is_among z xs ≡ true → bytes_eq x z ≡ false
@@ -86,7 +88,8 @@ no_more (x ∷ xs) ys d h =
 pub room : (l : List ℕ) (more ls : List (List ℕ)) → length (names_with ls (l ∷ more)) ≤ 256 → (is_among l ls || nat_lt (length ls) 256) ≡ true
 room l more ls h = elim (true_or_false (is_among l ls)) [
   | inl e ↦ rw e refl
-  | inr e ↦ (let g = rw e at h in let m = longer more (ls ++ l ∷ []) in let k : length (ls ++ l ∷ []) ≡ length ls + 1 = length-append ls (l ∷ []) in rw e (lt-ltb (length ls) 256 (omega (arith, g, m, k))))
+  | inr e ↦ (let g = rw e at h in let m = longer more (ls ++ l ∷ []) in let k : length (ls ++ l ∷ []) ≡ length ls + 1 = length-append ls (l ∷ []) in rw e
+      (lt-ltb (length ls) 256 (omega (arith, g, m, k))))
 ]
 
 -- ---- their numbers
@@ -94,7 +97,7 @@ room l more ls h = elim (true_or_false (is_among l ls)) [
 pub number_there : (names : List (List ℕ)) (l : List ℕ) → is_among l names ≡ true → slice_get names (number_or (place_of l names)) ≡ Some l
 number_there names l h =
     let p = placed_by (place_of l names) l names refl h in
-    ap (λ (o : Option ℕ). slice_get names (number_or o)) p.1 ∙ (place_stands names l p.0 p.1).there
+    ap (λ (o : Option ℕ). slice_get names (number_or o)) p.1 ∙ (place_stands names l p.0 p.1).present
 
 pub name_there : (names : List (List ℕ)) (l : List ℕ) → is_among l names ≡ true → name_at names (number_or (place_of l names)) ≡ l
 name_there names l h = ap text_or_none (number_there names l h)

@@ -12,7 +12,18 @@ use Rattle.rs_derivations.proofs.Spelt as derivation_laws
 use Rattle.rs_derive.specs.Data.{Derivation_data}
 use Rattle.rs_global.specs.Spells.{SpellsProtocol}
 use Rattle.rs_machines.specs.Spells.{SpellsMachine}
-use Rattle.rs_machines.proofs.Spelt as machines
+use Rattle.rs_global.specs.Graph.{no_names}
+use Rattle.rs_global.specs.Kinds.{protocols}
+use Rattle.rs_machines.specs.Kinds.{machines}
+use Rattle.rs_machines.specs.Machines.{machine_of_tree}
+use Rattle.rs_machines.specs.Trees.{MachineTree, machine_signs}
+use Rattle.rs_bodies.proofs.GraphLaws as graphs
+use Rattle.rs_machines.proofs.Places as machine_places
+use Rattle.rs_bodies.proofs.OneFault as faults
+use Rattle.rs_bodies.specs.GraphKinds.{GraphKind, SpellsOf}
+use Rattle.rs_bodies.specs.Openings.{Opening, of_role}
+use Rattle.rs_bodies.specs.Spells.{OpeningFits}
+use Rattle.rs_bodies.specs.declared.dialects.Dialect.{Dialect}
 use Rattle.rs_text.proofs.Nexts.{within, next_is_next, are_lexed}
 use Rattle.rs_text.specs.Lexemes.{Lexeme, is_last}
 use Rattle.rs_text.specs.Lexing.{Lexed, next_lexeme}
@@ -20,7 +31,7 @@ use Rattle.rs_text.specs.Names.{is_among, number_or, place_of}
 use Rattle.rs_text.specs.Signs.{plain, colon}
 use Rattle.rs_bodies.specs.declared.dialects.Dialect.TheVariants.{Acts}
 use Rattle.rs_bodies.specs.Graph.{labels_of}
-use Rattle.rs_bodies.specs.Trees.{body_signs}
+use Rattle.rs_bodies.specs.Trees.{Body, body_signs}
 
 until_within : (bytes : List ℕ) (at : ℕ) → at ≤ length bytes → (next_lexeme bytes at).until ≤ length bytes
 until_within bytes at h = let w = within bytes at (next_lexeme bytes at) h (next_is_next bytes at) in w.inside
@@ -45,27 +56,52 @@ lexed_within bytes (x ∷ z ∷ ls) at b others le h =
     let last : is_last x.sign ≡ false = not_last x (ls ++ b ∷ others) z (is_last x.sign) refl h.1 in
     lexed_within bytes (z ∷ ls) x.until b others (subst (λ (l : Lexeme). l.until ≤ length bytes) (sym h.0) (until_within bytes at le)) (h.2 last)
 
+graph_within : {d : Dialect} {G : Type 0} (kind : GraphKind d G) (bytes : List ℕ) (at : ℕ) (old new : Names_data) (graph : G) (until : ℕ) → at ≤ length bytes
+    → SpellsOf kind bytes at old new graph until → until ≤ length bytes
+graph_within kind bytes at old new graph until le s =
+    let p = s in
+    subst (λ (n : ℕ). n ≤ length bytes) (sym p.goes_on) (lexed_within bytes p.lexemes at p.behind p.others le (are_lexed bytes (p.lexemes ++ p.behind ∷ p.others) at p.tokens))
+
 pub protocol_within : (bytes : List ℕ) (names : Names_data) (protocol : Protocol_data) (until : ℕ) → SpellsProtocol bytes 0 names protocol until → until ≤ length bytes
-protocol_within bytes names protocol until s = subst (λ (n : ℕ). n ≤ length bytes) (sym s.goes_on) (lexed_within bytes s.lexemes 0 s.behind s.others (omega arith) (are_lexed bytes (s.lexemes ++ s.behind ∷ s.others) 0 s.tokens))
+protocol_within bytes names protocol until s = graph_within protocols bytes 0 no_names names protocol until (omega arith) s
 
 -- machines
-machine_within : (bytes : List ℕ) (at : ℕ) (old new : Names_data) (machine : Machine_data) (until : ℕ) → at ≤ length bytes → SpellsMachine bytes at old new machine until → until ≤ length bytes
-machine_within bytes at old new machine until le s = subst (λ (n : ℕ). n ≤ length bytes) (sym s.goes_on) (lexed_within bytes s.lexemes at s.behind s.others le (are_lexed bytes (s.lexemes ++ s.behind ∷ s.others) at s.tokens))
 
-pub machine_begins : (bytes : List ℕ) (at : ℕ) (old new : Names_data) (machine : Machine_data) (until : ℕ) → SpellsMachine bytes at old new machine until → NextTokenIs bytes at (plain (codes "machine"))
-machine_begins bytes at old new machine until s = first_sign bytes at s.lexemes (s.behind ∷ s.others) (plain (codes "machine")) (plain s.tree.role ∷ colon ∷ body_signs Acts s.tree.body) s.spelt (are_lexed bytes (s.lexemes ++ s.behind ∷ s.others) at s.tokens)
+-- the word of a machine's opening, and how its tokens begin
+pub record IsMachineLine (old : Names_data) (t : MachineTree) : Type 0 where
+  pub role : List ℕ
+  pub signs : machine_signs t ≡ plain (codes "machine") ∷ plain role ∷ colon ∷ body_signs Acts t.body
+  pub known : is_among role old.roles ≡ true
+  pub is : (machine_of_tree old t).role.0 ≡ number_or (place_of role old.roles)
+
+line_of : (old : Names_data) (o : Opening Acts) (b : Body Acts) → OpeningFits Acts old o → IsMachineLine old (record { opening = o; body = b })
+line_of old (of_role r) b fits = record { role = r; signs = refl; known = fits; is = refl }
+
+pub machine_line : (bytes : List ℕ) (at : ℕ) (old new : Names_data) (machine : Machine_data) (until : ℕ) (s : SpellsMachine bytes at old new machine until) → IsMachineLine old s.tree
+machine_line bytes at old new machine until s = line_of old s.tree.opening s.tree.body s.fits.opening
+
+pub machine_begins : (bytes : List ℕ) (at : ℕ) (old new : Names_data) (machine : Machine_data) (until : ℕ) → SpellsMachine bytes at old new machine until
+    → NextTokenIs bytes at (plain (codes "machine"))
+machine_begins bytes at old new machine until s =
+    let p = s in
+    let l = machine_line bytes at old new machine until s in
+    first_sign bytes at p.lexemes (p.behind ∷ p.others) (plain (codes "machine")) (plain l.role ∷ colon ∷ body_signs Acts p.tree.body) (p.spelt ∙ l.signs)
+    (are_lexed bytes (p.lexemes ++ p.behind ∷ p.others) at p.tokens)
 
 pub machine_role : (bytes : List ℕ) (at : ℕ) (old new : Names_data) (machine : Machine_data) (until : ℕ) → SpellsMachine bytes at old new machine until → RoleStands bytes at old machine.role
 machine_role bytes at old new machine until s =
-    let p = among_place old.roles s.tree.role 0 s.fits.role in
-    let lt : p.0 < 0 + length old.roles = p.2 in
+    let p = s in
+    let l = machine_line bytes at old new machine until s in
+    let k = among_place old.roles l.role 0 l.known in
+    let lt : k.0 < 0 + length old.roles = k.2 in
     record {
-      name = s.tree.role;
-      place = p.0;
-      word = second_sign bytes at s.lexemes (s.behind ∷ s.others) (plain (codes "machine")) (plain s.tree.role) (colon ∷ body_signs Acts s.tree.body) refl s.spelt (are_lexed bytes (s.lexemes ++ s.behind ∷ s.others) at s.tokens);
-      known = p.1;
-      few = omega (arith, lt);
-      is = ap (λ (m : Machine_data). m.role.0) s.machine_is ∙ ap number_or p.1;
+      name = l.role;
+      place = k.0;
+      word = second_sign bytes at p.lexemes (p.behind ∷ p.others) (plain (codes "machine")) (plain l.role) (colon ∷ body_signs Acts p.tree.body) refl (p.spelt ∙ l.signs)
+          (are_lexed bytes (p.lexemes ++ p.behind ∷ p.others) at p.tokens);
+      known = k.1;
+      bounded = omega (arith, lt);
+      is = ap (λ (m : Machine_data). m.role.0) (s.meaning_is) ∙ l.is ∙ ap number_or k.1;
     }
 
 machine_roles : (bytes : List ℕ) (at : ℕ) (old new : Names_data) (machine : Machine_data) (until : ℕ) → SpellsMachine bytes at old new machine until → new.roles ≡ old.roles
@@ -80,12 +116,12 @@ of_machines = record {
   role = machine_role;
   roles = machine_roles;
   labels = machine_labels;
-  few = machine_few;
-  within = machine_within;
-  one = λ bytes at old new other part another until stop h k. machines.one_spelling old bytes at new other part another until stop h k;
-  one_fault = λ bytes at old j k n i few h g. machines.one_fault old bytes at j k n i h g;
-  not_both = λ bytes at old new part until k offset few h g. machines.spelt_no_fault old bytes at new part until k offset h g;
-  either = λ bytes at old few le. machines.spelt_or_faulty old bytes at le;
+  bounded = machine_few;
+  within = λ bytes at old new machine until le s. graph_within machines bytes at old new machine until le s;
+  one = λ bytes at old new other part another until stop h k. graphs.one_spelling machines machine_places.is_kind.made old bytes at new other part another until stop h k;
+  one_fault = λ bytes at old j k n i few h g. faults.one_fault Acts old bytes at j k n i h g;
+  not_both = λ bytes at old new part until k offset few h g. graphs.spelt_no_fault machines old bytes at new part until k offset h g;
+  either = λ bytes at old few le. graphs.spelt_or_faulty machines machine_places.is_kind.made old bytes at le;
 }
 
 first_known : (a b : Bool) → (a && b) ≡ true → a ≡ true
@@ -93,13 +129,18 @@ first_known true b e = refl
 first_known false b e = absurd cc
 
 -- derivations
-derivation_within : (bytes : List ℕ) (at : ℕ) (old new : Names_data) (derivation : Derivation_data) (until : ℕ) → at ≤ length bytes → SpellsDerivation bytes at old new derivation until → until ≤ length bytes
-derivation_within bytes at old new derivation until le s = subst (λ (n : ℕ). n ≤ length bytes) (sym s.goes_on) (lexed_within bytes s.lexemes at s.behind s.others le (are_lexed bytes (s.lexemes ++ s.behind ∷ s.others) at s.tokens))
+derivation_within : (bytes : List ℕ) (at : ℕ) (old new : Names_data) (derivation : Derivation_data) (until : ℕ) → at ≤ length bytes → SpellsDerivation bytes at old new derivation until
+    → until ≤ length bytes
+derivation_within bytes at old new derivation until le s =
+    subst (λ (n : ℕ). n ≤ length bytes) (sym s.goes_on) (lexed_within bytes s.lexemes at s.behind s.others le (are_lexed bytes (s.lexemes ++ s.behind ∷ s.others) at s.tokens))
 
-derivation_begins : (bytes : List ℕ) (at : ℕ) (old new : Names_data) (derivation : Derivation_data) (until : ℕ) → SpellsDerivation bytes at old new derivation until → NextTokenIs bytes at (plain (codes "derivation"))
-derivation_begins bytes at old new derivation until s = first_sign bytes at s.lexemes (s.behind ∷ s.others) (plain (codes "derivation")) _ s.spelt (are_lexed bytes (s.lexemes ++ s.behind ∷ s.others) at s.tokens)
+derivation_begins : (bytes : List ℕ) (at : ℕ) (old new : Names_data) (derivation : Derivation_data) (until : ℕ) → SpellsDerivation bytes at old new derivation until
+    → NextTokenIs bytes at (plain (codes "derivation"))
+derivation_begins bytes at old new derivation until s =
+    first_sign bytes at s.lexemes (s.behind ∷ s.others) (plain (codes "derivation")) _ s.spelt (are_lexed bytes (s.lexemes ++ s.behind ∷ s.others) at s.tokens)
 
-derivation_role : (bytes : List ℕ) (at : ℕ) (old new : Names_data) (derivation : Derivation_data) (until : ℕ) → SpellsDerivation bytes at old new derivation until → RoleStands bytes at old derivation.role
+derivation_role : (bytes : List ℕ) (at : ℕ) (old new : Names_data) (derivation : Derivation_data) (until : ℕ) → SpellsDerivation bytes at old new derivation until
+    → RoleStands bytes at old derivation.role
 derivation_role bytes at old new derivation until s =
     let known : is_among s.tree.role old.roles ≡ true = first_known _ _ s.fits.roles in
     let p = among_place old.roles s.tree.role 0 known in
@@ -109,14 +150,15 @@ derivation_role bytes at old new derivation until s =
       place = p.0;
       word = second_sign bytes at s.lexemes (s.behind ∷ s.others) (plain (codes "derivation")) (plain s.tree.role) _ refl s.spelt (are_lexed bytes (s.lexemes ++ s.behind ∷ s.others) at s.tokens);
       known = p.1;
-      few = omega (arith, lt);
+      bounded = omega (arith, lt);
       is = ap (λ (d : Derivation_data). d.role.0) s.derivation_is ∙ ap (λ (z : Names_data). number_or (place_of s.tree.role z.roles)) s.names_are ∙ ap number_or p.1;
     }
 
 derivation_roles : (bytes : List ℕ) (at : ℕ) (old new : Names_data) (derivation : Derivation_data) (until : ℕ) → SpellsDerivation bytes at old new derivation until → new.roles ≡ old.roles
 derivation_roles bytes at old new derivation until s = ap (λ (z : Names_data). z.roles) s.names_are
 
-derivation_labels : (bytes : List ℕ) (at : ℕ) (old new : Names_data) (derivation : Derivation_data) (until : ℕ) → SpellsDerivation bytes at old new derivation until → length old.labels ≤ length new.labels
+derivation_labels : (bytes : List ℕ) (at : ℕ) (old new : Names_data) (derivation : Derivation_data) (until : ℕ) → SpellsDerivation bytes at old new derivation until
+    → length old.labels ≤ length new.labels
 derivation_labels bytes at old new derivation until s = subst (λ (z : Names_data). length old.labels ≤ length z.labels) (sym s.names_are) (longer (derivations.labels_of_nodes s.tree.nodes) old.labels)
 
 pub of_derivations : IsKind derivation_parts
@@ -125,7 +167,7 @@ of_derivations = record {
   role = derivation_role;
   roles = derivation_roles;
   labels = derivation_labels;
-  few = λ bytes at old new derivation until few s. subst (λ (z : Names_data). length z.labels ≤ MOST_LABELS) (sym s.names_are) s.fits.labels;
+  bounded = λ bytes at old new derivation until few s. subst (λ (z : Names_data). length z.labels ≤ MOST_LABELS) (sym s.names_are) s.fits.labels;
   within = derivation_within;
   one = λ bytes at old new other part another until stop h k. derivation_laws.one_spelling old new other bytes at until stop part another h k;
   one_fault = λ bytes at old j k n i few h g. derivation_laws.one_fault old few bytes at j k n i h g;

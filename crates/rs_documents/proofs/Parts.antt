@@ -1,26 +1,28 @@
 -- What stands of parts of one kind is one thing, and how it is found.
-use Rattle.std.proofs.Common.{◌≡◌, ◌⊎◌, ℕ, zero, suc, ◌+◌, ◌<◌, ◌≤◌, List, [], ◌∷◌, ◌++◌, length, Bool, true, false, if◌then◌else◌, Option, Some, None, Result, Ok, Err, refl, sym, ap, subst, ◌∙◌, inl, inr, arith, slice_get, slice_set}
+use Rattle.std.proofs.Common.{◌≡◌, ◌⊎◌, ℕ, zero, suc, ◌+◌, ◌<◌, ◌≤◌, List, [], ◌∷◌, ◌++◌, length, Bool, true, false, if◌then◌else◌, Option, Some, None, Result, Ok, Err, refl, sym, ap, subst, ◌∙◌}
+use Rattle.std.proofs.Common.{inl, inr, arith, slice_get, slice_set}
 use Rattle.std.specs.Prelude.{◌||◌}
 use Rattle.std.specs.Str.{bytes_eq}
 use Rattle.std.proofs.lemmas.Slice.Eq.{bytes_eq-Decides}
-use Rattle.rs_documents.specs.Parts.{PartKind, NextTokenIs, no_parts, with_part, IsTwice, Row, GoesOn, Stops, Repeats, Fails, Adds}
-use Rattle.rs_documents.specs.Reading.{is_word, is_held, place_named, twice_by, twice_of, AllHave, StandInPlace, AreGood, AreHeld, free_in, LeadsBack, IsAdded}
+use Rattle.rs_documents.specs.Parts.{PartKind, NextTokenIs, no_parts, parts_with, IsTwice, PartsRead, GoesOn, Stops, Repeats, Fails, Adds}
+use Rattle.rs_documents.specs.Reading.{is_this_word, is_held, place_named, twice_by, twice_of, AllHave, StandInPlace, AreGood, AreHeld, free_in, LeadsBack, IsAdded}
 use Rattle.rs_model.specs.Data.{Names_data}
 use Rattle.rs_model.specs.declared.graph.Role.{Role}
-use Rattle.rs_model.specs.declared.limits.TheConstants.{MOST_LABELS, MOST_ROLES}
+use Rattle.rs_model.specs.declared.limits.TheConstants.{MOST_LABELS}
 use Rattle.rs_text.proofs.Nexts.{within}
 use Rattle.rs_text.specs.Lexemes.{Lexeme, is_last, signs_of}
 use Rattle.rs_text.specs.Lexing.{Lexed, next_lexeme}
 use Rattle.rs_text.specs.Names.{place_from, place_of, is_among}
 use Rattle.rs_text.specs.Seen.{plain_text}
-use Rattle.rs_text.specs.Signs.{Sign, rec_word, end_word, plain, number, arrow, bang, question, colon, dot, comma, open_brace, close_brace, open_paren, close_paren, open_bracket, close_bracket, finish, broken}
-use Rattle.rs_text.specs.Sound.{IsSound}
+use Rattle.rs_text.specs.Signs.{Sign, rec_word, end_word, plain, number, arrow, bang, question, colon, dot, comma, open_brace, close_brace, open_paren, close_paren, open_bracket, close_bracket}
+use Rattle.rs_text.specs.Signs.{finish, broken}
+use Rattle.rs_text.specs.Sound.{AreReadable}
 use Rattle.rs_text.specs.declared.faults.TextFault.{TextFault}
 use Rattle.rs_text.specs.declared.faults.TextKind.{TextKind}
 use Rattle.rs_text.specs.declared.faults.TextKind.TheVariants as fault
 
 -- the word of a test
-pub word_is : (word : List ℕ) (s : Sign) → is_word word s ≡ true → s ≡ plain word
+pub word_is : (word : List ℕ) (s : Sign) → is_this_word word s ≡ true → s ≡ plain word
 word_is word (plain text) e = ap plain ((bytes_eq-Decides text word).0 e)
 word_is word rec_word e = cc
 word_is word end_word e = cc
@@ -40,9 +42,9 @@ word_is word close_bracket e = cc
 word_is word finish e = cc
 word_is word (broken k) e = cc
 
-pub word_isnt : (word : List ℕ) (s : Sign) → is_word word s ≡ false → s ≡ plain word → ⊥
+pub word_isnt : (word : List ℕ) (s : Sign) → is_this_word word s ≡ false → s ≡ plain word → ⊥
 word_isnt word s e same =
-    let here : is_word word (plain word) ≡ false = subst (λ (z : Sign). is_word word z ≡ false) same e in
+    let here : is_this_word word (plain word) ≡ false = subst (λ (z : Sign). is_this_word word z ≡ false) same e in
     let there : bytes_eq word word ≡ true = (bytes_eq-Decides word word).1 refl in
     let clash : true ≡ false = sym there ∙ here in cc
 
@@ -71,7 +73,8 @@ abbrev pub second_of : List ℕ → ℕ → Lexeme
 second_of bytes at = next_lexeme bytes (next_lexeme bytes at).until
 
 held_is : {A : Type 0} (bytes : List ℕ) (names : Names_data) (parts : List (Option A)) (at second place : ℕ) (name : List ℕ) (q : Option (Option A))
-    → (second_of bytes at).sign ≡ plain name → place_of name names.roles ≡ Some place → slice_get parts place ≡ q → (if is_held q then Some (second_of bytes at).from else None) ≡ Some second → IsTwice bytes names parts at second
+    → (second_of bytes at).sign ≡ plain name → place_of name names.roles ≡ Some place → slice_get parts place ≡ q → (if is_held q then Some (second_of bytes at).from else None) ≡ Some second
+    → IsTwice bytes names parts at second
 held_is bytes names parts at second place name None w p q e = absurd cc
 held_is bytes names parts at second place name (Some None) w p q e = absurd cc
 held_is bytes names parts at second place name (Some (Some m)) w p q e =
@@ -88,19 +91,22 @@ named_is : {A : Type 0} (bytes : List ℕ) (names : Names_data) (parts : List (O
 named_is bytes names parts at second None w e = absurd cc
 named_is bytes names parts at second (Some name) w e = placed_is bytes names parts at second name (place_of name names.roles) (plain_is (second_of bytes at).sign name w) refl e
 
--- a role that has a part is found ..
-pub twice_is : {A : Type 0} (bytes : List ℕ) (names : Names_data) (parts : List (Option A)) (at second : ℕ) → twice_of names parts (second_of bytes at) ≡ Some second → IsTwice bytes names parts at second
+-- a role that has a part is found
+pub twice_is : {A : Type 0} (bytes : List ℕ) (names : Names_data) (parts : List (Option A)) (at second : ℕ) → twice_of names parts (second_of bytes at) ≡ Some second
+    → IsTwice bytes names parts at second
 twice_is bytes names parts at second e = named_is bytes names parts at second (plain_text (second_of bytes at).sign) refl e
 
--- .. wherever it stands
-pub twice_found : {A : Type 0} (bytes : List ℕ) (names : Names_data) (parts : List (Option A)) (at second : ℕ) → IsTwice bytes names parts at second → twice_of names parts (second_of bytes at) ≡ Some second
+-- a role that has a part is found, wherever it stands
+pub twice_found : {A : Type 0} (bytes : List ℕ) (names : Names_data) (parts : List (Option A)) (at second : ℕ) → IsTwice bytes names parts at second
+    → twice_of names parts (second_of bytes at) ≡ Some second
 twice_found bytes names parts at second h =
     ap (λ s. twice_by (place_named (plain_text s) names.roles) parts (second_of bytes at).from) h.word
     ∙ ap (λ p. twice_by p parts (second_of bytes at).from) h.role
     ∙ ap (λ q. if is_held q then Some (second_of bytes at).from else None) h.has
     ∙ ap Some (sym h.stands)
 
-pub none_twice : {A : Type 0} (bytes : List ℕ) (names : Names_data) (parts : List (Option A)) (at : ℕ) → twice_of names parts (second_of bytes at) ≡ None → (second : ℕ) → IsTwice bytes names parts at second → ⊥
+pub none_twice : {A : Type 0} (bytes : List ℕ) (names : Names_data) (parts : List (Option A)) (at : ℕ) → twice_of names parts (second_of bytes at) ≡ None → (second : ℕ)
+    → IsTwice bytes names parts at second → ⊥
 none_twice bytes names parts at e second h = let f : Some second ≡ None = sym (twice_found bytes names parts at second h) ∙ e in cc
 
 same_twice : {A : Type 0} (bytes : List ℕ) (names : Names_data) (parts : List (Option A)) (at a b : ℕ) → IsTwice bytes names parts at a → IsTwice bytes names parts at b → a ≡ b
@@ -111,7 +117,8 @@ pub first_sign : (bytes : List ℕ) (at : ℕ) (ls rest : List Lexeme) (a : Sign
 first_sign bytes at [] rest a more e h = absurd cc
 first_sign bytes at (x ∷ xs) rest a more e h = let first : x.sign ≡ a = cc in sym (ap (λ z. z.sign) h.0) ∙ first
 
-pub second_sign : (bytes : List ℕ) (at : ℕ) (ls rest : List Lexeme) (a b : Sign) (more : List Sign) → is_last a ≡ false → signs_of ls ≡ a ∷ b ∷ more → Lexed bytes at (ls ++ rest) → (second_of bytes at).sign ≡ b
+pub second_sign : (bytes : List ℕ) (at : ℕ) (ls rest : List Lexeme) (a b : Sign) (more : List Sign) → is_last a ≡ false → signs_of ls ≡ a ∷ b ∷ more → Lexed bytes at (ls ++ rest)
+    → (second_of bytes at).sign ≡ b
 second_sign bytes at [] rest a b more f e h = absurd cc
 second_sign bytes at (x ∷ []) rest a b more f e h = absurd cc
 second_sign bytes at (x ∷ y ∷ zs) rest a b more f e h =
@@ -140,13 +147,14 @@ pub record RoleStands (bytes : List ℕ) (at : ℕ) (names : Names_data) (role :
   pub place : ℕ
   pub word : NextTokenIs bytes (next_lexeme bytes at).until (plain name)
   pub known : place_of name names.roles ≡ Some place
-  pub few : place < length names.roles
+  pub bounded : place < length names.roles
   pub is : role.0 ≡ place
 
 abbrev IsFree : {A : Type 0} → List ℕ → Names_data → List (Option A) → ℕ → Type 0
 IsFree bytes names parts at = (second : ℕ) → IsTwice bytes names parts at second → ⊥
 
-free_by : {A : Type 0} (bytes : List ℕ) (names : Names_data) (parts : List (Option A)) (at k : ℕ) (name : List ℕ) (q : Option (Option A)) → (second_of bytes at).sign ≡ plain name → place_of name names.roles ≡ Some k
+free_by : {A : Type 0} (bytes : List ℕ) (names : Names_data) (parts : List (Option A)) (at k : ℕ) (name : List ℕ) (q : Option (Option A)) → (second_of bytes at).sign ≡ plain name
+    → place_of name names.roles ≡ Some k
     → k < length parts → slice_get parts k ≡ q → IsFree bytes names parts at → q ≡ Some None
 free_by bytes names parts at k name None w p lt e never = absurd (get_there parts k lt e)
 free_by bytes names parts at k name (Some None) w p lt e never = refl
@@ -157,16 +165,17 @@ free_by bytes names parts at k name (Some (Some m)) w p lt e never =
 pub slot_free : {A : Type 0} (bytes : List ℕ) (at : ℕ) (names : Names_data) (parts : List (Option A)) (role : Role) → RoleStands bytes at names role → length parts ≡ length names.roles
     → IsFree bytes names parts at → slice_get parts role.0 ≡ Some None
 slot_free bytes at names parts role r size never =
-    let lt : r.place < length names.roles = r.few in
+    let lt : r.place < length names.roles = r.bounded in
     ap (slice_get parts) r.is ∙ free_by bytes names parts at r.place r.name (slice_get parts r.place) r.word r.known (omega (arith, size, lt)) refl never
 
--- a role that has a part has it where the second token says ..
-pub twice_of_role : {A : Type 0} (bytes : List ℕ) (at : ℕ) (names : Names_data) (parts : List (Option A)) (role : Role) (part : A) → RoleStands bytes at names role → slice_get parts role.0 ≡ Some (Some part)
+-- a role that has a part has it where the second token says
+pub twice_of_role : {A : Type 0} (bytes : List ℕ) (at : ℕ) (names : Names_data) (parts : List (Option A)) (role : Role) (part : A) → RoleStands bytes at names role
+    → slice_get parts role.0 ≡ Some (Some part)
     → IsTwice bytes names parts at (second_of bytes at).from
 twice_of_role bytes at names parts role part r h =
     record { name = r.name; word = r.word; place = r.place; role = r.known; part = part; has = ap (slice_get parts) (sym r.is) ∙ h; stands = refl }
 
--- .. and only there
+-- a role that has a part has it only where the second token says
 pub role_of_twice : {A : Type 0} (bytes : List ℕ) (at second : ℕ) (names : Names_data) (parts : List (Option A)) (role : Role) → RoleStands bytes at names role → IsTwice bytes names parts at second
     → (part : A) × (slice_get parts role.0 ≡ Some (Some part))
 role_of_twice bytes at second names parts role r t =
@@ -232,29 +241,34 @@ pub record IsKind {A : Type 0} (kind : PartKind A) : Type 0 where
   pub role : (bytes : List ℕ) (at : ℕ) (old new : Names_data) (part : A) (until : ℕ) → kind.Spells bytes at old new part until → RoleStands bytes at old (kind.role_of part)
   pub roles : (bytes : List ℕ) (at : ℕ) (old new : Names_data) (part : A) (until : ℕ) → kind.Spells bytes at old new part until → new.roles ≡ old.roles
   pub labels : (bytes : List ℕ) (at : ℕ) (old new : Names_data) (part : A) (until : ℕ) → kind.Spells bytes at old new part until → length old.labels ≤ length new.labels
-  pub few : (bytes : List ℕ) (at : ℕ) (old new : Names_data) (part : A) (until : ℕ) → length old.labels ≤ MOST_LABELS → kind.Spells bytes at old new part until → length new.labels ≤ MOST_LABELS
+  pub bounded : (bytes : List ℕ) (at : ℕ) (old new : Names_data) (part : A) (until : ℕ) → length old.labels ≤ MOST_LABELS → kind.Spells bytes at old new part until → length new.labels ≤ MOST_LABELS
   pub within : (bytes : List ℕ) (at : ℕ) (old new : Names_data) (part : A) (until : ℕ) → at ≤ length bytes → kind.Spells bytes at old new part until → until ≤ length bytes
-  pub one : (bytes : List ℕ) (at : ℕ) (old new other : Names_data) (part another : A) (until stop : ℕ) → kind.Spells bytes at old new part until → kind.Spells bytes at old other another stop → (new ≡ other) × (part ≡ another) × (until ≡ stop)
-  pub one_fault : (bytes : List ℕ) (at : ℕ) (old : Names_data) (j k : TextKind) (n i : ℕ) → length old.labels ≤ MOST_LABELS → kind.Fails old bytes at j n → kind.Fails old bytes at k i → (j ≡ k) × (n ≡ i)
-  pub not_both : (bytes : List ℕ) (at : ℕ) (old new : Names_data) (part : A) (until : ℕ) (k : TextKind) (offset : ℕ) → length old.labels ≤ MOST_LABELS → kind.Spells bytes at old new part until → kind.Fails old bytes at k offset → ⊥
+  pub one : (bytes : List ℕ) (at : ℕ) (old new other : Names_data) (part another : A) (until stop : ℕ) → kind.Spells bytes at old new part until → kind.Spells bytes at old other another stop
+      → (new ≡ other) × (part ≡ another) × (until ≡ stop)
+  pub one_fault : (bytes : List ℕ) (at : ℕ) (old : Names_data) (j k : TextKind) (n i : ℕ) → length old.labels ≤ MOST_LABELS → kind.Fails old bytes at j n → kind.Fails old bytes at k i
+      → (j ≡ k) × (n ≡ i)
+  pub not_both : (bytes : List ℕ) (at : ℕ) (old new : Names_data) (part : A) (until : ℕ) (k : TextKind) (offset : ℕ) → length old.labels ≤ MOST_LABELS → kind.Spells bytes at old new part until
+      → kind.Fails old bytes at k offset → ⊥
   pub either : (bytes : List ℕ) (at : ℕ) (old : Names_data) → length old.labels ≤ MOST_LABELS → at ≤ length bytes → SpeltOrFaulty kind old bytes at
 
 -- ---- one outcome
 
-abbrev fault_of : {A : Type 0} → TextKind → ℕ → Result (Row A) TextFault
+abbrev fault_of : {A : Type 0} → TextKind → ℕ → Result (PartsRead A) TextFault
 fault_of k at = Err (record { kind = k; at = at })
 
 same_fault : {A : Type 0} (k j : TextKind) (a b : ℕ) → k ≡ j → a ≡ b → fault_of {A = A} k a ≡ fault_of {A = A} j b
 same_fault {A} k j a b e f = ap (λ z. fault_of {A = A} z a) e ∙ ap (λ z. fault_of {A = A} j z) f
 
-moved : {A : Type 0} (kind : PartKind A) (bytes : List ℕ) (next stop : ℕ) (new other : Names_data) (parts : List (Option A)) (part another : A) (y : Result (Row A) TextFault) → new ≡ other → part ≡ another → next ≡ stop
-    → GoesOn kind bytes stop other (with_part kind parts another) y → GoesOn kind bytes next new (with_part kind parts part) y
+moved : {A : Type 0} (kind : PartKind A) (bytes : List ℕ) (next stop : ℕ) (new other : Names_data) (parts : List (Option A)) (part another : A) (y : Result (PartsRead A) TextFault) → new ≡ other
+    → part ≡ another → next ≡ stop
+    → GoesOn kind bytes stop other (parts_with kind parts another) y → GoesOn kind bytes next new (parts_with kind parts part) y
 moved kind bytes next stop new other parts part another y e f g h =
-    subst (λ (n : ℕ). GoesOn kind bytes n new (with_part kind parts part) y) (sym g)
-    (subst (λ m. GoesOn kind bytes stop new (with_part kind parts m) y) (sym f)
-    (subst (λ (n : Names_data). GoesOn kind bytes stop n (with_part kind parts another) y) (sym e) h))
+    subst (λ (n : ℕ). GoesOn kind bytes n new (parts_with kind parts part) y) (sym g)
+    (subst (λ m. GoesOn kind bytes stop new (parts_with kind parts m) y) (sym f)
+    (subst (λ (n : Names_data). GoesOn kind bytes stop n (parts_with kind parts another) y) (sym e) h))
 
-pub one_row : {A : Type 0} (kind : PartKind A) (i : IsKind kind) (bytes : List ℕ) (at : ℕ) (names : Names_data) (parts : List (Option A)) (x y : Result (Row A) TextFault) → length names.labels ≤ MOST_LABELS
+pub one_row : {A : Type 0} (kind : PartKind A) (i : IsKind kind) (bytes : List ℕ) (at : ℕ) (names : Names_data) (parts : List (Option A)) (x y : Result (PartsRead A) TextFault)
+    → length names.labels ≤ MOST_LABELS
     → GoesOn kind bytes at names parts x → GoesOn kind bytes at names parts y → x ≡ y
 one_row kind i bytes at names parts x y few (Stops a n m e) (Stops b o l f) = refl
 one_row kind i bytes at names parts x y few (Stops a n m e) (Repeats b c o l f t) = absurd (e f)
@@ -273,62 +287,71 @@ one_row kind i bytes at names parts x y few (Adds a u n v m r w e z h j) (Repeat
 one_row kind i bytes at names parts x y few (Adds a u n v m r w e z h j) (Fails b c o l k f t g) = absurd (i.not_both bytes at names v r u k c few h g)
 one_row kind i bytes at names parts x y few (Adds a u n v m r w e z h j) (Adds b c o d l q p f t s g) =
     let same = i.one bytes at names v d r q u c h s in
-    one_row kind i bytes u v (with_part kind parts r) x y (i.few bytes at names v r u few h) j (moved kind bytes u c v d parts r q y same.0 same.1 same.2 g)
+    one_row kind i bytes u v (parts_with kind parts r) x y (i.bounded bytes at names v r u few h) j (moved kind bytes u c v d parts r q y same.0 same.1 same.2 g)
 
 -- ---- some outcome
 
 pub record SomeRow {A : Type 0} (kind : PartKind A) (bytes : List ℕ) (at : ℕ) (names : Names_data) (parts : List (Option A)) : Type 0 where
-  pub row : Result (Row A) TextFault
+  pub row : Result (PartsRead A) TextFault
   pub is : GoesOn kind bytes at names parts row
 
 abbrev Again : {A : Type 0} → PartKind A → List ℕ → ℕ → Type 0
-Again {A} kind bytes n = (at : ℕ) (names : Names_data) (parts : List (Option A)) → free_in parts < n → at ≤ length bytes → length parts ≡ length names.roles → length names.labels ≤ MOST_LABELS → SomeRow kind bytes at names parts
+Again {A} kind bytes n =
+    (at : ℕ) (names : Names_data) (parts : List (Option A)) → free_in parts < n → at ≤ length bytes → length parts ≡ length names.roles → length names.labels ≤ MOST_LABELS
+    → SomeRow kind bytes at names parts
 
-by_role : {A : Type 0} (kind : PartKind A) (i : IsKind kind) (n : ℕ) (bytes : List ℕ) (at : ℕ) (names : Names_data) (parts : List (Option A)) → Again kind bytes n → free_in parts < suc n → at ≤ length bytes → length parts ≡ length names.roles → length names.labels ≤ MOST_LABELS
+by_role : {A : Type 0} (kind : PartKind A) (i : IsKind kind) (n : ℕ) (bytes : List ℕ) (at : ℕ) (names : Names_data) (parts : List (Option A)) → Again kind bytes n → free_in parts < suc n
+    → at ≤ length bytes → length parts ≡ length names.roles → length names.labels ≤ MOST_LABELS
     → NextTokenIs bytes at (plain kind.word) → (o : Option ℕ) → twice_of names parts (second_of bytes at) ≡ o → SomeRow kind bytes at names parts
-by_role kind i n bytes at names parts again lt le size few word (Some second) e = record { row = fault_of fault.NameTwice second; is = Repeats at second names parts word (twice_is bytes names parts at second e) }
+by_role kind i n bytes at names parts again lt le size few word (Some second) e =
+    record { row = fault_of fault.NameTwice second; is = Repeats at second names parts word (twice_is bytes names parts at second e) }
 by_role {A} kind i n bytes at names parts again lt le size few word None e = elim (i.either bytes at names few le) [
   | inl h ↦
       let never = none_twice bytes names parts at e in
       let free = slot_free bytes at names parts (kind.role_of h.1) (i.role bytes at names h.0 h.1 h.2 h.3) size never in
-      let less : free_in (with_part kind parts h.1) < free_in parts = free_less parts (kind.role_of h.1).0 h.1 free in
+      let less : free_in (parts_with kind parts h.1) < free_in parts = free_less parts (kind.role_of h.1).0 h.1 free in
       let same : h.0.roles ≡ names.roles = i.roles bytes at names h.0 h.1 h.2 h.3 in
-      let rest = again h.2 h.0 (with_part kind parts h.1) (omega (arith, lt, less)) (i.within bytes at names h.0 h.1 h.2 le h.3)
-      (set_size parts (kind.role_of h.1).0 (Some h.1) ∙ size ∙ ap length (sym same)) (i.few bytes at names h.0 h.1 h.2 few h.3) in
+      let rest = again h.2 h.0 (parts_with kind parts h.1) (omega (arith, lt, less)) (i.within bytes at names h.0 h.1 h.2 le h.3)
+      (set_size parts (kind.role_of h.1).0 (Some h.1) ∙ size ∙ ap length (sym same)) (i.bounded bytes at names h.0 h.1 h.2 few h.3) in
       record { row = rest.row; is = Adds at h.2 names h.0 parts h.1 rest.row word never h.3 rest.is }
   | inr f ↦ record { row = fault_of f.0 f.1; is = Fails at f.1 names parts f.0 word (none_twice bytes names parts at e) f.2 }
 ]
 
-by_word : {A : Type 0} (kind : PartKind A) (i : IsKind kind) (n : ℕ) (bytes : List ℕ) (at : ℕ) (names : Names_data) (parts : List (Option A)) → Again kind bytes n → free_in parts < suc n → at ≤ length bytes → length parts ≡ length names.roles → length names.labels ≤ MOST_LABELS
-    → (b : Bool) → is_word kind.word (next_lexeme bytes at).sign ≡ b → SomeRow kind bytes at names parts
+by_word : {A : Type 0} (kind : PartKind A) (i : IsKind kind) (n : ℕ) (bytes : List ℕ) (at : ℕ) (names : Names_data) (parts : List (Option A)) → Again kind bytes n → free_in parts < suc n
+    → at ≤ length bytes → length parts ≡ length names.roles → length names.labels ≤ MOST_LABELS
+    → (b : Bool) → is_this_word kind.word (next_lexeme bytes at).sign ≡ b → SomeRow kind bytes at names parts
 by_word kind i n bytes at names parts again lt le size few true e =
     by_role kind i n bytes at names parts again lt le size few (word_is kind.word (next_lexeme bytes at).sign e) (twice_of names parts (second_of bytes at)) refl
-by_word kind i n bytes at names parts again lt le size few false e = record { row = Ok (record { names = names; parts = parts; until = at }); is = Stops at names parts (word_isnt kind.word (next_lexeme bytes at).sign e) }
+by_word kind i n bytes at names parts again lt le size few false e =
+    record { row = Ok (record { names = names; parts = parts; until = at }); is = Stops at names parts (word_isnt kind.word (next_lexeme bytes at).sign e) }
 
-some_row_by : {A : Type 0} (kind : PartKind A) (i : IsKind kind) (n : ℕ) (bytes : List ℕ) (at : ℕ) (names : Names_data) (parts : List (Option A)) → free_in parts < n → at ≤ length bytes → length parts ≡ length names.roles → length names.labels ≤ MOST_LABELS
+some_row_by : {A : Type 0} (kind : PartKind A) (i : IsKind kind) (n : ℕ) (bytes : List ℕ) (at : ℕ) (names : Names_data) (parts : List (Option A)) → free_in parts < n → at ≤ length bytes
+    → length parts ≡ length names.roles → length names.labels ≤ MOST_LABELS
     → SomeRow kind bytes at names parts
 some_row_by kind i zero bytes at names parts lt le size few = absurd (omega arith)
 some_row_by kind i (suc n) bytes at names parts lt le size few =
-    by_word kind i n bytes at names parts (λ a o m l k s f. some_row_by kind i n bytes a o m l k s f) lt le size few (is_word kind.word (next_lexeme bytes at).sign) refl
+    by_word kind i n bytes at names parts (λ a o m l k s f. some_row_by kind i n bytes a o m l k s f) lt le size few (is_this_word kind.word (next_lexeme bytes at).sign) refl
 
-pub some_row : {A : Type 0} (kind : PartKind A) (i : IsKind kind) (bytes : List ℕ) (at : ℕ) (names : Names_data) (parts : List (Option A)) → at ≤ length bytes → length parts ≡ length names.roles → length names.labels ≤ MOST_LABELS → SomeRow kind bytes at names parts
+pub some_row : {A : Type 0} (kind : PartKind A) (i : IsKind kind) (bytes : List ℕ) (at : ℕ) (names : Names_data) (parts : List (Option A)) → at ≤ length bytes → length parts ≡ length names.roles
+    → length names.labels ≤ MOST_LABELS → SomeRow kind bytes at names parts
 some_row kind i bytes at names parts le size few = some_row_by kind i (suc (free_in parts)) bytes at names parts (omega arith) le size few
 
 -- ---- what a row keeps
 
-pub record Keeps {A : Type 0} (kind : PartKind A) (old new : Row A) : Type 0 where
+pub record Keeps {A : Type 0} (kind : PartKind A) (old new : PartsRead A) : Type 0 where
   pub roles : new.names.roles ≡ old.names.roles
   pub labels : length old.names.labels ≤ length new.names.labels
   pub size : length new.parts ≡ length old.parts
   pub in_place : StandInPlace kind.role_of old.parts → StandInPlace kind.role_of new.parts
 
-abbrev pub row_of : {A : Type 0} → Names_data → List (Option A) → ℕ → Row A
+abbrev pub row_of : {A : Type 0} → Names_data → List (Option A) → ℕ → PartsRead A
 row_of names parts at = record { names = names; parts = parts; until = at }
 
-abbrev pub good : {A : Type 0} → Row A → Result (Row A) TextFault
+abbrev pub good : {A : Type 0} → PartsRead A → Result (PartsRead A) TextFault
 good row = Ok row
 
-pub keeps : {A : Type 0} (kind : PartKind A) (i : IsKind kind) (bytes : List ℕ) (at : ℕ) (names : Names_data) (parts : List (Option A)) (what : Result (Row A) TextFault) (row : Row A) → GoesOn kind bytes at names parts what → what ≡ good row
+pub keeps : {A : Type 0} (kind : PartKind A) (i : IsKind kind) (bytes : List ℕ) (at : ℕ) (names : Names_data) (parts : List (Option A)) (what : Result (PartsRead A) TextFault) (row : PartsRead A)
+    → GoesOn kind bytes at names parts what → what ≡ good row
     → Keeps kind (row_of names parts at) row
 keeps {A} kind i bytes at names parts what row (Stops a n m e) is =
     let same : row_of names parts at ≡ row = cc in
@@ -336,7 +359,7 @@ keeps {A} kind i bytes at names parts what row (Stops a n m e) is =
 keeps kind i bytes at names parts what row (Repeats a u n m e z) is = absurd cc
 keeps kind i bytes at names parts what row (Fails a u n m j e z r) is = absurd cc
 keeps {A} kind i bytes at names parts what row (Adds a next n new m part w e z s g) is =
-    let later = keeps kind i bytes next new (with_part kind parts part) what row g is in
+    let later = keeps kind i bytes next new (parts_with kind parts part) what row g is in
     let l1 = later.labels in
     let l2 = i.labels bytes at names new part next s in
     record {
@@ -346,46 +369,49 @@ keeps {A} kind i bytes at names parts what row (Adds a next n new m part w e z s
       in_place = λ h. later.in_place (set_in_place kind.role_of parts part h);
     }
 
-pub keeps_few : {A : Type 0} (kind : PartKind A) (i : IsKind kind) (bytes : List ℕ) (at : ℕ) (names : Names_data) (parts : List (Option A)) (what : Result (Row A) TextFault) (row : Row A) → length names.labels ≤ MOST_LABELS → GoesOn kind bytes at names parts what → what ≡ good row
+pub keeps_few : {A : Type 0} (kind : PartKind A) (i : IsKind kind) (bytes : List ℕ) (at : ℕ) (names : Names_data) (parts : List (Option A)) (what : Result (PartsRead A) TextFault) (row : PartsRead A)
+    → length names.labels ≤ MOST_LABELS → GoesOn kind bytes at names parts what → what ≡ good row
     → length row.names.labels ≤ MOST_LABELS
 keeps_few {A} kind i bytes at names parts what row few (Stops a n m e) is =
     let same : row_of names parts at ≡ row = cc in
-    subst (λ (z : Row A). length z.names.labels ≤ MOST_LABELS) same few
+    subst (λ (z : PartsRead A). length z.names.labels ≤ MOST_LABELS) same few
 keeps_few kind i bytes at names parts what row few (Repeats a u n m e z) is = absurd cc
 keeps_few kind i bytes at names parts what row few (Fails a u n m j e z r) is = absurd cc
-keeps_few kind i bytes at names parts what row few (Adds a next n new m part w e z s g) is = keeps_few kind i bytes next new (with_part kind parts part) what row (i.few bytes at names new part next few s) g is
+keeps_few kind i bytes at names parts what row few (Adds a next n new m part w e z s g) is =
+    keeps_few kind i bytes next new (parts_with kind parts part) what row (i.bounded bytes at names new part next few s) g is
 
-pub keeps_within : {A : Type 0} (kind : PartKind A) (i : IsKind kind) (bytes : List ℕ) (at : ℕ) (names : Names_data) (parts : List (Option A)) (what : Result (Row A) TextFault) (row : Row A) → at ≤ length bytes → GoesOn kind bytes at names parts what → what ≡ good row
+pub keeps_within : {A : Type 0} (kind : PartKind A) (i : IsKind kind) (bytes : List ℕ) (at : ℕ) (names : Names_data) (parts : List (Option A)) (what : Result (PartsRead A) TextFault)
+    (row : PartsRead A)
+    → at ≤ length bytes → GoesOn kind bytes at names parts what → what ≡ good row
     → row.until ≤ length bytes
 keeps_within {A} kind i bytes at names parts what row le (Stops a n m e) is =
     let same : row_of names parts at ≡ row = cc in
-    subst (λ (z : Row A). z.until ≤ length bytes) same le
+    subst (λ (z : PartsRead A). z.until ≤ length bytes) same le
 keeps_within kind i bytes at names parts what row le (Repeats a u n m e z) is = absurd cc
 keeps_within kind i bytes at names parts what row le (Fails a u n m j e z r) is = absurd cc
-keeps_within kind i bytes at names parts what row le (Adds a next n new m part w e z s g) is = keeps_within kind i bytes next new (with_part kind parts part) what row (i.within bytes at names new part next le s) g is
+keeps_within kind i bytes at names parts what row le (Adds a next n new m part w e z s g) is =
+    keeps_within kind i bytes next new (parts_with kind parts part) what row (i.within bytes at names new part next le s) g is
 
 -- where no part begins, none comes
-pub stops : {A : Type 0} (kind : PartKind A) (bytes : List ℕ) (names : Names_data) (parts : List (Option A)) (at : ℕ) → is_word kind.word (next_lexeme bytes at).sign ≡ false → GoesOn kind bytes at names parts (good (row_of names parts at))
+pub stops : {A : Type 0} (kind : PartKind A) (bytes : List ℕ) (names : Names_data) (parts : List (Option A)) (at : ℕ) → is_this_word kind.word (next_lexeme bytes at).sign ≡ false
+    → GoesOn kind bytes at names parts (good (row_of names parts at))
 stops kind bytes names parts at e = Stops at names parts (word_isnt kind.word (next_lexeme bytes at).sign e)
 
 -- ---- the reader
 
 -- a part that was read stands among the others, and the text goes on behind it
-pub added : {A : Type 0} (kind : PartKind A) (i : IsKind kind) (P : A → Type 0) (bytes : List ℕ) (at : ℕ) (names new : Names_data) (parts : List (Option A)) (part : A) (next : ℕ) → AreGood names → AreHeld kind.role_of P names.roles parts
-    → NextTokenIs bytes at (plain kind.word) → twice_of names parts (second_of bytes at) ≡ None → kind.Spells bytes at names new part next → IsSound new → new.roles ≡ names.roles → length new.labels ≤ MOST_LABELS → P part → next ≤ length bytes
-    → IsAdded kind P bytes (row_of names parts at) (row_of new (with_part kind parts part) next)
-added kind i P bytes at names new parts part next good held word once spells sound roles labels has within =
+pub added : {A : Type 0} (kind : PartKind A) (i : IsKind kind) (P : A → Type 0) (bytes : List ℕ) (at : ℕ) (names new : Names_data) (parts : List (Option A)) (part : A) (next : ℕ) → AreGood names
+    → AreHeld kind.role_of P names.roles parts
+    → NextTokenIs bytes at (plain kind.word) → twice_of names parts (second_of bytes at) ≡ None → kind.Spells bytes at names new part next → AreReadable new
+    → new.roles ≡ names.roles → P part → next ≤ length bytes
+    → IsAdded kind P bytes (row_of names parts at) (row_of new (parts_with kind parts part) next)
+added kind i P bytes at names new parts part next good held word once spells readable roles has within =
     let never = none_twice bytes names parts at once in
     record {
       back = λ row h. Adds at next names new parts part row word never spells h;
       fewer = free_less parts (kind.role_of part).0 part (slot_free bytes at names parts (kind.role_of part) (i.role bytes at names new part next spells) held.one_each never);
       within = within;
-      names = record {
-        sound = sound;
-        two = subst (λ (x : List (List ℕ)). 2 ≤ length x) (sym roles) good.two;
-        roles = subst (λ (x : List (List ℕ)). length x ≤ MOST_ROLES) (sym roles) good.roles;
-        labels = labels;
-      };
+      names = record { readable = readable; two = subst (λ (x : List (List ℕ)). 2 ≤ length x) (sym roles) good.two };
       held = record {
         one_each = set_size parts (kind.role_of part).0 (Some part) ∙ held.one_each ∙ ap length (sym roles);
         in_place = set_in_place kind.role_of parts part held.in_place;
@@ -394,30 +420,36 @@ added kind i P bytes at names new parts part next good held word once spells sou
       roles = roles;
     }
 
-pub repeats : {A : Type 0} (kind : PartKind A) (bytes : List ℕ) (at : ℕ) (names : Names_data) (parts : List (Option A)) (second : ℕ) → NextTokenIs bytes at (plain kind.word) → twice_of names parts (second_of bytes at) ≡ Some second
+pub repeats : {A : Type 0} (kind : PartKind A) (bytes : List ℕ) (at : ℕ) (names : Names_data) (parts : List (Option A)) (second : ℕ) → NextTokenIs bytes at (plain kind.word)
+    → twice_of names parts (second_of bytes at) ≡ Some second
     → GoesOn kind bytes at names parts (fault_of fault.NameTwice second)
 repeats kind bytes at names parts second word e = Repeats at second names parts word (twice_is bytes names parts at second e)
 
-pub fails : {A : Type 0} (kind : PartKind A) (bytes : List ℕ) (at : ℕ) (names : Names_data) (parts : List (Option A)) (e : TextFault) → NextTokenIs bytes at (plain kind.word) → twice_of names parts (second_of bytes at) ≡ None
+pub fails : {A : Type 0} (kind : PartKind A) (bytes : List ℕ) (at : ℕ) (names : Names_data) (parts : List (Option A)) (e : TextFault) → NextTokenIs bytes at (plain kind.word)
+    → twice_of names parts (second_of bytes at) ≡ None
     → (e.kind ≡ fault.NoMemory) ⊎ kind.Fails names bytes at e.kind e.at → (e.kind ≡ fault.NoMemory) ⊎ GoesOn kind bytes at names parts (Err e)
 fails kind bytes at names parts e word once (inl memory) = inl memory
 fails kind bytes at names parts e word once (inr h) = inr (Fails at e.at names parts e.kind word (none_twice bytes names parts at once) h)
 
-pub repeats_by : {A : Type 0} (kind : PartKind A) (bytes : List ℕ) (at : ℕ) (names : Names_data) (parts : List (Option A)) (second : ℕ) → NextTokenIs bytes at (plain kind.word) → twice_of names parts (second_of bytes at) ≡ Some second
+pub repeats_by : {A : Type 0} (kind : PartKind A) (bytes : List ℕ) (at : ℕ) (names : Names_data) (parts : List (Option A)) (second : ℕ) → NextTokenIs bytes at (plain kind.word)
+    → twice_of names parts (second_of bytes at) ≡ Some second
     → (fault.NameTwice ≡ fault.NoMemory) ⊎ GoesOn kind bytes at names parts (fault_of fault.NameTwice second)
 repeats_by kind bytes at names parts second word e = inr (repeats kind bytes at names parts second word e)
 
-pub added_by : {A : Type 0} (kind : PartKind A) (i : IsKind kind) (P : A → Type 0) (bytes : List ℕ) (at : ℕ) (names new : Names_data) (parts later : List (Option A)) (part : A) (next : ℕ) → later ≡ with_part kind parts part → AreGood names
-    → AreHeld kind.role_of P names.roles parts → NextTokenIs bytes at (plain kind.word) → twice_of names parts (second_of bytes at) ≡ None → kind.Spells bytes at names new part next → IsSound new → new.roles ≡ names.roles → length new.labels ≤ MOST_LABELS
-    → P part → next ≤ length bytes → IsAdded kind P bytes (row_of names parts at) (row_of new later next)
-added_by {A} kind i P bytes at names new parts later part next e good held word once spells sound roles labels has within =
-    subst (λ (z : List (Option A)). IsAdded kind P bytes (row_of names parts at) (row_of new z next)) (sym e) (added kind i P bytes at names new parts part next good held word once spells sound roles labels has within)
+pub added_by : {A : Type 0} (kind : PartKind A) (i : IsKind kind) (P : A → Type 0) (bytes : List ℕ) (at : ℕ) (names new : Names_data) (parts later : List (Option A)) (part : A) (next : ℕ)
+    → later ≡ parts_with kind parts part → AreGood names
+    → AreHeld kind.role_of P names.roles parts → NextTokenIs bytes at (plain kind.word) → twice_of names parts (second_of bytes at) ≡ None → kind.Spells bytes at names new part next → AreReadable new
+    → new.roles ≡ names.roles → P part → next ≤ length bytes → IsAdded kind P bytes (row_of names parts at) (row_of new later next)
+added_by {A} kind i P bytes at names new parts later part next e good held word once spells readable roles has within =
+    subst (λ (z : List (Option A)). IsAdded kind P bytes (row_of names parts at) (row_of new z next)) (sym e)
+    (added kind i P bytes at names new parts part next good held word once spells readable roles has within)
 
 pub held_by : {A : Type 0} (role_of : A → Role) (P : A → Type 0) (roles : List (List ℕ)) (parts : List (Option A)) → parts ≡ no_parts roles → AreHeld role_of P roles parts
 held_by {A} role_of P roles parts e = subst (λ (z : List (Option A)). AreHeld role_of P roles z) (sym e) (none_held role_of P roles)
 
 -- the row is done where no part begins any more
-pub done : {A : Type 0} (kind : PartKind A) (bytes : List ℕ) (at : ℕ) (names new : Names_data) (none parts : List (Option A)) (until : ℕ) → none ≡ no_parts names.roles → LeadsBack kind bytes (row_of names none at) (row_of new parts until)
-    → is_word kind.word (next_lexeme bytes until).sign ≡ false → GoesOn kind bytes at names (no_parts names.roles) (good (row_of new parts until))
+pub done : {A : Type 0} (kind : PartKind A) (bytes : List ℕ) (at : ℕ) (names new : Names_data) (none parts : List (Option A)) (until : ℕ) → none ≡ no_parts names.roles
+    → LeadsBack kind bytes (row_of names none at) (row_of new parts until)
+    → is_this_word kind.word (next_lexeme bytes until).sign ≡ false → GoesOn kind bytes at names (no_parts names.roles) (good (row_of new parts until))
 done {A} kind bytes at names new none parts until e back word =
     subst (λ (z : List (Option A)). GoesOn kind bytes at names z (good (row_of new parts until))) e (back (good (row_of new parts until)) (stops kind bytes new parts until word))

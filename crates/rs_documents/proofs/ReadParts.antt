@@ -33,27 +33,43 @@ pub front_by : (bytes : List ℕ) (names old new : Names_data) (p : Protocol_dat
 front_by bytes names old new p until next machines s e h =
     record { names = names; until = until; protocol_is = s; machines_are = subst (λ (n : Names_data). GoesOn machine_parts bytes until n (no_parts n.roles) (good (row_of new machines next))) e h }
 
-pub in_derivations : (bytes : List ℕ) (p : Protocol_data) (names old : Names_data) (machines : List (Option Machine_data)) (next : ℕ) (f : TextFault) → SpellsFront bytes p (row_of names machines next) → old ≡ names
+pub in_derivations : (bytes : List ℕ) (p : Protocol_data) (names old : Names_data) (machines : List (Option Machine_data)) (next : ℕ) (f : TextFault) → SpellsFront bytes p (row_of names machines next)
+    → old ≡ names
     → (f.kind ≡ kind.NoMemory) ⊎ GoesOn derivation_parts bytes next old (no_parts old.roles) (Err f) → Told bytes f
 in_derivations bytes p names old machines next f s e (inl memory) = inl memory
 in_derivations bytes p names old machines next f s e (inr h) =
     inr (InDerivations f.at p (row_of names machines next) s (subst (λ (n : Names_data). GoesOn derivation_parts bytes next n (no_parts n.roles) (Err f)) e h))
 
-pub parts_by : (bytes : List ℕ) (p : Protocol_data) (names old new : Names_data) (machines : List (Option Machine_data)) (derivations : List (Option Derivation_data)) (next end : ℕ) → SpellsFront bytes p (row_of names machines next) → old ≡ names
+pub parts_by : (bytes : List ℕ) (p : Protocol_data) (names old new : Names_data) (machines : List (Option Machine_data)) (derivations : List (Option Derivation_data)) (next end : ℕ)
+    → SpellsFront bytes p (row_of names machines next) → old ≡ names
     → GoesOn derivation_parts bytes next old (no_parts old.roles) (good (row_of new derivations end)) → SpellsParts bytes p (row_of names machines next) (row_of new derivations end)
 parts_by bytes p names old new machines derivations next end s e h =
     record { front_is = s; derivations_are = subst (λ (n : Names_data). GoesOn derivation_parts bytes next n (no_parts n.roles) (good (row_of new derivations end))) e h }
 
-pub behind_parts : (bytes : List ℕ) (p : Protocol_data) (names new : Names_data) (machines : List (Option Machine_data)) (derivations : List (Option Derivation_data)) (next end : ℕ) (k : TextKind) → SpellsParts bytes p (row_of names machines next) (row_of new derivations end)
+pub behind_parts : (bytes : List ℕ) (p : Protocol_data) (names new : Names_data) (machines : List (Option Machine_data)) (derivations : List (Option Derivation_data)) (next end : ℕ) (k : TextKind)
+    → SpellsParts bytes p (row_of names machines next) (row_of new derivations end)
     → fault_behind (wanted_behind next end) (next_lexeme bytes end).sign ≡ Some k → (k ≡ kind.NoMemory) ⊎ FirstFault bytes k end
 behind_parts bytes p names new machines derivations next end k s e = inr (BehindParts p (row_of names machines next) (row_of new derivations end) s e)
 
-pub whole : (bytes : List ℕ) (p : Protocol_data) (names new : Names_data) (machines : List (Option Machine_data)) (derivations : List (Option Derivation_data)) (next end : ℕ) → SpellsParts bytes p (row_of names machines next) (row_of new derivations end)
+pub whole : (bytes : List ℕ) (p : Protocol_data) (names new : Names_data) (machines : List (Option Machine_data)) (derivations : List (Option Derivation_data)) (next end : ℕ)
+    → SpellsParts bytes p (row_of names machines next) (row_of new derivations end)
     → fault_behind (wanted_behind next end) (next_lexeme bytes end).sign ≡ None → SpellsDocument bytes (record { names = new; protocol = p; machines = machines; derivations = derivations })
 whole bytes p names new machines derivations next end s e = document_is bytes p (row_of names machines next) (row_of new derivations end) s (nothing_behind _ _ e)
 
-pub ready : (p : Protocol_data) (names new : Names_data) (machines : List (Option Machine_data)) (derivations : List (Option Derivation_data)) → MachinesAreHeld names.roles machines → AreGood new → DerivationsAreHeld new.roles derivations → new.roles ≡ names.roles
-    → length p.nodes ≤ MOST_TALKS + 1 → DocumentIsReady (record { names = new; protocol = p; machines = machines; derivations = derivations })
-ready p names new machines derivations h g d roles nodes =
+pub ready : (p : Protocol_data) (names new : Names_data) (machines : List (Option Machine_data)) (derivations : List (Option Derivation_data)) → MachinesAreHeld names.roles machines → AreGood new
+    → DerivationsAreHeld new.roles derivations → new.roles ≡ names.roles
+    → length p.nodes ≤ MOST_TALKS + 1 → length new.roles ≡ p.roles → DocumentIsReady (record { names = new; protocol = p; machines = machines; derivations = derivations })
+ready p names new machines derivations h g d roles nodes each =
     let held : MachinesAreHeld new.roles machines = subst (λ (r : List (List ℕ)). MachinesAreHeld r machines) (sym roles) h in
-    record { sound = g.sound; two = g.two; roles = g.roles; labels = g.labels; one_each = held.one_each; short = held.all; in_place = held.in_place; nodes = nodes; derivations = d }
+    record {
+      sound = g.readable.sound;
+      two = g.two;
+      roles = g.readable.roles;
+      a_name_each = each;
+      labels = g.readable.labels;
+      one_each = held.one_each;
+      short = held.all;
+      in_place = held.in_place;
+      nodes = nodes;
+      derivations = d;
+    }

@@ -6,7 +6,7 @@ use Rattle.std.proofs.lemmas.List.Folds.{list_all-append}
 use Rattle.std.proofs.lemmas.Slice.Eq.{bytes_eq-Decides}
 use Rattle.std.specs.List.{All, list_all}
 use Rattle.std.specs.Str.{bytes_eq}
-use Rattle.rs_derivations.specs.Derivations.{labels_of_acts, labels_of_node, labels_of_nodes, node_of}
+use Rattle.rs_derivations.specs.Derivations.{labels_of_acts, labels_of_node, labels_of_nodes, node_of_tree}
 use Rattle.rs_derivations.specs.Lists.{with_separators}
 use Rattle.rs_derivations.specs.Numbers.{AreSmall, HasSmallNumbers}
 use Rattle.rs_derivations.specs.Spells.{SpellsDerivation}
@@ -15,15 +15,14 @@ use Rattle.rs_derive.specs.Data.{Derivation_data}
 use Rattle.rs_documents.specs.Again.{CanBeReadAgain, StandInPlaces}
 use Rattle.rs_documents.specs.Data.{Document_data}
 use Rattle.rs_documents.specs.Documents.{SpellsDocument}
-use Rattle.rs_documents.specs.Parts.{PartKind, Row, GoesOn, Stops, Repeats, Fails, Adds, with_part, machine_parts, derivation_parts, no_parts}
+use Rattle.rs_documents.specs.Parts.{PartKind, PartsRead, GoesOn, Stops, Repeats, Fails, Adds, parts_with, machine_parts, derivation_parts, no_parts}
 use Rattle.rs_documents.specs.Reading.{StandInPlace}
 use Rattle.rs_documents.proofs.CanShow.{can_show, kept}
 use Rattle.rs_documents.proofs.OneDocument.{front_few}
-use Rattle.rs_documents.proofs.PartKinds.{of_derivations, of_machines}
+use Rattle.rs_documents.proofs.PartKinds.{machine_line, of_derivations, of_machines}
 use Rattle.rs_documents.proofs.Parts.{good, keeps, keeps_few, none_there, row_of, size_of_none}
 use Rattle.rs_bodies.proofs.WrittenNames.{sound_parts}
 use Rattle.rs_machines.specs.Spells.{SpellsMachine}
-use Rattle.rs_machines.specs.Trees.{machine_signs}
 use Rattle.rs_model.specs.Data.{Names_data, Machine_data}
 use Rattle.rs_model.specs.declared.limits.TheConstants.{MOST_NUMBER}
 use Rattle.rs_text.proofs.Basics.{both, two_true}
@@ -35,7 +34,7 @@ use Rattle.rs_text.specs.Arms.{arm_signs}
 use Rattle.rs_text.specs.Lexemes.{Lexeme, is_last, signs_of}
 use Rattle.rs_text.specs.Lexing.{Lexed}
 use Rattle.rs_text.specs.Names.{names_with, differ}
-use Rattle.rs_text.specs.Signs.{Sign, plain, word_sign, rec_word, end_word, open_paren, close_paren, dot, comma}
+use Rattle.rs_text.specs.Signs.{Sign, plain, word_sign, rec_word, end_word, dot, comma, colon}
 use Rattle.rs_text.specs.Signs as signs
 use Rattle.rs_text.specs.Sound.{IsSound}
 use Rattle.rs_text.specs.Tokens.{IsNext, IsToken}
@@ -45,7 +44,10 @@ use Rattle.rs_bodies.specs.declared.dialects.Dialect.TheVariants.{Acts}
 use Rattle.rs_bodies.specs.Graph.{labels_of, labels_of_arms}
 use Rattle.rs_bodies.specs.Trees.{Body, ends, again, binds, acts, offers, Branches, one, more, body_signs, branch_signs}
 use Rattle.rs_bodies.specs.Dialects.{with_mark}
-use Rattle.rs_global.proofs.Spelt.{complete, is_sound}
+use Rattle.rs_bodies.proofs.GraphLaws.{complete, is_sound}
+use Rattle.rs_global.specs.Graph.{no_names}
+use Rattle.rs_global.specs.Kinds.{protocols}
+use Rattle.rs_global.proofs.Places.{is_kind}
 
 -- ---- tokens
 
@@ -122,18 +124,22 @@ mutual
   body_words (binds x b) h = body_words b (tail_good dot (body_signs Acts b) (tail_good (plain x) (dot ∷ body_signs Acts b) (tail_good rec_word (plain x ∷ dot ∷ body_signs Acts b) h)))
   body_words (acts p (with_mark m) l sort b) h =
       let rest : AreGood (arm_signs l sort ++ body_signs Acts b) = tail_good _ _ (tail_good (plain p) _ h) in
-      two_true (is_word l) (list_all is_word (labels_of Acts b)) (label_is_word l (head_good (word_sign l) _ (front_good (arm_signs l sort) (body_signs Acts b) rest))) (body_words b (back_good (arm_signs l sort) (body_signs Acts b) rest))
+      two_true (is_word l) (list_all is_word (labels_of Acts b)) (label_is_word l (head_good (word_sign l) _ (front_good (arm_signs l sort) (body_signs Acts b) rest)))
+      (body_words b (back_good (arm_signs l sort) (body_signs Acts b) rest))
   body_words (offers p (with_mark m) arms) h =
       let rest : AreGood (branch_signs Acts arms ++ signs.close_brace ∷ []) = tail_good _ _ (tail_good _ _ (tail_good (plain p) _ h)) in
       arms_words arms (front_good (branch_signs Acts arms) (signs.close_brace ∷ []) rest)
 
   arms_words : (arms : Branches Acts) → AreGood (branch_signs Acts arms) → AreWords (labels_of_arms Acts arms)
   arms_words (one l sort b) h =
-      two_true (is_word l) (list_all is_word (labels_of Acts b)) (label_is_word l (head_good (word_sign l) _ (front_good (arm_signs l sort) (body_signs Acts b) h))) (body_words b (back_good (arm_signs l sort) (body_signs Acts b) h))
+      two_true (is_word l) (list_all is_word (labels_of Acts b)) (label_is_word l (head_good (word_sign l) _ (front_good (arm_signs l sort) (body_signs Acts b) h)))
+      (body_words b (back_good (arm_signs l sort) (body_signs Acts b) h))
   arms_words (more l sort b arms) h =
       let rest : AreGood (body_signs Acts b ++ comma ∷ branch_signs Acts arms) = back_good (arm_signs l sort) (body_signs Acts b ++ comma ∷ branch_signs Acts arms) h in
-      two_true (is_word l) (list_all is_word (labels_of Acts b ++ labels_of_arms Acts arms)) (label_is_word l (head_good (word_sign l) _ (front_good (arm_signs l sort) (body_signs Acts b ++ comma ∷ branch_signs Acts arms) h)))
-      (words_both (labels_of Acts b) (labels_of_arms Acts arms) (body_words b (front_good (body_signs Acts b) (comma ∷ branch_signs Acts arms) rest)) (arms_words arms (tail_good comma (branch_signs Acts arms) (back_good (body_signs Acts b) (comma ∷ branch_signs Acts arms) rest))))
+      two_true (is_word l) (list_all is_word (labels_of Acts b ++ labels_of_arms Acts arms))
+      (label_is_word l (head_good (word_sign l) _ (front_good (arm_signs l sort) (body_signs Acts b ++ comma ∷ branch_signs Acts arms) h)))
+      (words_both (labels_of Acts b) (labels_of_arms Acts arms) (body_words b (front_good (body_signs Acts b) (comma ∷ branch_signs Acts arms) rest))
+      (arms_words arms (tail_good comma (branch_signs Acts arms) (back_good (body_signs Acts b) (comma ∷ branch_signs Acts arms) rest))))
 
 -- sound names stay so with further labels that are words
 sound_grown : (old : Names_data) (labels : List (List ℕ)) → IsSound old → AreWords labels → IsSound (record { roles = old.roles; labels = names_with old.labels labels })
@@ -142,13 +148,20 @@ sound_grown old labels sound words =
     (decides_sound (record { roles = old.roles; labels = names_with old.labels labels })).0
     (two_true (differ old.roles && list_all is_role_word old.roles) (differ (names_with old.labels labels) && list_all is_word (names_with old.labels labels))
     (two_true (differ old.roles) (list_all is_role_word old.roles) s.roles_differ s.roles_are_words)
-    (two_true (differ (names_with old.labels labels)) (list_all is_word (names_with old.labels labels)) (grown_differ labels old.labels s.labels_differ) (grown_all is_word labels old.labels s.labels_are_words words)))
+    (two_true (differ (names_with old.labels labels)) (list_all is_word (names_with old.labels labels)) (grown_differ labels old.labels s.labels_differ)
+    (grown_all is_word labels old.labels s.labels_are_words words)))
+
+none_sound : IsSound no_names
+none_sound = (decides_sound no_names).0 refl
 
 machine_sound : (bytes : List ℕ) (at : ℕ) (old new : Names_data) (machine : Machine_data) (until : ℕ) → SpellsMachine bytes at old new machine until → IsSound old → IsSound new
 machine_sound bytes at old new machine until s sound =
-    let t : AreGood (machine_signs s.tree) = subst AreGood s.spelt (record { all = tokens_are_good bytes s.lexemes at s.behind s.others (are_lexed bytes (s.lexemes ++ s.behind ∷ s.others) at s.tokens) }) in
-    let words : AreWords (labels_of Acts s.tree.body) = body_words s.tree.body (tail_good _ _ (tail_good (plain s.tree.role) _ (tail_good (plain (codes "machine")) _ t))) in
-    subst IsSound (sym s.names_are) (sound_grown old (labels_of Acts s.tree.body) sound words)
+    let p = s in
+    let l = machine_line bytes at old new machine until s in
+    let t : AreGood (plain (codes "machine") ∷ plain l.role ∷ colon ∷ body_signs Acts p.tree.body)
+    = subst AreGood (p.spelt ∙ l.signs) (record { all = tokens_are_good bytes p.lexemes at p.behind p.others (are_lexed bytes (p.lexemes ++ p.behind ∷ p.others) at p.tokens) }) in
+    let words : AreWords (labels_of Acts p.tree.body) = body_words p.tree.body (tail_good _ _ (tail_good (plain l.role) _ (tail_good (plain (codes "machine")) _ t))) in
+    subst IsSound (sym p.names_are) (sound_grown old (labels_of Acts p.tree.body) sound words)
 
 -- ---- derivations
 
@@ -159,26 +172,31 @@ later_words : (pending : List ActTree) → AreGood (with_separators (comma ∷ [
 later_words [] h = refl
 later_words (a ∷ pending) h =
     let rest = tail_good comma (act_signs a ++ with_separators (comma ∷ []) act_signs pending) h in
-    two_true (is_word a.label) (list_all is_word (labels_of_acts pending)) (act_word a (front_good (act_signs a) (with_separators (comma ∷ []) act_signs pending) rest)) (later_words pending (back_good (act_signs a) (with_separators (comma ∷ []) act_signs pending) rest))
+    two_true (is_word a.label) (list_all is_word (labels_of_acts pending)) (act_word a (front_good (act_signs a) (with_separators (comma ∷ []) act_signs pending) rest))
+    (later_words pending (back_good (act_signs a) (with_separators (comma ∷ []) act_signs pending) rest))
 
 acts_words : (pending : List ActTree) → AreGood (acts_signs pending) → AreWords (labels_of_acts pending)
 acts_words [] h = refl
 acts_words (a ∷ pending) h =
-    two_true (is_word a.label) (list_all is_word (labels_of_acts pending)) (act_word a (front_good (act_signs a) (with_separators (comma ∷ []) act_signs pending) h)) (later_words pending (back_good (act_signs a) (with_separators (comma ∷ []) act_signs pending) h))
+    two_true (is_word a.label) (list_all is_word (labels_of_acts pending)) (act_word a (front_good (act_signs a) (with_separators (comma ∷ []) act_signs pending) h))
+    (later_words pending (back_good (act_signs a) (with_separators (comma ∷ []) act_signs pending) h))
 
 later_small : (ns : List ℕ) → AreGood (with_separators (comma ∷ []) number_signs ns) → All (λ k. k ≤ MOST_NUMBER) ns
 later_small [] h = All-nil (λ k. k ≤ MOST_NUMBER)
 later_small (n ∷ ns) h =
     let rest = tail_good comma (signs.number n ∷ with_separators (comma ∷ []) number_signs ns) h in
-    All-cons (λ k. k ≤ MOST_NUMBER) n ns (small n (head_good (signs.number n) (with_separators (comma ∷ []) number_signs ns) rest)) (later_small ns (tail_good (signs.number n) (with_separators (comma ∷ []) number_signs ns) rest))
+    All-cons (λ k. k ≤ MOST_NUMBER) n ns (small n (head_good (signs.number n) (with_separators (comma ∷ []) number_signs ns) rest))
+    (later_small ns (tail_good (signs.number n) (with_separators (comma ∷ []) number_signs ns) rest))
 
 numbers_small : (ns : List ℕ) → AreGood (numbers_signs ns) → All (λ k. k ≤ MOST_NUMBER) ns
 numbers_small [] h = All-nil (λ k. k ≤ MOST_NUMBER)
-numbers_small (n ∷ ns) h = All-cons (λ k. k ≤ MOST_NUMBER) n ns (small n (head_good (signs.number n) (with_separators (comma ∷ []) number_signs ns) h)) (later_small ns (tail_good (signs.number n) (with_separators (comma ∷ []) number_signs ns) h))
+numbers_small (n ∷ ns) h =
+    All-cons (λ k. k ≤ MOST_NUMBER) n ns (small n (head_good (signs.number n) (with_separators (comma ∷ []) number_signs ns) h))
+    (later_small ns (tail_good (signs.number n) (with_separators (comma ∷ []) number_signs ns) h))
 
 record GoodNode (new : Names_data) (n : NodeTree) : Type 0 where
   words : AreWords (labels_of_node n)
-  numbers : HasSmallNumbers (node_of new n)
+  numbers : HasSmallNumbers (node_of_tree new n)
 
 good_node : (new : Names_data) (k : ℕ) (n : NodeTree) → AreGood (node_signs k n) → GoodNode new n
 good_node new k n h =
@@ -199,15 +217,20 @@ good_node new k n h =
 
 nodes_words : (new : Names_data) (k : ℕ) (ns : List NodeTree) → AreGood (nodes_signs k ns) → AreWords (labels_of_nodes ns)
 nodes_words new k [] h = refl
-nodes_words new k (n ∷ ns) h = words_both (labels_of_node n) (labels_of_nodes ns) (good_node new k n (front_good (node_signs k n) (nodes_signs (suc k) ns) h)).words (nodes_words new (suc k) ns (back_good (node_signs k n) (nodes_signs (suc k) ns) h))
+nodes_words new k (n ∷ ns) h =
+    words_both (labels_of_node n) (labels_of_nodes ns) (good_node new k n (front_good (node_signs k n) (nodes_signs (suc k) ns) h)).words
+    (nodes_words new (suc k) ns (back_good (node_signs k n) (nodes_signs (suc k) ns) h))
 
-nodes_small : (new : Names_data) (k : ℕ) (ns : List NodeTree) → AreGood (nodes_signs k ns) → All HasSmallNumbers (map (node_of new) ns)
+nodes_small : (new : Names_data) (k : ℕ) (ns : List NodeTree) → AreGood (nodes_signs k ns) → All HasSmallNumbers (map (node_of_tree new) ns)
 nodes_small new k [] h = All-nil HasSmallNumbers
-nodes_small new k (n ∷ ns) h = All-cons HasSmallNumbers (node_of new n) (map (node_of new) ns) (good_node new k n (front_good (node_signs k n) (nodes_signs (suc k) ns) h)).numbers (nodes_small new (suc k) ns (back_good (node_signs k n) (nodes_signs (suc k) ns) h))
+nodes_small new k (n ∷ ns) h =
+    All-cons HasSmallNumbers (node_of_tree new n) (map (node_of_tree new) ns) (good_node new k n (front_good (node_signs k n) (nodes_signs (suc k) ns) h)).numbers
+    (nodes_small new (suc k) ns (back_good (node_signs k n) (nodes_signs (suc k) ns) h))
 
 derivation_signs_good : (bytes : List ℕ) (at : ℕ) (old new : Names_data) (d : Derivation_data) (until : ℕ) (s : SpellsDerivation bytes at old new d until) → AreGood (nodes_signs 0 s.tree.nodes)
 derivation_signs_good bytes at old new d until s =
-    let t : AreGood (derivation_signs s.tree) = subst AreGood s.spelt (record { all = tokens_are_good bytes s.lexemes at s.behind s.others (are_lexed bytes (s.lexemes ++ s.behind ∷ s.others) at s.tokens) }) in
+    let t : AreGood (derivation_signs s.tree)
+    = subst AreGood s.spelt (record { all = tokens_are_good bytes s.lexemes at s.behind s.others (are_lexed bytes (s.lexemes ++ s.behind ∷ s.others) at s.tokens) }) in
     front_good (nodes_signs 0 s.tree.nodes) (signs.close_brace ∷ []) (back_good (head_signs s.tree.role s.tree.bound) (nodes_signs 0 s.tree.nodes ++ signs.close_brace ∷ []) t)
 
 derivation_sound : (bytes : List ℕ) (at : ℕ) (old new : Names_data) (d : Derivation_data) (until : ℕ) → SpellsDerivation bytes at old new d until → IsSound old → IsSound new
@@ -220,15 +243,19 @@ derivation_small bytes at old new d until s = subst AreSmall (sym s.derivation_i
 -- ---- documents
 
 keeps_sound : {A : Type 0} (kind : PartKind A) → ((bytes : List ℕ) (at : ℕ) (old new : Names_data) (part : A) (until : ℕ) → kind.Spells bytes at old new part until → IsSound old → IsSound new)
-    → (bytes : List ℕ) (at : ℕ) (names : Names_data) (parts : List (Option A)) (what : Result (Row A) TextFault) (row : Row A) → GoesOn kind bytes at names parts what → what ≡ good row → IsSound names → IsSound row.names
+    → (bytes : List ℕ) (at : ℕ) (names : Names_data) (parts : List (Option A)) (what : Result (PartsRead A) TextFault) (row : PartsRead A) → GoesOn kind bytes at names parts what → what ≡ good row
+    → IsSound names
+    → IsSound row.names
 keeps_sound {A} kind f bytes at names parts what row (Stops a n m e) is sound =
     let same : row_of names parts at ≡ row = cc in
-    subst (λ (z : Row A). IsSound z.names) same sound
+    subst (λ (z : PartsRead A). IsSound z.names) same sound
 keeps_sound kind f bytes at names parts what row (Repeats a u n m e z) is sound = absurd cc
 keeps_sound kind f bytes at names parts what row (Fails a u n m j e z r) is sound = absurd cc
-keeps_sound kind f bytes at names parts what row (Adds a next n new m part w e z s g) is sound = keeps_sound kind f bytes next new (with_part kind parts part) what row g is (f bytes at names new part next s sound)
+keeps_sound kind f bytes at names parts what row (Adds a next n new m part w e z s g) is sound =
+    keeps_sound kind f bytes next new (parts_with kind parts part) what row g is (f bytes at names new part next s sound)
 
-in_places : {A : Type 0} (kind : PartKind A) (names : List (List ℕ)) (roles : List (List ℕ)) (parts : List (Option A)) → roles ≡ names → length parts ≡ length (no_parts {A = A} names) → (StandInPlace kind.role_of (no_parts names) → StandInPlace kind.role_of parts) → StandInPlaces kind roles parts
+in_places : {A : Type 0} (kind : PartKind A) (names : List (List ℕ)) (roles : List (List ℕ)) (parts : List (Option A)) → roles ≡ names → length parts ≡ length (no_parts {A = A} names)
+    → (StandInPlace kind.role_of (no_parts names) → StandInPlace kind.role_of parts) → StandInPlaces kind roles parts
 in_places {A} kind names roles parts e size f = record { one_each = size ∙ size_of_none A names ∙ ap length (sym e); in_place = f (λ k part there. absurd (none_there names k part there)) }
 
 pub spelt_again : (bytes : List ℕ) (d : Document_data) → SpellsDocument bytes d → CanBeReadAgain d
@@ -238,13 +265,16 @@ spelt_again bytes d h =
     let back = row_of d.names d.derivations h.end in
     let k = keeps machine_parts of_machines bytes front.until front.names (no_parts front.names.roles) (good middle) middle front.machines_are refl in
     let j = keeps derivation_parts of_derivations bytes h.next h.before (no_parts h.before.roles) (good back) back h.parts.derivations_are refl in
-    let first : IsSound front.names = is_sound bytes 0 (record { names = front.names; protocol = d.protocol; until = front.until }) (omega arith) (complete bytes 0 front.names d.protocol front.until front.protocol_is) in
+    let first : IsSound front.names
+    = is_sound protocols no_names bytes 0 (record { names = front.names; graph = d.protocol; until = front.until }) refl none_sound (omega arith)
+    (complete protocols is_kind.made no_names bytes 0 front.names d.protocol front.until front.protocol_is) in
     let mid : IsSound h.before = keeps_sound machine_parts machine_sound bytes front.until front.names (no_parts front.names.roles) (good middle) middle front.machines_are refl first in
     let sound : IsSound d.names = keeps_sound derivation_parts derivation_sound bytes h.next h.before (no_parts h.before.roles) (good back) back h.parts.derivations_are refl mid in
     record {
       shown = can_show bytes d h sound;
-      few = keeps_few derivation_parts of_derivations bytes h.next h.before (no_parts h.before.roles) (good back) back (front_few bytes d.protocol middle front) h.parts.derivations_are refl;
+      bounded = keeps_few derivation_parts of_derivations bytes h.next h.before (no_parts h.before.roles) (good back) back (front_few bytes d.protocol middle front) h.parts.derivations_are refl;
       machines = in_places machine_parts front.names.roles d.names.roles d.machines (j.roles ∙ k.roles) k.size k.in_place;
       derivations = in_places derivation_parts h.before.roles d.names.roles d.derivations j.roles j.size j.in_place;
-      small = kept derivation_parts of_derivations (λ names x. AreSmall x) (λ old new g x s. s) derivation_small bytes h.next h.before (no_parts h.before.roles) (good back) back h.parts.derivations_are refl (λ n x e. absurd (none_there h.before.roles n x e));
+      small = kept derivation_parts of_derivations (λ names x. AreSmall x) (λ old new g x s. s) derivation_small bytes h.next h.before (no_parts h.before.roles)
+          (good back) back h.parts.derivations_are refl (λ n x e. absurd (none_there h.before.roles n x e));
     }

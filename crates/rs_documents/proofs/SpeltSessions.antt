@@ -1,5 +1,5 @@
 -- What a document that a text spells gives to its session: two to sixteen roles, and each part in its role's place.
-use Rattle.std.proofs.Common.{◌≡◌, ℕ, ◌≤◌, List, length, refl, sym, ap, subst, ◌∙◌, arith}
+use Rattle.std.proofs.Common.{◌≡◌, ℕ, ◌≤◌, List, length, refl, sym, ap, subst, ◌∙◌}
 use Rattle.rs_derive.specs.Data.{Derivation_data}
 use Rattle.rs_documents.specs.Data.{Document_data}
 use Rattle.rs_documents.specs.Documents.{SpellsDocument}
@@ -9,7 +9,7 @@ use Rattle.rs_documents.proofs.CanShow.{showable}
 use Rattle.rs_documents.proofs.PartKinds.{of_machines, of_derivations}
 use Rattle.rs_documents.proofs.Parts.{good, keeps, none_there, row_of, size_of_none}
 use Rattle.rs_global.specs.Spells.{SpellsProtocol}
-use Rattle.rs_global.specs.Trees.{roles_of}
+use Rattle.rs_global.proofs.Canonical.{spelt_roles}
 use Rattle.rs_model.specs.Data.{Names_data, Protocol_data}
 use Rattle.rs_model.specs.declared.limits.TheConstants.{MOST_ROLES}
 
@@ -17,7 +17,7 @@ use Rattle.rs_model.specs.declared.limits.TheConstants.{MOST_ROLES}
 -- derivation, which is its own
 pub record IsSpeltSession (d : Document_data) : Type 0 where
   pub two : 2 ≤ length d.names.roles
-  pub few : length d.names.roles ≤ MOST_ROLES
+  pub bounded : length d.names.roles ≤ MOST_ROLES
   pub roles : length d.names.roles ≡ d.protocol.roles
   pub one_each : length d.machines ≡ length d.names.roles
   pub in_place : AreInPlace d.machines
@@ -26,9 +26,7 @@ pub record IsSpeltSession (d : Document_data) : Type 0 where
 
 -- a protocol that a text spells has two roles or more
 pub two_roles : (bytes : List ℕ) (at : ℕ) (names : Names_data) (protocol : Protocol_data) (until : ℕ) → SpellsProtocol bytes at names protocol until → 2 ≤ length names.roles
-two_roles bytes at names protocol until s =
-    let e : length names.roles ≡ length (roles_of s.tree) = ap (λ (z : Names_data). length z.roles) s.names_are in
-    omega (arith, e)
+two_roles bytes at names protocol until s = (spelt_roles bytes at names protocol until s).two
 
 pub spelt_session : (bytes : List ℕ) (d : Document_data) → SpellsDocument bytes d → IsSpeltSession d
 spelt_session bytes d h =
@@ -42,7 +40,7 @@ spelt_session bytes d h =
     let s = showable bytes d h in
     record {
       two = subst (λ (z : List (List ℕ)). 2 ≤ length z) (sym same) two;
-      few = s.few;
+      bounded = s.bounded;
       roles = s.roles;
       one_each = k.size ∙ size_of_none _ front.names.roles ∙ ap length (sym same);
       in_place = k.in_place (λ n m e. absurd (none_there front.names.roles n m e));

@@ -5,10 +5,8 @@ use Rattle.rs_derivations.specs.Canonical.{tree_of}
 use Rattle.rs_derivations.specs.Derivations.{labels_of_nodes}
 use Rattle.rs_derivations.specs.Numbers.{AreSmall}
 use Rattle.rs_derive.specs.Data.{DNode_data, Derivation_data}
-use Rattle.rs_global.specs.Graph as of_protocols
 use Rattle.rs_bodies.specs.Graph as graphs
 use Rattle.rs_bodies.specs.declared.dialects.Dialect.TheVariants.{Talks, Acts}
-use Rattle.rs_machines.specs.Machines as of_machines
 use Rattle.rs_model.specs.Data.{Names_data, Protocol_data, Machine_data}
 use Rattle.rs_model.specs.declared.graph.Arm.{Arm}
 use Rattle.rs_model.specs.declared.graph.Label.{Label}
@@ -33,7 +31,7 @@ pub record StandInPlaces {A : Type 0} (kind : PartKind A) (roles : List (List �
 -- what can be shown, with at most 256 labels, its parts in their places and no number above 4,294,967,295
 pub record CanBeReadAgain (d : Document_data) : Type 0 where
   pub shown : CanBeShown d
-  pub few : length d.names.labels ≤ MOST_LABELS
+  pub bounded : length d.names.labels ≤ MOST_LABELS
   pub machines : StandInPlaces machine_parts d.names.roles d.machines
   pub derivations : StandInPlaces derivation_parts d.names.roles d.derivations
   pub small : (k : ℕ) (derivation : Derivation_data) → slice_get d.derivations k ≡ Some (Some derivation) → AreSmall derivation
@@ -44,12 +42,12 @@ labels_of_lines names [] text lines = []
 labels_of_lines names (None ∷ machines) text lines = labels_of_lines names machines text lines
 labels_of_lines names (Some machine ∷ machines) text lines = graphs.labels_of Acts lines.2.tree.body ++ labels_of_lines names machines lines.1 lines.3
 
--- .. of the derivations' lines
+-- the labels of a derivation's lines
 abbrev pub labels_of_own : Names_data → Option Derivation_data → List (List ℕ)
 labels_of_own names None = []
 labels_of_own names (Some derivation) = labels_of_nodes (tree_of names derivation).nodes
 
--- .. and of the whole text, each once, in order of first places
+-- the labels of the whole text, each once, in order of first places
 abbrev pub labels_of_text : (d : Document_data) (text : List ℕ) → IsCanonicalDocument d text → List (List ℕ)
 labels_of_text d text canonical =
     names_with [] (graphs.labels_of Talks canonical.protocol.tree.body ++ (labels_of_lines d.names d.machines canonical.back canonical.machines ++ flat_map (labels_of_own d.names) d.derivations))
@@ -81,11 +79,11 @@ abbrev pub act_by : (ℕ → ℕ) → Act → Act
 act_by number (act.Puts peer label sort) = act.Puts peer (label_by number label) sort
 act_by number (act.Takes peer label sort) = act.Takes peer (label_by number label) sort
 
--- .. of a node of a derivation
+-- a node of a derivation, with other numbers for labels
 abbrev pub node_by : (ℕ → ℕ) → DNode_data → DNode_data
 node_by number n = record { state = n.state; pending = map (act_by number) n.pending; above = n.above; rank = n.rank; next = n.next }
 
--- .. of a derivation
+-- a derivation, with other numbers for labels
 abbrev pub derivation_by : (ℕ → ℕ) → Derivation_data → Derivation_data
 derivation_by number derivation = record { role = derivation.role; bound = derivation.bound; nodes = map (node_by number) derivation.nodes }
 
@@ -109,7 +107,7 @@ pub record HasLabel (protocol : Protocol_data) (k : ℕ) : Type 0 where
   pub place : ℕ
   pub arm : Arm
   pub stands : slice_get arms place ≡ Some arm
-  pub is : arm.label.0 ≡ k
+  pub number : arm.label.0 ≡ k
 
 -- every label that has a name stands in the protocol
 abbrev pub HasAllLabels : Names_data → Protocol_data → Type 0

@@ -5,7 +5,7 @@ use Rattle.rs_derivations.specs.Canonical.{canonical_text}
 use Rattle.rs_derivations.specs.Printable.{IsPrintable}
 use Rattle.rs_derive.specs.Data.{Derivation_data}
 use Rattle.rs_model.specs.Data.{Names_data, Machine_data}
-use Rattle.rs_global.specs.Canonical.{IsCanonicalText, IsTextShaped}
+use Rattle.rs_global.specs.Canonical.{IsCanonicalProtocolText, IsTextShaped}
 use Rattle.rs_global.specs.Enough.{AreEnough}
 use Rattle.rs_machines.specs.Canonical.{IsCanonicalMachineText, IsMachineTextShaped}
 use Rattle.rs_machines.specs.Enough.{AreEnoughFor}
@@ -24,7 +24,7 @@ abbrev pub own_text : Names_data → Option Derivation_data → List ℕ
 own_text names None = []
 own_text names (Some derivation) = canonical_text names derivation
 
--- .. of all that are there, in role order
+-- the texts of all derivations that are there, in role order
 abbrev pub derivations_text : Names_data → List (Option Derivation_data) → List ℕ
 derivations_text names derivations = flat_map (own_text names) derivations
 
@@ -32,16 +32,16 @@ derivations_text names derivations = flat_map (own_text names) derivations
 pub record IsCanonicalDocument (d : Document_data) (text : List ℕ) : Type 0 where
   pub front : List ℕ
   pub back : List ℕ
-  pub protocol : IsCanonicalText d.names d.protocol front
+  pub protocol : IsCanonicalProtocolText d.names d.protocol front
   pub machines : AreCanonicalMachines d.names d.machines back
-  pub is : text ≡ front ++ (back ++ derivations_text d.names d.derivations)
+  pub whole : text ≡ front ++ (back ++ derivations_text d.names d.derivations)
 
 -- the machine, where it is there, can be printed by these names
 abbrev pub CanBePrinted : Names_data → Option Machine_data → Type 0
 CanBePrinted names None = Unit {0}
 CanBePrinted names (Some machine) = IsMachineTextShaped machine × AreEnoughFor names machine
 
--- .. so can all of them
+-- all machines can be printed
 abbrev pub AreShown : Names_data → List (Option Machine_data) → Type 0
 AreShown names [] = Unit {0}
 AreShown names (own ∷ machines) = CanBePrinted names own × AreShown names machines
@@ -62,7 +62,7 @@ pub record CanBeShown (d : Document_data) : Type 0 where
 abbrev pub IsMachineBehind : Names_data → Machine_data → List ℕ → List ℕ → Type 0
 IsMachineBehind names machine old new = (line : List ℕ) × IsCanonicalMachineText names machine line × (new ≡ old ++ line)
 
--- .. where there is one, else nothing was written
+-- a machine's line stands behind, where there is one, else nothing was written
 abbrev pub IsLineBehind : Names_data → Option Machine_data → List ℕ → List ℕ → Type 0
 IsLineBehind names None old new = new ≡ old
 IsLineBehind names (Some machine) old new = IsMachineBehind names machine old new

@@ -1,7 +1,7 @@
 -- Believed: what a text spells as a document, and its first fault.
 use Rattle.std.specs.Prelude.{◌≡◌, ℕ, List, Option, Some, None, Ok, Err, ◌==◌, if◌then◌else◌}
 use Rattle.rs_documents.specs.Data.{Document_data}
-use Rattle.rs_documents.specs.Parts.{NextTokenIs, no_parts, Row, GoesOn, machine_parts, derivation_parts}
+use Rattle.rs_documents.specs.Parts.{NextTokenIs, no_parts, PartsRead, GoesOn, machine_parts, derivation_parts}
 use Rattle.rs_derive.specs.Data.{Derivation_data}
 use Rattle.rs_global.specs.Faults as of_protocols
 use Rattle.rs_global.specs.Spells.{SpellsProtocol}
@@ -15,14 +15,14 @@ use Rattle.rs_text.specs.declared.faults.Wanted.{Wanted}
 use Rattle.rs_text.specs.declared.faults.Wanted.TheVariants as wanted
 
 -- a protocol stands at the begin of the bytes, and behind it all machines
-pub record SpellsFront (bytes : List ℕ) (protocol : Protocol_data) (front : Row Machine_data) : Type 0 where
+pub record SpellsFront (bytes : List ℕ) (protocol : Protocol_data) (front : PartsRead Machine_data) : Type 0 where
   pub names : Names_data
   pub until : ℕ
   pub protocol_is : SpellsProtocol bytes 0 names protocol until
   pub machines_are : GoesOn machine_parts bytes until names (no_parts names.roles) (Ok front)
 
--- .. and behind them all derivations
-pub record SpellsParts (bytes : List ℕ) (protocol : Protocol_data) (front : Row Machine_data) (back : Row Derivation_data) : Type 0 where
+-- the derivations stand behind the protocol and all machines
+pub record SpellsParts (bytes : List ℕ) (protocol : Protocol_data) (front : PartsRead Machine_data) (back : PartsRead Derivation_data) : Type 0 where
   pub front_is : SpellsFront bytes protocol front
   pub derivations_are : GoesOn derivation_parts bytes front.until front.names (no_parts front.names.roles) (Ok back)
 
@@ -52,8 +52,8 @@ pub data FirstFault (bytes : List ℕ) (kind : TextKind) : (at : ℕ) → Type 0
   InMachines : (at : ℕ) (names : Names_data) (protocol : Protocol_data) (until : ℕ) → SpellsProtocol bytes 0 names protocol until
       → GoesOn machine_parts bytes until names (no_parts names.roles) (Err (record { kind = kind; at = at })) → FirstFault bytes kind at
   -- it lies in the derivations behind the machines
-  InDerivations : (at : ℕ) (protocol : Protocol_data) (front : Row Machine_data) → SpellsFront bytes protocol front
+  InDerivations : (at : ℕ) (protocol : Protocol_data) (front : PartsRead Machine_data) → SpellsFront bytes protocol front
       → GoesOn derivation_parts bytes front.until front.names (no_parts front.names.roles) (Err (record { kind = kind; at = at })) → FirstFault bytes kind at
   -- something stands behind all parts
-  BehindParts : (protocol : Protocol_data) (front : Row Machine_data) (back : Row Derivation_data) → SpellsParts bytes protocol front back
+  BehindParts : (protocol : Protocol_data) (front : PartsRead Machine_data) (back : PartsRead Derivation_data) → SpellsParts bytes protocol front back
       → fault_behind (wanted_behind front.until back.until) (next_lexeme bytes back.until).sign ≡ Some kind → FirstFault bytes kind back.until

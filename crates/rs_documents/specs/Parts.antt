@@ -49,8 +49,8 @@ abbrev pub no_parts : {A : Type 0} → List (List ℕ) → List (Option A)
 no_parts roles = map (λ (name : List ℕ). None) roles
 
 -- the parts so far, with one more in its role's place
-abbrev pub with_part : {A : Type 0} → PartKind A → List (Option A) → A → List (Option A)
-with_part kind parts part = slice_set parts (kind.role_of part).0 (Some part)
+abbrev pub parts_with : {A : Type 0} → PartKind A → List (Option A) → A → List (Option A)
+parts_with kind parts part = slice_set parts (kind.role_of part).0 (Some part)
 
 -- the second token of what begins at the offset is a role that has a part already; it stands at `second`
 pub record IsTwice {A : Type 0} (bytes : List ℕ) (names : Names_data) (parts : List (Option A)) (at second : ℕ) : Type 0 where
@@ -63,13 +63,13 @@ pub record IsTwice {A : Type 0} (bytes : List ℕ) (names : Names_data) (parts :
   pub stands : second ≡ (next_lexeme bytes (next_lexeme bytes at).until).from
 
 -- what has come of parts: the names, for each role in order its part, and the offset behind them all
-pub record Row (A : Type 0) : Type 0 where
+pub record PartsRead (A : Type 0) : Type 0 where
   pub names : Names_data
   pub parts : List (Option A)
   pub until : ℕ
 
 -- what comes of the parts that stand behind the offset, with the names and the parts so far
-pub data GoesOn {A : Type 0} (kind : PartKind A) (bytes : List ℕ) : (at : ℕ) → Names_data → List (Option A) → Result (Row A) TextFault → Type 0 where
+pub data GoesOn {A : Type 0} (kind : PartKind A) (bytes : List ℕ) : (at : ℕ) → Names_data → List (Option A) → Result (PartsRead A) TextFault → Type 0 where
   -- no part stands there any more
   Stops : (at : ℕ) (names : Names_data) (parts : List (Option A)) → (NextTokenIs bytes at (plain kind.word) → ⊥)
       → GoesOn kind bytes at names parts (Ok (record { names = names; parts = parts; until = at }))
@@ -81,6 +81,6 @@ pub data GoesOn {A : Type 0} (kind : PartKind A) (bytes : List ℕ) : (at : ℕ)
       → ((second : ℕ) → IsTwice bytes names parts at second → ⊥) → kind.Fails names bytes at k offset
       → GoesOn kind bytes at names parts (Err (record { kind = k; at = offset }))
   -- a part, and what stands behind it
-  Adds : (at next : ℕ) (names new : Names_data) (parts : List (Option A)) (part : A) (row : Result (Row A) TextFault) → NextTokenIs bytes at (plain kind.word)
+  Adds : (at next : ℕ) (names new : Names_data) (parts : List (Option A)) (part : A) (row : Result (PartsRead A) TextFault) → NextTokenIs bytes at (plain kind.word)
       → ((second : ℕ) → IsTwice bytes names parts at second → ⊥) → kind.Spells bytes at names new part next
-      → GoesOn kind bytes next new (with_part kind parts part) row → GoesOn kind bytes at names parts row
+      → GoesOn kind bytes next new (parts_with kind parts part) row → GoesOn kind bytes at names parts row

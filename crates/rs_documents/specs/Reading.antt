@@ -3,7 +3,7 @@ use Rattle.std.specs.Prelude.{◌+◌, ◌≡◌, ℕ, ◌<◌, ◌≤◌, suc, 
 use Rattle.std.specs.Str.{bytes_eq}
 use Rattle.rs_derive.specs.Data.{Derivation_data}
 use Rattle.rs_documents.specs.Data.{Document_data}
-use Rattle.rs_documents.specs.Parts.{PartKind, Row, GoesOn}
+use Rattle.rs_documents.specs.Parts.{PartKind, PartsRead, GoesOn}
 use Rattle.rs_model.specs.Data.{Names_data, Machine_data}
 use Rattle.rs_model.specs.declared.graph.Role.{Role}
 use Rattle.rs_model.specs.declared.limits.TheConstants.{MOST_ACTS, MOST_BOUND, MOST_CANDIDATES, MOST_LABELS, MOST_ROLES, MOST_TALKS}
@@ -11,13 +11,13 @@ use Rattle.rs_text.specs.Lexemes.{Lexeme}
 use Rattle.rs_text.specs.Names.{place_of}
 use Rattle.rs_text.specs.Seen.{plain_text}
 use Rattle.rs_text.specs.Signs.{Sign, plain}
-use Rattle.rs_text.specs.Sound.{IsSound}
+use Rattle.rs_text.specs.Sound.{AreReadable, IsSound}
 use Rattle.rs_text.specs.declared.faults.TextFault.{TextFault}
 
 -- the token is this word
-abbrev pub is_word : List ℕ → Sign → Bool
-is_word word (plain text) = bytes_eq text word
-is_word word _ = false
+abbrev pub is_this_word : List ℕ → Sign → Bool
+is_this_word word (plain text) = bytes_eq text word
+is_this_word word _ = false
 
 -- whether the role at the place has a part
 abbrev pub is_held : {A : Type 0} → Option (Option A) → Bool
@@ -30,7 +30,7 @@ abbrev pub place_named : Option (List ℕ) → List (List ℕ) → Option ℕ
 place_named None roles = None
 place_named (Some name) roles = place_of name roles
 
--- .. among these names
+-- the role that a token names, among these names
 abbrev pub role_at : Names_data → Lexeme → Option ℕ
 role_at names l = place_named (plain_text l.sign) names.roles
 
@@ -39,7 +39,7 @@ abbrev pub twice_by : {A : Type 0} → Option ℕ → List (Option A) → ℕ �
 twice_by None parts from = None
 twice_by (Some place) parts from = if is_held (slice_get parts place) then Some from else None
 
--- .. where it is a role that has a part
+-- the fault of a token that is a role that has a part
 abbrev pub twice_of : {A : Type 0} → Names_data → List (Option A) → Lexeme → Option ℕ
 twice_of names parts l = twice_by (role_at names l) parts l.from
 
@@ -55,7 +55,7 @@ StandInPlace {A} role_of parts = (k : ℕ) (part : A) → slice_get parts k ≡ 
 abbrev pub IsShort : Machine_data → Type 0
 IsShort machine = length machine.states ≤ MOST_ACTS + 1
 
--- .. of all machines that are there
+-- all machines that are there are short
 abbrev pub AreShort : List (Option Machine_data) → Type 0
 AreShort machines = AllHave IsShort machines
 
@@ -66,14 +66,12 @@ AreInPlace machines = StandInPlace (λ (machine : Machine_data). machine.role) m
 -- a derivation's bound is from 1 to 64, and it has at most 65,536 nodes
 pub record IsBounded (derivation : Derivation_data) : Type 0 where
   pub bound : (1 ≤ derivation.bound) × (derivation.bound ≤ MOST_BOUND)
-  pub few : length derivation.nodes ≤ MOST_CANDIDATES
+  pub bounded : length derivation.nodes ≤ MOST_CANDIDATES
 
 -- names as they are while a document is read
 pub record AreGood (names : Names_data) : Type 0 where
-  pub sound : IsSound names
+  pub readable : AreReadable names
   pub two : 2 ≤ length names.roles
-  pub roles : length names.roles ≤ MOST_ROLES
-  pub labels : length names.labels ≤ MOST_LABELS
 
 -- parts as they are while they are read: one place a role, each in its role's place, and all have a property
 pub record AreHeld {A : Type 0} (role_of : A → Role) (P : A → Type 0) (roles : List (List ℕ)) (parts : List (Option A)) : Type 0 where
@@ -81,11 +79,11 @@ pub record AreHeld {A : Type 0} (role_of : A → Role) (P : A → Type 0) (roles
   pub in_place : StandInPlace role_of parts
   pub all : AllHave P parts
 
--- .. machines, none of them too long
+-- the roles have these machines, none of them too long
 abbrev pub MachinesAreHeld : List (List ℕ) → List (Option Machine_data) → Type 0
 MachinesAreHeld roles machines = AreHeld (λ (machine : Machine_data). machine.role) IsShort roles machines
 
--- .. derivations, each within the limits of a text
+-- the roles have these derivations, each within the limits of a text
 abbrev pub DerivationsAreHeld : List (List ℕ) → List (Option Derivation_data) → Type 0
 DerivationsAreHeld roles derivations = AreHeld (λ (derivation : Derivation_data). derivation.role) IsBounded roles derivations
 
@@ -94,6 +92,7 @@ pub record DocumentIsReady (d : Document_data) : Type 0 where
   pub sound : IsSound d.names
   pub two : 2 ≤ length d.names.roles
   pub roles : length d.names.roles ≤ MOST_ROLES
+  pub a_name_each : length d.names.roles ≡ d.protocol.roles
   pub labels : length d.names.labels ≤ MOST_LABELS
   pub one_each : length d.machines ≡ length d.names.roles
   pub short : AreShort d.machines
@@ -108,11 +107,11 @@ free_in (None ∷ parts) = suc (free_in parts)
 free_in (Some part ∷ parts) = free_in parts
 
 -- what comes of the text from the new offset on comes of it from the old one on
-abbrev pub LeadsBack : {A : Type 0} → PartKind A → List ℕ → (old : Row A) → (new : Row A) → Type 0
-LeadsBack {A} kind bytes old new = (row : Result (Row A) TextFault) → GoesOn kind bytes new.until new.names new.parts row → GoesOn kind bytes old.until old.names old.parts row
+abbrev pub LeadsBack : {A : Type 0} → PartKind A → List ℕ → (old : PartsRead A) → (new : PartsRead A) → Type 0
+LeadsBack {A} kind bytes old new = (row : Result (PartsRead A) TextFault) → GoesOn kind bytes new.until new.names new.parts row → GoesOn kind bytes old.until old.names old.parts row
 
 -- one part more, and the text goes on behind it
-pub record IsAdded {A : Type 0} (kind : PartKind A) (P : A → Type 0) (bytes : List ℕ) (old new : Row A) : Type 0 where
+pub record IsAdded {A : Type 0} (kind : PartKind A) (P : A → Type 0) (bytes : List ℕ) (old new : PartsRead A) : Type 0 where
   pub back : LeadsBack kind bytes old new
   pub fewer : free_in new.parts < free_in old.parts
   pub within : new.until ≤ length bytes

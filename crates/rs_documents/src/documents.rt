@@ -1,7 +1,7 @@
 //! Documents: a protocol, and machines and derivations for some of its roles.
 
 ghost use Rattle.rs_documents.specs.Documents.{FirstFault, SpellsDocument, fault_behind, wanted_behind};
-ghost use Rattle.rs_documents.specs.Parts.{GoesOn, Row, NextTokenIs, derivation_parts, machine_parts, no_parts, with_part};
+ghost use Rattle.rs_documents.specs.Parts.{GoesOn, PartsRead, NextTokenIs, derivation_parts, machine_parts, no_parts, parts_with};
 ghost use Rattle.rs_documents.specs.Reading as spec;
 ghost use Rattle.rs_documents.specs.Reading.{AreGood, DerivationsAreHeld, IsAdded, IsBounded, DocumentIsReady, IsShort, MachinesAreHeld, role_at};
 ghost use Rattle.rs_text.specs.Lexing.{next_lexeme};
@@ -38,7 +38,7 @@ impl Model for Document {
 
 /// Whether the token is this word, which is neither `rec` nor `end`.
 fn is_word(token: &TextToken, word: &[u8]) -> bool
-    ensures { result ≡ spec.is_word word.now token.now.sign }
+    ensures { result ≡ spec.is_this_word word.now token.now.sign }
 {
     match token.plain() {
         Some(text) => text == word,
@@ -49,7 +49,7 @@ fn is_word(token: &TextToken, word: &[u8]) -> bool
 /// Whether a part that begins with the word stands at the offset.
 fn begins_with(bytes: &[u8], at: usize, word: &[u8]) -> bool
     requires { at ≤ length bytes.now }
-    ensures { result ≡ spec.is_word word.now (next_lexeme bytes.now at).sign }
+    ensures { result ≡ spec.is_this_word word.now (next_lexeme bytes.now at).sign }
 {
     is_word(&next_token(bytes, at), word)
 }
@@ -127,7 +127,8 @@ fn add_machine(
     requires names { AreGood names.old }
     requires held { MachinesAreHeld names.old.roles machines.old.items }
     requires machine { NextTokenIs bytes.now at (plain (codes "machine")) }
-    ensures ok { IfOk result (λ next. IsAdded machine_parts IsShort bytes.now (record { names = names.old; parts = machines.old.items; until = at }) (record { names = names.new; parts = machines.new.items; until = next })) }
+    ensures ok { IfOk result (λ next. IsAdded machine_parts IsShort bytes.now (record { names = names.old; parts = machines.old.items; until = at })
+        (record { names = names.new; parts = machines.new.items; until = next })) }
     ensures err { IfErr result (λ e. (e.kind ≡ kind.NoMemory) ⊎ GoesOn machine_parts bytes.now at names.old machines.old.items (Err e)) }
     ensures place { IfErr result (λ e. e.at ≤ length bytes.now) }
 {
@@ -158,7 +159,8 @@ fn add_derivation(
     requires names { AreGood names.old }
     requires held { DerivationsAreHeld names.old.roles derivations.old.items }
     requires derivation { NextTokenIs bytes.now at (plain (codes "derivation")) }
-    ensures ok { IfOk result (λ next. IsAdded derivation_parts IsBounded bytes.now (record { names = names.old; parts = derivations.old.items; until = at }) (record { names = names.new; parts = derivations.new.items; until = next })) }
+    ensures ok { IfOk result (λ next. IsAdded derivation_parts IsBounded bytes.now (record { names = names.old; parts = derivations.old.items; until = at })
+        (record { names = names.new; parts = derivations.new.items; until = next })) }
     ensures err { IfErr result (λ e. (e.kind ≡ kind.NoMemory) ⊎ GoesOn derivation_parts bytes.now at names.old derivations.old.items (Err e)) }
     ensures place { IfErr result (λ e. e.at ≤ length bytes.now) }
 {

@@ -14,62 +14,63 @@ pub fn text_spells_one_document()
     ensures { (bytes : List ℕ) (d e : Document_data) → SpellsDocument bytes d → SpellsDocument bytes e → d ≡ e }
 {}
 
-/// It has one first fault at most ..
+/// It has one first fault at most.
 pub fn text_has_one_first_fault()
     ensures { (bytes : List ℕ) (kind other : TextKind) (at place : ℕ) → FirstFault bytes kind at → FirstFault bytes other place → (kind ≡ other) × (at ≡ place) }
 {}
 
-/// .. it spells a document or has a first fault ..
+/// A text spells a document or has a first fault.
 pub fn text_is_spelt_or_has_a_fault()
     ensures { (bytes : List ℕ) → ((d : Document_data) × SpellsDocument bytes d) ⊎ ((kind : TextKind) × (at : ℕ) × FirstFault bytes kind at) }
 {}
 
-/// .. and not both.
+/// A text that spells a document has no first fault.
 pub fn spelt_text_has_no_fault()
     ensures { (bytes : List ℕ) (d : Document_data) (kind : TextKind) (at : ℕ) → SpellsDocument bytes d → FirstFault bytes kind at → ⊥ }
 {}
 
-/// What a text spells as a document it spells as a protocol and machines, which is said without derivations ..
+/// What a text spells as a document it spells as a protocol and machines, which is said without derivations.
 pub fn document_has_the_machines_of_its_text()
     ensures { (bytes : List ℕ) (d : Document_data) → SpellsDocument bytes d → SpellsMachines bytes d.protocol d.machines }
 {}
 
-/// .. and it spells one protocol and one list of machines at most.
+/// A text spells one protocol and one list of machines at most.
 pub fn text_spells_one_list_of_machines()
-    ensures { (bytes : List ℕ) (protocol other : Protocol_data) (machines others : List (Option Machine_data)) → SpellsMachines bytes protocol machines → SpellsMachines bytes other others → (protocol ≡ other) × (machines ≡ others) }
+    ensures { (bytes : List ℕ) (protocol other : Protocol_data) (machines others : List (Option Machine_data)) → SpellsMachines bytes protocol machines → SpellsMachines bytes other others
+        → (protocol ≡ other) × (machines ≡ others) }
 {}
 
-/// What can be shown has a canonical text ..
+/// What can be shown has a canonical text.
 pub fn canonical_text_is_there()
     ensures { (d : Document_data) → CanBeShown d → (text : List ℕ) × IsCanonicalDocument d text }
 {}
 
-/// .. and one only.
+/// What can be shown has one canonical text only.
 pub fn canonical_text_is_one()
     ensures { (d : Document_data) (text other : List ℕ) → CanBeShown d → IsCanonicalDocument d text → IsCanonicalDocument d other → text ≡ other }
 {}
 
-/// A document that a text spells can be read again from its canonical text ..
+/// A document that a text spells can be read again from its canonical text.
 pub fn spelt_documents_can_be_read_again()
     ensures { (bytes : List ℕ) (d : Document_data) → SpellsDocument bytes d → CanBeReadAgain d }
 {}
 
-/// .. for of what can be read again, that text spells the document, with its labels in the order of their first places ..
+/// The canonical text of what can be read again spells the document, with its labels in the order of their first places.
 pub fn canonical_text_is_read_again()
     ensures { (d : Document_data) (text : List ℕ) → CanBeReadAgain d → (canonical : IsCanonicalDocument d text) → SpellsDocument text (document_by_labels d (labels_of_text d text canonical)) }
 {}
 
-/// .. and what it spells has this same canonical text.
+/// What the canonical text spells has this same canonical text.
 pub fn canonical_text_is_printed_as_itself()
     ensures { (d e : Document_data) (text : List ℕ) → CanBeReadAgain d → IsCanonicalDocument d text → SpellsDocument text e → IsCanonicalDocument e text }
 {}
 
-/// Where the labels of the document stand in that order already, its canonical text spells just this document ..
+/// Where the labels of the document stand in that order already, its canonical text spells just this document.
 pub fn labels_in_order_keep_their_numbers()
     ensures { (d : Document_data) (text : List ℕ) → CanBeReadAgain d → (canonical : IsCanonicalDocument d text) → d.names.labels ≡ labels_of_text d text canonical → SpellsDocument text d }
 {}
 
-/// .. as where machines and derivations have no labels but the protocol's.
+/// Where machines and derivations have no labels but the protocol's, the canonical text spells just this document.
 pub fn labels_of_the_protocol_keep_their_numbers()
     ensures { (d : Document_data) (text : List ℕ) → CanBeReadAgain d → HasAllLabels d.names d.protocol → IsCanonicalDocument d text → SpellsDocument text d }
 {}

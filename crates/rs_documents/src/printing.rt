@@ -76,7 +76,7 @@ fn push_own_derivation(
     own: &Option<Derivation>,
 ) -> Result<(), NoMemory>
     requires sound { IsSound names.now }
-    requires few { length names.now.roles ≤ MOST_ROLES }
+    requires bounded { length names.now.roles ≤ MOST_ROLES }
     requires printable { IfSome own.now (λ derivation. IsPrintable names.now derivation) }
     ensures { OnOk result (text.new ≡ text.old ++ own_text names.now own.now) }
 {
@@ -97,7 +97,7 @@ fn push_derivations(
     derivations: &[Option<Derivation>],
 ) -> Result<(), NoMemory>
     requires sound { IsSound names.now }
-    requires few { length names.now.roles ≤ MOST_ROLES }
+    requires bounded { length names.now.roles ≤ MOST_ROLES }
     requires printable { ArePrintable names.now derivations.now }
     ensures { OnOk result (text.new ≡ text.old ++ derivations_text names.now derivations.now) }
 {

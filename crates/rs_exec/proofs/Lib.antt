@@ -1,9 +1,6 @@
-pub mod Buffering
-pub mod Ends
 pub mod NeverFull
 pub mod Played
 pub mod PlayedOn
 pub mod Together
-pub mod MembersTurns
-pub mod MembersRounds
-pub mod Closing
+pub mod Handed
+pub mod Spent

@@ -12,7 +12,7 @@ use Rattle.rs_core.specs.Plain.{offer_of}
 use Rattle.rs_rings.specs.Passes.{Rings_data}
 use Rattle.rs_rings.specs.Views.{start_of}
 use Rattle.rs_session.specs.Data.{Stage_data}
-use Rattle.rs_session.specs.Stages.{first_stage, sight_of_stage, state_at}
+use Rattle.rs_session.specs.Stages.{first_stage, sight_of_stage, state_of_stage}
 use Rattle.rs_exec.specs.Data.{Task_data}
 use Rattle.rs_exec.specs.Tasks.{PlaysStage, PlaysTask, TaskReceives, TaskSends, TaskTurnTells, WaitsToReceive, WaitsToSend}
 use Rattle.rs_exec.specs.declared.tasks.Turn.{Turn}
@@ -20,7 +20,8 @@ use Rattle.rs_exec.specs.declared.tasks.Turn.TheVariants as turn
 use Rattle.rs_exec.specs.declared.tasks.Why.TheVariants as why
 
 module _ {A : Type 0} (b : Behaviour A) where
-  pub plays_more : (m : Machine_data) (s : ℕ) (x : A) (h : History) (t : ℕ) (y : A) (a : Action) (u : ℕ) (z : A) → PlaysFrom b m s x h t y → PlaysAction b m t y a u z → PlaysFrom b m s x (h ++ a ∷ []) u z
+  pub plays_more : (m : Machine_data) (s : ℕ) (x : A) (h : History) (t : ℕ) (y : A) (a : Action) (u : ℕ) (z : A) → PlaysFrom b m s x h t y → PlaysAction b m t y a u z
+      → PlaysFrom b m s x (h ++ a ∷ []) u z
   plays_more m s x [] t y a u z so act = (u, z, subst (λ (k : ℕ × A). PlaysAction b m k.0 k.1 a u z) (λ i. (sym so.0 i, sym so.1 i)) act, (refl, refl))
   plays_more m s x (c ∷ h) t y a u z so act = (so.0, so.1, so.2, plays_more m so.0 so.1 h t y a u z so.3 act)
 
@@ -29,7 +30,8 @@ module _ {A : Type 0} (b : Behaviour A) where
     pub chooses : b.chooses mid arms ≡ choice
     pub asked : b.asked mid arms ≡ z
 
-  pub chose : (m : Machine_data) (s : ℕ) (mid : A) (kept : Option Choice) (y : A) (peer : Role) (arms : List Arm) (choice : Choice) (z : A) → KeepsChoice b m s mid kept y → slice_get m.states s ≡ Some (Puts peer arms) → offer_of b y kept arms ≡ (choice, z) → Chose mid arms choice z
+  pub chose : (m : Machine_data) (s : ℕ) (mid : A) (kept : Option Choice) (y : A) (peer : Role) (arms : List Arm) (choice : Choice) (z : A) → KeepsChoice b m s mid kept y
+      → slice_get m.states s ≡ Some (Puts peer arms) → offer_of b y kept arms ≡ (choice, z) → Chose mid arms choice z
   chose m s mid None y peer arms choice z keeps puts is = record {
     chooses = ap (λ (k : A). b.chooses k arms) keeps ∙ ap (λ (k : Choice × A). k.0) is;
     asked = ap (λ (k : A). b.asked k arms) keeps ∙ ap (λ (k : Choice × A). k.1) is;
@@ -47,12 +49,13 @@ module _ {A : Type 0} (b : Behaviour A) where
     pub same : mid ≡ y
     pub none : kept ≡ None
 
-  pub keeps_none : (m : Machine_data) (s : ℕ) (mid : A) (kept : Option Choice) (y : A) (peer : Role) (arms : List Arm) → KeepsChoice b m s mid kept y → slice_get m.states s ≡ Some (Takes peer arms) → KeepsNone mid kept y
+  pub keeps_none : (m : Machine_data) (s : ℕ) (mid : A) (kept : Option Choice) (y : A) (peer : Role) (arms : List Arm) → KeepsChoice b m s mid kept y → slice_get m.states s ≡ Some (Takes peer arms)
+      → KeepsNone mid kept y
   keeps_none m s mid None y peer arms keeps takes = record { same = keeps; none = refl }
   keeps_none m s mid (Some o) y peer arms keeps takes = let both : Some (Puts keeps.0 keeps.1) ≡ Some (Takes peer arms) = sym keeps.2 ∙ takes in absurd (cc (both))
 
   module _ (session : Rings_data) (x : A) where
-    in_machine : (at : Stage_data) (m : Machine_data) (s : State) → slice_get session.machines at.role.0 ≡ Some m → state_at session at ≡ Some s → slice_get m.states at.part.state ≡ Some s
+    in_machine : (at : Stage_data) (m : Machine_data) (s : State) → slice_get session.machines at.role.0 ≡ Some m → state_of_stage session at ≡ Some s → slice_get m.states at.part.state ≡ Some s
     in_machine at m s runs stands = ap (λ (o : Option Machine_data). state_of o at.part.state) (sym runs) ∙ stands
 
     moved : (old now : Stage_data) (kept kept' : Option Choice) (y y' : A) → old ≡ now → kept ≡ kept' → y ≡ y' → PlaysStage session b x old kept y → PlaysStage session b x now kept' y'
@@ -124,7 +127,8 @@ module _ {A : Type 0} (b : Behaviour A) where
     by_empty peer seen old new waits so =
         let at = waits.at in
         let was : PlaysStage session b x at old.kept old.actor = moved (sight_of_stage old.stage) at old.kept old.kept old.actor old.actor (ap sight_of_stage waits.stands) refl refl so in
-        subst (λ (k : Stage_data × Option Choice × A). PlaysStage session b x k.0 k.1 k.2) (λ i. (sym (ap sight_of_stage waits.stays ∙ waits.empty.empty.becomes) i, sym waits.kept i, sym waits.actor i))
+        subst (λ (k : Stage_data × Option Choice × A). PlaysStage session b x k.0 k.1 k.2)
+        (λ i. (sym (ap sight_of_stage waits.stays ∙ waits.empty.empty.becomes) i, sym waits.kept i, sym waits.actor i))
         record { machine = was.machine; actor = was.actor; runs = was.runs; plays = was.plays; keeps = was.keeps }
 
     same_task : (old new : Task_data A) → new ≡ old → PlaysTask session b x old → PlaysTask session b x new
@@ -138,7 +142,8 @@ module _ {A : Type 0} (b : Behaviour A) where
     plays_on old new turn.AtLimit ne tells so = same_task old new tells.0.same so
     plays_on old new turn.NoMemory ne tells so = absurd (ne refl)
 
-  pub plays_nothing : (session : Rings_data) (r : ℕ) (machine : Machine_data) (task : Task_data A) → slice_get session.machines r ≡ Some machine → sight_of_stage task.stage ≡ first_stage session r → task.kept ≡ None → PlaysTask session b task.actor task
+  pub plays_nothing : (session : Rings_data) (r : ℕ) (machine : Machine_data) (task : Task_data A) → slice_get session.machines r ≡ Some machine → sight_of_stage task.stage ≡ first_stage session r
+      → task.kept ≡ None → PlaysTask session b task.actor task
   plays_nothing session r machine task runs first kept =
       subst (λ (k : Stage_data × Option Choice). PlaysStage session b task.actor k.0 k.1 task.actor) (λ i. (sym first i, sym kept i)) record {
         machine = machine;

@@ -1,19 +1,17 @@
 -- What is known of all roles, as a session of queues in lists, and what an act makes of it.
-use Rattle.std.proofs.Common.{◌≡◌, ◌≢◌, ◌⊎◌, inl, inr, ℕ, zero, suc, ◌+◌, ◌-◌, ◌<◌, ◌≤◌, List, [], ◌∷◌, ◌++◌, length, map, drop, slice_index_or, slice_get, Some, refl, sym, ap, ◌∙◌, subst, arith, length-append}
+use Rattle.std.proofs.Common.{◌≡◌, ◌≢◌, ◌⊎◌, inl, inr, ℕ, zero, suc, ◌-◌, ◌<◌, ◌≤◌, List, [], ◌∷◌, ◌++◌, length, map, drop, slice_index_or, slice_get, Some, refl, sym, ap, ◌∙◌, subst, arith}
+use Rattle.std.proofs.Common.{length-append}
 use Rattle.std.proofs.lemmas.Bool.{cases_lt}
 use Rattle.std.proofs.lemmas.Bool.Decides.{eqb_tells}
 use Rattle.std.proofs.lemmas.List.{drop-append-le, drop_all, length-drop, length-map, map-append}
 use Rattle.rs_model.specs.Data.{Machine_data}
 use Rattle.rs_model.specs.Sorts.{HasSort}
 use Rattle.rs_model.specs.declared.graph.Arm.{Arm}
-use Rattle.rs_model.specs.declared.graph.Role.{Role}
-use Rattle.rs_model.specs.declared.machines.State.{State}
 use Rattle.rs_model.specs.declared.machines.State.TheVariants.{Puts, Takes}
 use Rattle.rs_model.specs.declared.values.Value.{Value}
 use Rattle.rs_core.specs.declared.messages.Message.{Message}
 use Rattle.rs_core.specs.Configurations.{Configuration, Sends, Receives, StartsAt, state_at, state_of}
-use Rattle.rs_core.specs.Core.{Core_data, configuration_of}
-use Rattle.rs_core.specs.Histories.{History}
+use Rattle.rs_core.specs.Core.{configuration_of}
 use Rattle.rs_slots.specs.declared.parcels.Parcel.{Parcel}
 use Rattle.rs_rings.specs.Acts.{message_of, role_of_number, sent_act, got_act, parcel_sent, parcel_got, parcels_sent, parcels_got}
 use Rattle.rs_rings.specs.Passes.{IsChanged}
@@ -22,7 +20,7 @@ use Rattle.rs_rings.specs.declared.views.Part.{Part}
 use Rattle.rs_rings.specs.declared.views.View.{View}
 use Rattle.rs_rings.proofs.Legal.{last_none, sent_here, sent_other, got_here, got_other}
 use Rattle.rs_rings.proofs.Seats.{first_part_is}
-use Rattle.rs_exec.specs.Members.{first_values, core_of}
+use Rattle.rs_exec.specs.Hands.{first_values, core_of}
 
 pub listed_at : {X : Type 0} (n : ℕ) (f : ℕ → X) (k : ℕ) (d : X) → k < n → slice_index_or (first_values n f) k d ≡ f k
 listed_at zero f k d low = absurd (omega arith)
@@ -51,7 +49,8 @@ module _ (ms : List Machine_data) where
   row_of v p = first_values (length ms) (λ q. map message_of (parcels_under_way v p q))
 
   pub queue_is : (v : View) (p q : ℕ) → p < length ms → q < length ms → (shown_in v).queue p q ≡ map message_of (parcels_under_way v p q)
-  queue_is v p q low other = ap (λ (row : List (List Message)). slice_index_or row q []) (listed_at (length ms) (row_of v) p [] low) ∙ listed_at (length ms) (λ y. map message_of (parcels_under_way v p y)) q [] other
+  queue_is v p q low other = ap (λ (row : List (List Message)). slice_index_or row q []) (listed_at (length ms) (row_of v) p [] low)
+      ∙ listed_at (length ms) (λ y. map message_of (parcels_under_way v p y)) q [] other
 
   row_past : (v : View) (p q : ℕ) → length ms ≤ p → (shown_in v).queue p q ≡ []
   row_past v p q high = ap (λ (row : List (List Message)). slice_index_or row q []) (listed_past (length ms) (row_of v) p [] high)
@@ -59,7 +58,8 @@ module _ (ms : List Machine_data) where
   queue_past : (v : View) (p q : ℕ) → (length ms ≤ p) ⊎ (length ms ≤ q) → (shown_in v).queue p q ≡ []
   queue_past v p q (inl high) = row_past v p q high
   queue_past v p q (inr high) = elim (cases_lt p (length ms)) [
-    | inl low ↦ ap (λ (row : List (List Message)). slice_index_or row q []) (listed_at (length ms) (row_of v) p [] low) ∙ listed_past (length ms) (λ y. map message_of (parcels_under_way v p y)) q [] high
+    | inl low ↦ ap (λ (row : List (List Message)). slice_index_or row q []) (listed_at (length ms) (row_of v) p [] low)
+        ∙ listed_past (length ms) (λ y. map message_of (parcels_under_way v p y)) q [] high
     | inr past ↦ row_past v p q past
   ]
 
@@ -108,7 +108,8 @@ pub record HasPutIn (v w : View) (p q : ℕ) (x : Parcel) : Type 0 where
   pub history : history_in w p ≡ history_in v p ++ sent_act q x ∷ []
   pub others : (r : ℕ) → r ≢ p → part_of w r ≡ part_of v r
 
-pub left_sent : (v w : View) (p q : ℕ) (x : Parcel) → HasPutIn v w p q x → p ≢ q → length (parcels_got p (history_in v q)) ≤ length (parcels_sent q (history_in v p)) → parcels_under_way w p q ≡ parcels_under_way v p q ++ x ∷ []
+pub left_sent : (v w : View) (p q : ℕ) (x : Parcel) → HasPutIn v w p q x → p ≢ q → length (parcels_got p (history_in v q)) ≤ length (parcels_sent q (history_in v p))
+    → parcels_under_way w p q ≡ parcels_under_way v p q ++ x ∷ []
 left_sent v w p q x put apart le =
     let g : history_in w q ≡ history_in v q = ap (λ (z : Part). z.history) (put.others q (λ e. apart (sym e))) in
     let s : parcels_sent q (history_in w p) ≡ parcels_sent q (history_in v p) ++ x ∷ [] = ap (parcels_sent q) put.history ∙ sent_here q x (history_in v p) in
@@ -121,7 +122,8 @@ left_beside v w p q x put a b or =
       | inr t ↦ ap (λ (z : Part). parcels_sent b z.history) (put.others a t.1)
     ] in
     let g : parcels_got a (history_in w b) ≡ parcels_got a (history_in v b) = elim (eqb_tells b p) [
-      | inl t ↦ subst (λ (z : ℕ). parcels_got a (history_in w z) ≡ parcels_got a (history_in v z)) (sym t.1) (ap (parcels_got a) put.history ∙ last_none (parcel_got a) (history_in v p) (sent_act q x) refl)
+      | inl t ↦ subst (λ (z : ℕ). parcels_got a (history_in w z) ≡ parcels_got a (history_in v z)) (sym t.1)
+          (ap (parcels_got a) put.history ∙ last_none (parcel_got a) (history_in v p) (sent_act q x) refl)
       | inr t ↦ ap (λ (z : Part). parcels_got a z.history) (put.others b t.1)
     ] in
     λ i. drop (length (g i)) (s i)
@@ -135,7 +137,8 @@ pub record HasTakenIn (v w : View) (q p : ℕ) (x : Parcel) : Type 0 where
   pub history : history_in w q ≡ history_in v q ++ got_act p x ∷ []
   pub others : (r : ℕ) → r ≢ q → part_of w r ≡ part_of v r
 
-pub left_got : (v w : View) (q p : ℕ) (x : Parcel) → HasTakenIn v w q p x → q ≢ p → parcels_under_way v p q ≡ x ∷ drop (suc (length (parcels_got p (history_in v q)))) (parcels_sent q (history_in v p)) → parcels_under_way v p q ≡ x ∷ parcels_under_way w p q
+pub left_got : (v w : View) (q p : ℕ) (x : Parcel) → HasTakenIn v w q p x → q ≢ p → parcels_under_way v p q ≡ x ∷ drop (suc (length (parcels_got p (history_in v q)))) (parcels_sent q (history_in v p))
+    → parcels_under_way v p q ≡ x ∷ parcels_under_way w p q
 left_got v w q p x take apart oldest =
     let s : parcels_sent q (history_in v p) ≡ parcels_sent q (history_in w p) = ap (λ (z : Part). parcels_sent q z.history) (sym (take.others p (λ e. apart (sym e)))) in
     let g : parcels_got p (history_in w q) ≡ parcels_got p (history_in v q) ++ x ∷ [] = ap (parcels_got p) take.history ∙ got_here p x (history_in v q) in
@@ -145,7 +148,8 @@ left_got v w q p x take apart oldest =
 pub left_aside : (v w : View) (q p : ℕ) (x : Parcel) → HasTakenIn v w q p x → (a b : ℕ) → (a ≢ p) ⊎ (b ≢ q) → parcels_under_way w a b ≡ parcels_under_way v a b
 left_aside v w q p x take a b or =
     let s : parcels_sent b (history_in w a) ≡ parcels_sent b (history_in v a) = elim (eqb_tells a q) [
-      | inl t ↦ subst (λ (z : ℕ). parcels_sent b (history_in w z) ≡ parcels_sent b (history_in v z)) (sym t.1) (ap (parcels_sent b) take.history ∙ last_none (parcel_sent b) (history_in v q) (got_act p x) refl)
+      | inl t ↦ subst (λ (z : ℕ). parcels_sent b (history_in w z) ≡ parcels_sent b (history_in v z)) (sym t.1)
+          (ap (parcels_sent b) take.history ∙ last_none (parcel_sent b) (history_in v q) (got_act p x) refl)
       | inr t ↦ ap (λ (z : Part). parcels_sent b z.history) (take.others a t.1)
     ] in
     let g : parcels_got a (history_in w b) ≡ parcels_got a (history_in v b) = elim (eqb_tells b q) [
@@ -160,7 +164,8 @@ left_aside v w q p x take a b or =
 
 module _ (ms : List Machine_data) (v w : View) (p q : ℕ) (low : p < length ms) (other : q < length ms) (apart : p ≢ q) where
   -- a send, over queues in lists
-  abbrev pub sends_in : (place : ℕ) (value : Value) (arms : List Arm) (arm : Arm) → state_of (slice_get ms p) (state_in v p) ≡ Some (Puts (role_of_number q) arms) → slice_get arms place ≡ Some arm → HasSort value arm.sort
+  abbrev pub sends_in : (place : ℕ) (value : Value) (arms : List Arm) (arm : Arm) → state_of (slice_get ms p) (state_in v p) ≡ Some (Puts (role_of_number q) arms) → slice_get arms place ≡ Some arm
+      → HasSort value arm.sort
       → state_in w p ≡ arm.next → HasPutIn v w p q (record { label = arm.label; value = value }) → length (parcels_got p (history_in v q)) ≤ length (parcels_sent q (history_in v p))
       → Sends ms (shown_in ms v) p place value (shown_in ms w)
   sends_in place value arms arm stands picks has goes put le = let x : Parcel = record { label = arm.label; value = value } in record {
@@ -171,13 +176,15 @@ module _ (ms : List Machine_data) (v w : View) (p q : ℕ) (low : p < length ms)
     picks = picks;
     has_sort = has;
     goes = at_is ms w p low ∙ goes;
-    appends = queue_is ms w p q low other ∙ ap (λ (l : List Parcel). map message_of l) (left_sent v w p q x put apart le) ∙ snoc_map (parcels_under_way v p q) x ∙ ap (λ (l : List Message). l ++ message_of x ∷ []) (sym (queue_is ms v p q low other));
+    appends = queue_is ms w p q low other ∙ ap (λ (l : List Parcel). map message_of l) (left_sent v w p q x put apart le) ∙ snoc_map (parcels_under_way v p q) x
+        ∙ ap (λ (l : List Message). l ++ message_of x ∷ []) (sym (queue_is ms v p q low other));
     other_states = λ r ne. other_at ms v w r (put.others r ne);
     other_queues = λ a b or. other_queue ms v w a b (left_beside v w p q x put a b or);
   }
 
   -- a receive: q gets x from p
-  abbrev pub receives_in : (place : ℕ) (x : Parcel) (arms : List Arm) (arm : Arm) → state_of (slice_get ms q) (state_in v q) ≡ Some (Takes (role_of_number p) arms) → slice_get arms place ≡ Some arm → arm.label ≡ x.label → HasSort x.value arm.sort
+  abbrev pub receives_in : (place : ℕ) (x : Parcel) (arms : List Arm) (arm : Arm) → state_of (slice_get ms q) (state_in v q) ≡ Some (Takes (role_of_number p) arms) → slice_get arms place ≡ Some arm
+      → arm.label ≡ x.label → HasSort x.value arm.sort
       → state_in w q ≡ arm.next → HasTakenIn v w q p x → parcels_under_way v p q ≡ x ∷ drop (suc (length (parcels_got p (history_in v q)))) (parcels_sent q (history_in v p))
       → Receives ms (shown_in ms v) q (shown_in ms w)
   receives_in place x arms arm stands picks label has goes take oldest = record {
@@ -187,7 +194,8 @@ module _ (ms : List Machine_data) (v w : View) (p q : ℕ) (low : p < length ms)
     arm = arm;
     message = message_of x;
     takes = state_is ms v q other ∙ stands;
-    removes = queue_is ms v p q low other ∙ ap (λ (l : List Parcel). map message_of l) (left_got v w q p x take (λ e. apart (sym e)) oldest) ∙ ap (λ (l : List Message). message_of x ∷ l) (sym (queue_is ms w p q low other));
+    removes = queue_is ms v p q low other ∙ ap (λ (l : List Parcel). map message_of l) (left_got v w q p x take (λ e. apart (sym e)) oldest)
+        ∙ ap (λ (l : List Message). message_of x ∷ l) (sym (queue_is ms w p q low other));
     follows = picks;
     same_label = label;
     has_sort = has;

@@ -1,8 +1,6 @@
-pub mod Inline
 pub mod Data
 pub mod Tasks
-pub mod Players
+pub mod TurnTakers
 pub mod Polling
 pub mod Runs
-pub mod Members
-pub mod Rounds
+pub mod Hands

@@ -14,7 +14,7 @@ use Rattle.rs_rings.specs.Views.{history_in}
 
 -- role r has made as many acts as the limit, and hasn't ended
 pub record IsStoppedAt (machines : List Machine_data) (limit : ℕ) (history : ℕ → History) (end : Configuration) (r : ℕ) : Type 0 where
-  pub there : r < length machines
+  pub present : r < length machines
   pub acts : length (history r) ≡ limit
   pub goes_on : state_at machines end r ≢ Some Done
 
@@ -37,6 +37,6 @@ pub record IsSessionOfRun {A : Type 0} (machines : List Machine_data) (b : Behav
   pub same_machines : closed.machines ≡ machines
   pub end : Configuration
   pub legal : IsLegal machines (history_in closed.last) end
-  pub few : (r : ℕ) → r < length machines → length (history_in closed.last r) ≤ limit
+  pub bounded : (r : ℕ) → r < length machines → length (history_in closed.last r) ≤ limit
   pub played : HavePlayed machines b (history_in closed.last) actors left
   pub comes_to : IsOutcomeOf machines limit (history_in closed.last) end ending

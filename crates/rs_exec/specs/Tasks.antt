@@ -48,7 +48,7 @@ pub record Gets {A : Type 0} (session : Rings_data) (old new : Task_data A) : Ty
   pub kept : new.kept ≡ old.kept
   pub transcript : new.transcript ≡ old.transcript ++ entry.Got got.by.peer got.by.arm.label value ∷ []
 
--- .. and the actor is told
+-- a value is got, and the actor is told
 pub record TaskReceives {A : Type 0} (session : Rings_data) (b : Behaviour A) (old new : Task_data A) : Type 0 where
   pub gets : Gets session old new
   pub told : b.told old.actor gets.got.by.arms gets.place gets.value ≡ new.actor
@@ -105,7 +105,7 @@ pub record TaskGoesOn {A : Type 0} (old new : Task_data A) : Type 0 where
   pub below : length old.transcript < old.limit
   pub limit : new.limit ≡ old.limit
   pub was : old.failed ≡ false
-  pub is : new.failed ≡ false
+  pub unfailed : new.failed ≡ false
 
 -- a turn that changes nothing
 pub record TaskStays {A : Type 0} (old new : Task_data A) : Type 0 where

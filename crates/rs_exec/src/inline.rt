@@ -3,52 +3,24 @@
 ghost use Rattle.std.specs.Prelude.{◌≡◌, ◌≤◌, length, IfErr, IfOk, ℕ, Some};
 ghost use Rattle.rs_model.specs.Limits.{IsCapacity};
 ghost use Rattle.rs_core.specs.Plain.{Ending, IsPlain};
-ghost use Rattle.rs_core.specs.Runs.{IsGiven, EndingShows};
-ghost use Rattle.rs_exec.specs.Inline.{RunFaultTells};
+ghost use Rattle.rs_core.specs.Runs.{EndingShows, FaultTells, IsGiven};
 ghost use Rattle.rs_exec.specs.Runs.{IsSessionOfRun};
-ghost use Rattle.rs_exec.specs.declared.inline.ExecFault.TheVariants as fault;
+ghost use Rattle.rs_core.specs.declared.runs.RunFault.TheVariants as fault;
 ghost use Rattle.rs_safety.specs.Room.{room_of};
 
+use crate::hands::Hand;
 use crate::running::run_over;
 use crate::runs::Ran;
-use rs_core::Actor;
-use rs_model::{NoMemory, Role};
+use rs_core::{Actor, RunFault};
 use rs_safety::Accepted;
-use rs_session::Session;
 use std::alloc::Global;
-
-/// Why a run has no outcome.
-#[derive(Clone, Copy, Debug, PartialEq, Eq)]
-pub enum ExecFault {
-    /// In a whole round no role moved, and not all had ended. The first role in order that found its ring full is the
-    /// sender; it has sent so many messages to the receiver, which has taken so many of them, and the difference is the
-    /// capacity.
-    Full {
-        sender: Role,
-        receiver: Role,
-        sent: u64,
-        taken: u64,
-    },
-    /// Memory that was asked for was refused.
-    NoMemory,
-}
-
-impl From<NoMemory> for ExecFault {
-    ghost use Rattle.rs_exec.specs.declared.inline.ExecFault.TheVariants as fault;
-
-    ghost from_gives = { λ _ e. e ≡ fault.NoMemory };
-
-    fn from(_refused: NoMemory) -> Self {
-        ExecFault::NoMemory
-    }
-}
 
 /// Runs a session of the accepted machines on this thread, round by round, over rings of that capacity, until all have ended,
 /// or one has made `limit` acts and hasn't ended. The session is then closed or given up.
 ///
 /// There is one actor for each role. The outcome, the transcripts and the actors are those of the plain run with this
 /// capacity, and what the roles did in the session is what the actors played. The errors are that no role moved in a round, as
-/// [`ExecFault::Full`] tells it, and that memory was refused. At a capacity of at least the room of the session memory is the
+/// [`RunFault::Full`] tells it, and that memory was refused. At a capacity of at least the room of the session memory is the
 /// one error.
 pub fn run_inline<A: Actor>(
     alloc: Global,
@@ -56,14 +28,15 @@ pub fn run_inline<A: Actor>(
     actors: Vec<A>,
     capacity: u16,
     limit: u32,
-) -> Result<Ran<A>, ExecFault>
+) -> Result<Ran<A>, RunFault>
     requires actors { length actors.items ≡ length accepted.now.machines }
     requires capacity { IsCapacity capacity }
-    ensures plain { IfOk result (λ r. (given : ℕ → A) → IsGiven given actors.items → (o : Ending A) × IsPlain accepted.now.machines A.behaviour given limit (Some capacity) o × EndingShows (length accepted.now.machines) o r.run.outcome r.run.actors.items) }
+    ensures plain { IfOk result (λ r. (given : ℕ → A) → IsGiven given actors.items
+        → (o : Ending A) × IsPlain accepted.now.machines A.behaviour given limit (Some capacity) o × EndingShows (length accepted.now.machines) o r.run.outcome r.run.actors.items) }
     ensures closed { IfOk result (λ r. IsSessionOfRun accepted.now.machines A.behaviour actors.items limit r.closed r.run.outcome r.run.actors.items) }
-    ensures full { IfErr result (λ e. (given : ℕ → A) → IsGiven given actors.items → RunFaultTells accepted.now.machines A.behaviour given limit capacity e) }
+    ensures full { IfErr result (λ e. (given : ℕ → A) → IsGiven given actors.items → FaultTells accepted.now.machines A.behaviour given limit capacity e) }
     ensures enough { room_of accepted.now.derivations ≤ capacity → IfErr result (λ e. e ≡ fault.NoMemory) }
 {
-    let (session, all) = Session::begin_together(alloc, accepted, capacity)?;
-    run_over(alloc, session, all, actors, limit)
+    let hand = Hand::begin(alloc, accepted, capacity)?;
+    run_over(alloc, hand, actors, limit)
 }

@@ -2,7 +2,7 @@
 ghost use Rattle.std.specs.Prelude.{◌≡◌};
 ghost use Rattle.futures.specs.Poll.{IfReady, OnPending};
 ghost use Rattle.futures.specs.Task.{Covers, Keeps};
-ghost use Rattle.rs_exec.specs.Polling.{HasStopped, PollTells};
+ghost use Rattle.rs_exec.specs.Polling.{HasStopped, IsPolled};
 ghost use Rattle.rs_exec.specs.Tasks.{IsTaskOf, TaskTurnTells};
 ghost use Rattle.rs_exec.specs.declared.tasks.Turn.{Turn};
 
@@ -113,10 +113,8 @@ impl<A: Actor, N: SessionName> Future for RoleFuture<'_, A, N> {
 
     fn poll(&mut self, cx: &mut Context<'_>) -> Poll<Turn>
         requires named { self.old.session.now ≡ N.session }
-        ensures of { IsTaskOf self.new.session.now self.new.task.now }
-        ensures tells { PollTells self.old.session.now A.behaviour self.old.task.now self.new.task.now result }
-        ensures session { self.new.session.now ≡ self.old.session.now }
-        ensures same_reference { self.new.task.ghost_name ≡ self.old.task.ghost_name }
+        ensures polled { IsPolled self.old.session.now A.behaviour self.old.task.now self.new.task.now result }
+        ensures lent { (self.new.session.now ≡ self.old.session.now) × (self.new.task.ghost_name ≡ self.old.task.ghost_name) }
         ensures value { IfReady result HasStopped }
         ensures again { OnPending result (self.new.session.now ≡ N.session) }
         ensures same { OnPending result ((turn : Turn) → HasStopped turn → HasStopped turn) }

@@ -2,9 +2,9 @@
 ghost use Rattle.std.specs.Prelude.{◌≡◌, ◌≢◌, ◌≤◌, ◌<◌, ◌++◌, ◌∷◌, [], false, IfErr, IfOk, None, OnErr, OnOk, Some, length, slice_get, vec_capacity};
 ghost use Rattle.rs_core.specs.Histories.{transcript_of};
 ghost use Rattle.rs_core.specs.Plain.{offer_of};
-ghost use Rattle.rs_exec.specs.Players.{IsInTime, task_of};
+ghost use Rattle.rs_exec.specs.TurnTakers.{IsInTime, task_with};
 ghost use Rattle.rs_exec.specs.Tasks.{IsTaskOf, TaskTurnTells};
-ghost use Rattle.rs_session.specs.Stages.{IsReceiving, IsSending, sight_of_stage, state_at};
+ghost use Rattle.rs_session.specs.Stages.{IsReceiving, IsSending, sight_of_stage, state_of_stage};
 ghost use Rattle.rs_session.specs.declared.stages.Stage.TheVariants as kind;
 ghost use Rattle.rs_model.specs.declared.machines.State.TheVariants.{Puts, Takes};
 
@@ -40,7 +40,7 @@ pub enum Turn {
 
 /// What takes a task's turns: its actor, the choice that it keeps, and what it has done.
 #[derive(Drop)]
-pub(crate) struct Player<A: Drop> {
+pub(crate) struct TurnTaker<A: Drop> {
     pub(crate) actor: A,
     pub(crate) limit: u32,
     pub(crate) kept: Option<(u16, Value)>,
@@ -53,18 +53,18 @@ pub(crate) struct Player<A: Drop> {
 /// What plays it lies in a box, so that a task is moved fast.
 pub struct RoleTask<A: Drop> {
     stage: Option<Stage>,
-    player: Box<Player<A>>,
+    player: Box<TurnTaker<A>>,
 }
 
 impl<A: Drop> Model for RoleTask<A> {
     ghost use Rattle.rs_exec.specs.Data.{Task_data};
-    ghost use Rattle.rs_exec.specs.Players.{PlayerIsWhole, stage_in, task_of};
+    ghost use Rattle.rs_exec.specs.TurnTakers.{TaskIsWhole, stage_in, task_with};
 
     ghost Value = { Task_data A };
 
-    ghost view = { λ t. task_of (stage_in t.stage) t.player.value };
+    ghost view = { λ t. task_with (stage_in t.stage) t.player.value };
 
-    ghost invariant = { λ t. PlayerIsWhole t.stage t.player.value };
+    ghost invariant = { λ t. TaskIsWhole t.stage t.player.value };
 }
 
 impl<A: Actor> RoleTask<A> {
@@ -81,7 +81,7 @@ impl<A: Actor> RoleTask<A> {
     {
         match Vec::with_capacity(alloc, limit as usize) {
             Ok(entries) => {
-                let player = Player {
+                let player = TurnTaker {
                     actor,
                     limit,
                     kept: None,
@@ -156,14 +156,14 @@ fn put_back(place: &mut Option<Stage>, stage: Stage)
     }
 }
 
-impl<A: Actor> Player<A> {
+impl<A: Actor> TurnTaker<A> {
     fn turn(&mut self, alloc: Global, session: &Session, stage: Stage) -> (Stage, Turn)
-        requires of { IsTaskOf session.now (task_of stage self.old) }
+        requires of { IsTaskOf session.now (task_with stage self.old) }
         requires in_time { IsInTime stage self.old }
         requires well { self.old.failed ≡ false }
-        ensures of { IsTaskOf session.now (task_of result.0 self.new) }
+        ensures of { IsTaskOf session.now (task_with result.0 self.new) }
         ensures in_time { IsInTime result.0 self.new }
-        ensures tells { TaskTurnTells session.now A.behaviour (task_of stage self.old) (task_of result.0 self.new) result.1 }
+        ensures tells { TaskTurnTells session.now A.behaviour (task_with stage self.old) (task_with result.0 self.new) result.1 }
     {
         match stage {
             Stage::Ended(stage) => (Stage::Ended(stage), Turn::Ended),
@@ -183,13 +183,13 @@ impl<A: Actor> Player<A> {
     }
 
     fn send(&mut self, alloc: Global, session: &Session, stage: Sending) -> (Stage, Turn)
-        requires of { IsTaskOf session.now (task_of (kind.Sending stage) self.old) }
+        requires of { IsTaskOf session.now (task_with (kind.Sending stage) self.old) }
         requires in_time { IsInTime (kind.Sending stage) self.old }
         requires well { self.old.failed ≡ false }
         requires below { length self.old.entries.items < self.old.limit }
-        ensures of { IsTaskOf session.now (task_of result.0 self.new) }
+        ensures of { IsTaskOf session.now (task_with result.0 self.new) }
         ensures in_time { IsInTime result.0 self.new }
-        ensures tells { TaskTurnTells session.now A.behaviour (task_of (kind.Sending stage) self.old) (task_of result.0 self.new) result.1 }
+        ensures tells { TaskTurnTells session.now A.behaviour (task_with (kind.Sending stage) self.old) (task_with result.0 self.new) result.1 }
     {
         let (peer, arms) = sending_arms(session, &stage);
         match self.offer(alloc, arms) {
@@ -222,13 +222,13 @@ impl<A: Actor> Player<A> {
     }
 
     fn receive(&mut self, alloc: Global, session: &Session, stage: Receiving) -> (Stage, Turn)
-        requires of { IsTaskOf session.now (task_of (kind.Receiving stage) self.old) }
+        requires of { IsTaskOf session.now (task_with (kind.Receiving stage) self.old) }
         requires in_time { IsInTime (kind.Receiving stage) self.old }
         requires well { self.old.failed ≡ false }
         requires below { length self.old.entries.items < self.old.limit }
-        ensures of { IsTaskOf session.now (task_of result.0 self.new) }
+        ensures of { IsTaskOf session.now (task_with result.0 self.new) }
         ensures in_time { IsInTime result.0 self.new }
-        ensures tells { TaskTurnTells session.now A.behaviour (task_of (kind.Receiving stage) self.old) (task_of result.0 self.new) result.1 }
+        ensures tells { TaskTurnTells session.now A.behaviour (task_with (kind.Receiving stage) self.old) (task_with result.0 self.new) result.1 }
     {
         let (peer, arms) = receiving_arms(session, &stage);
         match stage.receive(session) {
@@ -282,7 +282,7 @@ impl<A: Actor> Player<A> {
 /// The peer and the arms of a role that sends.
 fn sending_arms<'a>(session: &'a Session, stage: &Sending) -> (Role, &'a [Arm])
     requires { IsSending session.now stage.now }
-    ensures stands { state_at session.now stage.now ≡ Some (Puts result.0 result.1.now) }
+    ensures stands { state_of_stage session.now stage.now ≡ Some (Puts result.0 result.1.now) }
     ensures some { result.1.now ≢ [] }
 {
     let machine = session.machine(stage.role());
@@ -295,7 +295,7 @@ fn sending_arms<'a>(session: &'a Session, stage: &Sending) -> (Role, &'a [Arm])
 /// The peer and the arms of a role that receives.
 fn receiving_arms<'a>(session: &'a Session, stage: &Receiving) -> (Role, &'a [Arm])
     requires { IsReceiving session.now stage.now }
-    ensures { state_at session.now stage.now ≡ Some (Takes result.0 result.1.now) }
+    ensures { state_of_stage session.now stage.now ≡ Some (Takes result.0 result.1.now) }
 {
     let machine = session.machine(stage.role());
     match &machine.states[stage.state() as usize] {

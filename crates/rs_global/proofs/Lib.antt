@@ -1,11 +1,6 @@
 pub mod Examples
 pub mod Places
-pub mod Existence
-pub mod CanonOne
-pub mod CanonNumbers
-pub mod CanonWhole
+pub mod Canonical
 pub mod ShapeWhole
-pub mod PrintedTrees
 pub mod Printed
-pub mod EnoughNames
 pub mod Spelt

@@ -1,130 +1,84 @@
 -- A protocol is text-shaped exactly where a body spells its nodes.
-use Rattle.std.proofs.Common.{◌≡◌, ℕ, suc, ◌≤◌, ◌↔◌, List, [], ◌∷◌, ◌++◌, length, map, Bool, true, false, ◌&&◌, nat_le, refl, sym, ap, ◌∙◌, subst, arith}
+use Rattle.std.proofs.Common.{◌≡◌, ℕ, ◌≤◌, ◌↔◌, List, [], ◌∷◌, length, Bool, true, false, ◌&&◌, nat_le, refl, sym, ap, ◌∙◌, subst, arith}
 use Rattle.std.proofs.lemmas.Bool.{le-leb, leb-true}
 use Rattle.std.specs.Bool.{IsTrue}
-use Rattle.std.specs.List.{All}
-use Rattle.rs_model.specs.Data.{Protocol_data, Names_data}
-use Rattle.rs_model.specs.declared.graph.Node.{Node}
+use Rattle.rs_model.specs.Data.{Protocol_data}
 use Rattle.rs_model.specs.declared.limits.TheConstants.{MOST_ROLES}
 use Rattle.rs_text.proofs.Basics.{both, two_true}
-use Rattle.rs_text.proofs.Naming.{decides_sound}
-use Rattle.rs_text.specs.Names.{differ}
-use Rattle.rs_text.specs.Words.{is_role_word}
 use Rattle.rs_bodies.specs.declared.dialects.Dialect.TheVariants.{Talks}
-use Rattle.rs_bodies.specs.declared.places.Place.TheVariants as place
-use Rattle.rs_bodies.specs.Bodied.{numbering_behind, SpellsPlaces, HasBody}
-use Rattle.rs_bodies.specs.Fits.{body_fits}
-use Rattle.rs_bodies.specs.Graph.{acts_in, has_end, first_of}
-use Rattle.rs_bodies.specs.Places.{places_of_protocol, end_of}
-use Rattle.rs_bodies.specs.Points.{points_of}
-use Rattle.rs_bodies.specs.Scenes.{first_scene}
+use Rattle.rs_bodies.specs.Bodied.{SpellsPlaces, HasBody}
+use Rattle.rs_bodies.specs.Openings.{roles_in}
+use Rattle.rs_bodies.specs.Places.{places_of_protocol}
 use Rattle.rs_bodies.specs.Shapes.{is_walked}
+use Rattle.rs_bodies.proofs.GraphsAgain.{opening_there, body_spells, tree_places}
 use Rattle.rs_bodies.proofs.ShapeWhole.{spelt_is_walked, walked_has_body}
 use Rattle.rs_global.specs.Canonical.{IsTextShaped}
-use Rattle.rs_global.specs.Graph.{nodes_of, numbering, graph_of, names_of, finish_of}
+use Rattle.rs_global.specs.Graph.{no_names}
+use Rattle.rs_global.specs.Kinds.{graph_of, protocols}
 use Rattle.rs_global.specs.Shapes.{is_shaped}
-use Rattle.rs_global.specs.Spells.{Fits, SpellsProtocol}
-use Rattle.rs_global.specs.Texts.{protocol_text}
-use Rattle.rs_global.specs.Trees.{ProtocolTree, roles_of}
-use Rattle.rs_global.specs.Writable.{AreWords}
-use Rattle.rs_global.proofs.Places.{whole_are, same_nodes}
-use Rattle.rs_global.proofs.PrintedTrees.{lone_tree_spelt}
+use Rattle.rs_global.proofs.Canonical.{HasRoles, spelt_roles, spelt_shaped}
+use Rattle.rs_global.proofs.Places.{is_kind}
 
--- ---- from a text to a body
+-- whether so many roles fit a line, and whether the walk over the places meets them all
+abbrev fit_line : ℕ → Bool
+fit_line roles = nat_le 2 roles && nat_le roles MOST_ROLES
 
-tree_spells : (t : ProtocolTree) → Fits t → SpellsPlaces Talks (record { roles = roles_of t; labels = [] }) t.body (places_of_protocol (graph_of t)) (graph_of t).root
-tree_spells t fits = record { fits = fits.body; places_are = whole_are (numbering t) t.body (has_end Talks t.body); start_is = refl }
-
-tree_shaped : (t : ProtocolTree) → Fits t → is_shaped (graph_of t) ≡ true
-tree_shaped t fits =
-    let two : length (roles_of t) ≡ suc (suc (length t.further)) = refl in
-    let few : length (roles_of t) ≤ MOST_ROLES = fits.few_roles in
-    two_true (nat_le 2 (length (roles_of t)) && nat_le (length (roles_of t)) MOST_ROLES) (is_walked Talks (record { roles = length (roles_of t); places = places_of_protocol (graph_of t) }) (graph_of t).root 0)
-    (two_true (nat_le 2 (length (roles_of t))) (nat_le (length (roles_of t)) MOST_ROLES) (le-leb 2 (length (roles_of t)) (omega arith)) (le-leb (length (roles_of t)) MOST_ROLES few))
-    (spelt_is_walked Talks (record { roles = roles_of t; labels = [] }) t.body (length (roles_of t)) (graph_of t).root 0 (places_of_protocol (graph_of t)) (omega arith) (omega arith) (omega arith) (tree_spells t fits))
+abbrev walked : Protocol_data → Bool
+walked p = is_walked Talks (record { roles = p.roles; places = places_of_protocol p }) p.root 0
 
 pub shaped_is_walked : (p : Protocol_data) → IsTextShaped p → is_shaped p ≡ true
-shaped_is_walked p s = ap is_shaped s.spells.graph_is ∙ tree_shaped s.spells.tree s.spells.fits
+shaped_is_walked p s =
+    let r : HasRoles s.names p = spelt_roles s.bytes s.at s.names p s.until s.spells in
+    let t = s.spells.tree in
+    let roles : List (List ℕ) = roles_in Talks no_names t.opening in
+    let is : p ≡ graph_of t = s.spells.meaning_is in
+    let count : length roles ≡ p.roles = ap (λ z. length z.roles) (sym s.spells.names_are) ∙ sym r.count in
+    let two : 2 ≤ length s.names.roles = r.two in
+    let few : length s.names.roles ≤ MOST_ROLES = r.bounded in
+    let same : p.roles ≡ length s.names.roles = r.count in
+    let body : SpellsPlaces Talks (record { roles = roles; labels = [] }) t.body (places_of_protocol p) p.root
+    = subst (λ (z : Protocol_data). SpellsPlaces Talks (record { roles = roles; labels = [] }) t.body (places_of_protocol z) z.root) (sym is)
+    (tree_places protocols is_kind no_names t s.spells.fits) in
+    two_true (fit_line p.roles) (walked p)
+    (two_true (nat_le 2 p.roles) (nat_le p.roles MOST_ROLES) (le-leb 2 p.roles (omega arith)) (le-leb p.roles MOST_ROLES (omega arith)))
+    (spelt_is_walked Talks (record { roles = roles; labels = [] }) t.body p.roles p.root 0 (places_of_protocol p) (omega arith) (omega arith) (omega arith) body)
 
--- ---- from a body to a text
-
-record Lined (roles : List (List ℕ)) : Type 0 where
-  first : List ℕ
-  second : List ℕ
-  further : List (List ℕ)
-  are : first ∷ second ∷ further ≡ roles
-
-lined : (roles : List (List ℕ)) → 2 ≤ length roles → Lined roles
-lined [] h = absurd (omega arith)
-lined (x ∷ []) h = absurd (omega arith)
-lined (x ∷ y ∷ xs) h = record { first = x; second = y; further = xs; are = refl }
-
-no_labels : (labels : List (List ℕ)) → length labels ≡ 0 → labels ≡ []
+no_labels : (labels : List (List ℕ)) → length labels ≡ 0 → [] ≡ labels
 no_labels [] h = refl
 no_labels (x ∷ xs) h = absurd (omega arith)
-
-abbrev graph : ℕ → List Node → ℕ → Protocol_data
-graph roles nodes root = record { roles = roles; nodes = nodes; root = root }
-
-abbrev names_by : List (List ℕ) → List (List ℕ) → Names_data
-names_by roles labels = record { roles = roles; labels = labels }
 
 body_text : (p : Protocol_data) → 2 ≤ p.roles → p.roles ≤ MOST_ROLES → HasBody Talks p.roles 0 (places_of_protocol p) p.root → IsTextShaped p
 body_text p two few h =
     let count : length h.old.roles ≡ p.roles = h.roles_are in
-    let line : Lined h.old.roles = lined h.old.roles (omega arith) in
-    let t : ProtocolTree = record { first = line.first; second = line.second; further = line.further; body = h.body } in
-    let roles : roles_of t ≡ h.old.roles = line.are in
-    let labels : h.old.labels ≡ [] = no_labels h.old.labels h.labels_are in
-    let size : length (roles_of t) ≡ p.roles = ap length roles ∙ count in
-    let named : numbering_behind Talks h.old h.body ≡ numbering t =
-    ap (λ z. numbering_behind Talks (names_by h.old.roles z) h.body) labels ∙ ap (λ z. numbering_behind Talks (names_by z []) h.body) (sym roles) in
-    let nodes : nodes_of (numbering t) h.body ++ finish_of (has_end Talks h.body) ≡ p.nodes =
-    same_nodes (nodes_of (numbering t) h.body ++ finish_of (has_end Talks h.body)) p.nodes
-    (whole_are (numbering t) h.body (has_end Talks h.body) ∙ ap (λ z. map place.Point (points_of Talks z h.body [] 0) ++ end_of (has_end Talks h.body)) (sym named) ∙ sym h.spells.places_are) in
-    let graph_is : graph_of t ≡ p =
-    ap (λ z. graph z (nodes_of (numbering t) h.body ++ finish_of (has_end Talks h.body)) (first_of Talks h.body [] 0 (acts_in Talks h.body))) size
-    ∙ ap (λ z. graph p.roles z (first_of Talks h.body [] 0 (acts_in Talks h.body))) nodes ∙ ap (λ z. graph p.roles p.nodes z) (sym h.spells.start_is) in
-    let fits : Fits t = record {
-      roles_differ = ap differ roles ∙ (both _ _ (both _ _ ((decides_sound h.old).1 h.sound)).0).0;
-      few_roles = omega arith;
-      body = ap (λ z. body_fits Talks h.body (first_scene z [])) roles ∙ ap (λ z. body_fits Talks h.body (first_scene h.old.roles z)) (sym labels) ∙ h.spells.fits;
-    } in
-    let words : AreWords t = record { opening = subst (λ (z : List (List ℕ)). All (λ x. is_role_word x ≡ true) z) (sym roles) h.sound.roles_are_words; body = h.words } in
-    record {
-      bytes = protocol_text t;
-      at = 0;
-      names = names_of t;
-      until = length (protocol_text t);
-      spells = subst (λ (z : Protocol_data). SpellsProtocol (protocol_text t) 0 (names_of t) z (length (protocol_text t))) graph_is (lone_tree_spelt t words fits);
-    }
+    let o = opening_there Talks h.old p.roles (subst (λ (z : ℕ). 2 ≤ z) (sym count) two) in
+    spelt_shaped _ 0 _ p _ (body_spells protocols is_kind p.roles 0 p h no_names o.0 (no_labels h.old.labels h.labels_are) (count, subst (λ (z : ℕ). z ≤ MOST_ROLES) (sym count) few) o.1)
 
-pub walked_is_shaped : (p : Protocol_data) → is_shaped p ≡ true → IsTextShaped p
-walked_is_shaped p h =
-    let q = both (nat_le 2 p.roles && nat_le p.roles MOST_ROLES) (is_walked Talks (record { roles = p.roles; places = places_of_protocol p }) p.root 0) h in
-    let r = both (nat_le 2 p.roles) (nat_le p.roles MOST_ROLES) q.0 in
-    let few : p.roles ≤ MOST_ROLES = leb-true p.roles MOST_ROLES r.1 in
-    body_text p (leb-true 2 p.roles r.0) few (walked_has_body Talks p.roles p.root 0 (places_of_protocol p) few (omega arith) q.1)
-
--- ---- the test of the roles, and of the body
-
-fit_roles : (p : Protocol_data) → (nat_le 2 p.roles && nat_le p.roles MOST_ROLES) ≡ true → HasBody Talks p.roles 0 (places_of_protocol p) p.root ↔ IsTextShaped p
+-- where so many roles fit a line, the protocol is text-shaped exactly where a body spells its nodes
+fit_roles : (p : Protocol_data) → fit_line p.roles ≡ true → HasBody Talks p.roles 0 (places_of_protocol p) p.root ↔ IsTextShaped p
 fit_roles p h =
     let r = both (nat_le 2 p.roles) (nat_le p.roles MOST_ROLES) h in
     let few : p.roles ≤ MOST_ROLES = leb-true p.roles MOST_ROLES r.1 in (
       body_text p (leb-true 2 p.roles r.0) few,
-      (λ s. walked_has_body Talks p.roles p.root 0 (places_of_protocol p) few (omega arith) (both (nat_le 2 p.roles && nat_le p.roles MOST_ROLES) (is_walked Talks (record { roles = p.roles; places = places_of_protocol p }) p.root 0) (shaped_is_walked p s)).1),
+      (λ s. walked_has_body Talks p.roles p.root 0 (places_of_protocol p) few (omega arith) (both (fit_line p.roles) (walked p) (shaped_is_walked p s)).1),
     )
 
-pub shaped_exactly : (p : Protocol_data) (roles many : ℕ) (fit b : Bool) → roles ≡ p.roles → many ≡ roles → fit ≡ (nat_le 2 roles && nat_le roles MOST_ROLES) → fit ≡ true → IsTrue b ↔ HasBody Talks many 0 (places_of_protocol p) p.root → IsTrue b ↔ IsTextShaped p
+pub walked_is_shaped : (p : Protocol_data) → is_shaped p ≡ true → IsTextShaped p
+walked_is_shaped p h =
+    let q = both (fit_line p.roles) (walked p) h in
+    let few : p.roles ≤ MOST_ROLES = leb-true p.roles MOST_ROLES (both (nat_le 2 p.roles) (nat_le p.roles MOST_ROLES) q.0).1 in
+    (fit_roles p q.0).0 (walked_has_body Talks p.roles p.root 0 (places_of_protocol p) few (omega arith) q.1)
+
+-- ---- the test of the roles, and of the body
+
+pub shaped_exactly : (p : Protocol_data) (roles many : ℕ) (fit b : Bool) → roles ≡ p.roles → many ≡ roles → fit ≡ fit_line roles → fit ≡ true
+    → IsTrue b ↔ HasBody Talks many 0 (places_of_protocol p) p.root → IsTrue b ↔ IsTextShaped p
 shaped_exactly p roles many fit b same as_many e h k =
-    let x : HasBody Talks p.roles 0 (places_of_protocol p) p.root ↔ IsTextShaped p = fit_roles p (subst (λ (z : ℕ). (nat_le 2 z && nat_le z MOST_ROLES) ≡ true) same (sym e ∙ h)) in (
+    let x : HasBody Talks p.roles 0 (places_of_protocol p) p.root ↔ IsTextShaped p = fit_roles p (subst (λ (z : ℕ). fit_line z ≡ true) same (sym e ∙ h)) in (
       (λ t. x.0 (subst (λ (z : ℕ). HasBody Talks z 0 (places_of_protocol p) p.root) (as_many ∙ same) (k.0 t))),
       (λ t. k.1 (subst (λ (z : ℕ). HasBody Talks z 0 (places_of_protocol p) p.root) (sym (as_many ∙ same)) (x.1 t))),
     )
 
-pub not_shaped : (p : Protocol_data) (roles : ℕ) (fit : Bool) → roles ≡ p.roles → fit ≡ (nat_le 2 roles && nat_le roles MOST_ROLES) → fit ≡ false → IsTextShaped p → ⊥
+pub not_shaped : (p : Protocol_data) (roles : ℕ) (fit : Bool) → roles ≡ p.roles → fit ≡ fit_line roles → fit ≡ false → IsTextShaped p → ⊥
 not_shaped p roles fit same e h s =
-    let q : (nat_le 2 roles && nat_le roles MOST_ROLES) ≡ true =
-    subst (λ (z : ℕ). (nat_le 2 z && nat_le z MOST_ROLES) ≡ true) (sym same) (both (nat_le 2 p.roles && nat_le p.roles MOST_ROLES) (is_walked Talks (record { roles = p.roles; places = places_of_protocol p }) p.root 0) (shaped_is_walked p s)).0 in
+    let q : fit_line roles ≡ true = subst (λ (z : ℕ). fit_line z ≡ true) (sym same) (both (fit_line p.roles) (walked p) (shaped_is_walked p s)).0 in
     cc (h, e, q)

@@ -1,12 +1,10 @@
 -- Believed: the canonical text of a protocol, and which protocols have one.
-use Rattle.std.specs.Prelude.{◌≡◌, ℕ, List, take}
+use Rattle.std.specs.Prelude.{ℕ, List, take}
 use Rattle.rs_model.specs.Data.{Protocol_data, Names_data}
-use Rattle.rs_bodies.specs.declared.dialects.Dialect.TheVariants.{Talks}
-use Rattle.rs_bodies.specs.Canonical.{Draws}
-use Rattle.rs_bodies.specs.Places.{places_of_protocol}
+use Rattle.rs_bodies.specs.CanonicalGraphs.{IsCanonicalTree, IsCanonicalGraphText}
+use Rattle.rs_global.specs.Kinds.{protocols}
 use Rattle.rs_global.specs.Spells.{SpellsProtocol}
-use Rattle.rs_global.specs.Texts.{protocol_text}
-use Rattle.rs_global.specs.Trees.{ProtocolTree, roles_of}
+use Rattle.rs_global.specs.Trees.{ProtocolTree}
 
 -- some text reads to the protocol
 pub record IsTextShaped (protocol : Protocol_data) : Type 0 where
@@ -17,16 +15,13 @@ pub record IsTextShaped (protocol : Protocol_data) : Type 0 where
   pub spells : SpellsProtocol bytes at names protocol until
 
 -- the tree that the canonical text has: all roles, and the body that is written for the places of the protocol
-pub record IsCanonical (names : Names_data) (protocol : Protocol_data) (tree : ProtocolTree) : Type 0 where
-  pub roles : roles_of tree ≡ names.roles
-  pub body : Draws Talks names (places_of_protocol protocol) 0 protocol.root tree.body
+abbrev pub IsCanonicalProtocolTree : Names_data → Protocol_data → ProtocolTree → Type 0
+IsCanonicalProtocolTree names protocol tree = IsCanonicalTree protocols names protocol tree
 
 -- the canonical text
-pub record IsCanonicalText (names : Names_data) (protocol : Protocol_data) (text : List ℕ) : Type 0 where
-  pub tree : ProtocolTree
-  pub canonical : IsCanonical names protocol tree
-  pub is : text ≡ protocol_text tree
+abbrev pub IsCanonicalProtocolText : Names_data → Protocol_data → (text : List ℕ) → Type 0
+IsCanonicalProtocolText names protocol text = IsCanonicalGraphText protocols names protocol text
 
 -- the names without the labels that the protocol doesn't use: the first n
-abbrev pub with_labels : ℕ → Names_data → Names_data
-with_labels n names = record { roles = names.roles; labels = take n names.labels }
+abbrev pub with_first_labels : ℕ → Names_data → Names_data
+with_first_labels n names = record { roles = names.roles; labels = take n names.labels }

@@ -8,4 +8,5 @@ use Rattle.rs_model.specs.declared.graph.Role.{Role}
 -- there are as many role names as the protocol has roles, and each label of the protocol has a name
 pub record AreEnough (names : Names_data) (protocol : Protocol_data) : Type 0 where
   pub roles : length names.roles ≡ protocol.roles
-  pub labels : (n place : ℕ) (sender receiver : Role) (arms : List Arm) (arm : Arm) → slice_get protocol.nodes n ≡ Some (Talk sender receiver arms) → slice_get arms place ≡ Some arm → arm.label.0 < length names.labels
+  pub labels : (n place : ℕ) (sender receiver : Role) (arms : List Arm) (arm : Arm) → slice_get protocol.nodes n ≡ Some (Talk sender receiver arms) → slice_get arms place ≡ Some arm
+      → arm.label.0 < length names.labels

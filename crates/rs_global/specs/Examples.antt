@@ -3,6 +3,7 @@ use Rattle.std.specs.Prelude.{ℕ, List, [], codes, Some, None}
 use Rattle.rs_model.specs.declared.values.Sort.TheVariants as sort
 use Rattle.rs_global.specs.Trees.{ProtocolTree}
 use Rattle.rs_bodies.specs.Dialects.{sends_to}
+use Rattle.rs_bodies.specs.Openings.{of_roles}
 use Rattle.rs_bodies.specs.Trees.{binds, offers, more, one, again, ends}
 
 -- a text in which a talk is gone back to
@@ -12,8 +13,6 @@ text = codes "roles A,B protocol rec X. A->B{x(). X, y(nat). end}"
 -- its tree
 abbrev pub tree : ProtocolTree
 tree = record {
-  first = codes "A";
-  second = codes "B";
-  further = [];
+  opening = of_roles (codes "A") (codes "B") [];
   body = binds (codes "X") (offers (codes "A") (sends_to (codes "B")) (more (codes "x") None (again (codes "X")) (one (codes "y") (Some sort.Natural) ends)));
 }

@@ -1,8 +1,10 @@
-pub mod Trees
 pub mod Graph
-pub mod Spells
+pub mod Trees
 pub mod Faults
 pub mod Parts
+pub mod Kinds
+pub mod Spells
+pub mod Read
 pub mod Answers
 pub mod Examples
 pub mod Texts

@@ -2,13 +2,7 @@
 use Rattle.std.specs.Prelude.{ℕ, List}
 use Rattle.rs_bodies.specs.declared.dialects.Dialect.TheVariants.{Talks}
 use Rattle.rs_bodies.specs.Texts as bodies
-use Rattle.rs_bodies.specs.Trees.{Body}
-use Rattle.rs_global.specs.Parts.{part_of}
 use Rattle.rs_global.specs.Trees.{ProtocolTree}
-
--- a body of talks
-abbrev pub body_text : Body Talks → List ℕ
-body_text b = bodies.body_text Talks b
 
 -- the names, separated by a comma and a space
 abbrev pub names_text : List (List ℕ) → List ℕ
@@ -16,4 +10,4 @@ names_text names = bodies.names_text names
 
 -- the roles line and the line of the protocol
 abbrev pub protocol_text : ProtocolTree → List ℕ
-protocol_text t = bodies.part_text Talks (part_of t)
+protocol_text t = bodies.part_text Talks t

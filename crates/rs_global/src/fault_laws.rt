@@ -1,4 +1,5 @@
-// What the first fault of a text is, and that the reader tells it. The functions do nothing: each states a law.
+//! What the first fault of a text is, and that the reader tells it. The functions do nothing: each states a law.
+
 ghost use Rattle.std.specs.Prelude.{◌≡◌, ◌≤◌, ℕ, List, Ok, Err, length};
 ghost use Rattle.rs_model.specs.Data.{Names_data, Protocol_data};
 ghost use Rattle.rs_text.specs.declared.faults.TextFault.{TextFault};
@@ -12,22 +13,22 @@ ghost use Rattle.rs_global.specs.Faults.{FirstFault};
 ghost use Rattle.rs_global.specs.Answers.{ProtocolAnswer, ReadsAs};
 ghost use Rattle.rs_global.specs.Spells.{SpellsProtocol};
 
-/// Whatever fault the reader tells is the first fault of the text ..
+/// Whatever fault the reader tells is the first fault of the text.
 pub fn told_fault_is_the_first()
     ensures { (bytes : List ℕ) (at : ℕ) (fault : TextFault) → at ≤ length bytes → ReadsAs bytes at (Err fault) → FirstFault bytes at fault.kind fault.at }
 {}
 
-/// .. and the first fault of a text is told.
+/// The first fault of a text is told.
 pub fn first_fault_is_told()
     ensures { (bytes : List ℕ) (at : ℕ) (kind : TextKind) (offset : ℕ) → FirstFault bytes at kind offset → ReadsAs bytes at (Err (record { kind = kind; at = offset })) }
 {}
 
-/// A text has one first fault at most ..
+/// A text has one first fault at most.
 pub fn text_has_one_first_fault()
     ensures { (bytes : List ℕ) (at : ℕ) (kind other : TextKind) (offset place : ℕ) → FirstFault bytes at kind offset → FirstFault bytes at other place → (kind ≡ other) × (offset ≡ place) }
 {}
 
-/// .. and none where a protocol is read from it.
+/// A text from which a protocol is read has no first fault.
 pub fn read_text_has_no_fault()
     ensures { (bytes : List ℕ) (at : ℕ) (answer : ProtocolAnswer) (kind : TextKind) (offset : ℕ) → ReadsAs bytes at (Ok answer) → FirstFault bytes at kind offset → ⊥ }
 {}
@@ -40,15 +41,18 @@ pub fn tokens_before_the_fault_begin_a_protocol()
 /// Where another token is expected, the tokens up to that one begin a protocol and with it they begin none, and what is
 /// wanted is what its place wants.
 pub fn expected_is_unexpected()
-    ensures { (bytes : List ℕ) (at : ℕ) (wanted : Wanted) (offset : ℕ) (fault : FirstFault bytes at (kind.Expected wanted) offset) → IsUnexpected Talks (signs_of fault.before) fault.token.sign wanted }
+    ensures { (bytes : List ℕ) (at : ℕ) (wanted : Wanted) (offset : ℕ) (fault : FirstFault bytes at (kind.Expected wanted) offset)
+        → IsUnexpected Talks (signs_of fault.before) fault.token.sign wanted }
 {}
 
-/// A text that a tree spells is read ..
+/// A text that a tree spells is read.
 pub fn spelt_text_is_read()
-    ensures { (bytes : List ℕ) (at : ℕ) (names : Names_data) (protocol : Protocol_data) (until : ℕ) → SpellsProtocol bytes at names protocol until → (answer : ProtocolAnswer) × ReadsAs bytes at (Ok answer) }
+    ensures { (bytes : List ℕ) (at : ℕ) (names : Names_data) (protocol : Protocol_data) (until : ℕ) → SpellsProtocol bytes at names protocol until
+        → (answer : ProtocolAnswer) × ReadsAs bytes at (Ok answer) }
 {}
 
-/// .. and has no first fault.
+/// A text that a tree spells has no first fault.
 pub fn spelt_text_has_no_fault()
-    ensures { (bytes : List ℕ) (at : ℕ) (names : Names_data) (protocol : Protocol_data) (until : ℕ) (kind : TextKind) (offset : ℕ) → SpellsProtocol bytes at names protocol until → FirstFault bytes at kind offset → ⊥ }
+    ensures { (bytes : List ℕ) (at : ℕ) (names : Names_data) (protocol : Protocol_data) (until : ℕ) (kind : TextKind) (offset : ℕ) → SpellsProtocol bytes at names protocol until
+        → FirstFault bytes at kind offset → ⊥ }
 {}

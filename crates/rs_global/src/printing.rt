@@ -1,6 +1,8 @@
+//! The printer of protocols.
+
 ghost use Rattle.std.specs.Prelude.{◌≡◌, ◌++◌, IfOk, OnOk};
 ghost use Rattle.rs_text.specs.Sound.{IsSound};
-ghost use Rattle.rs_global.specs.Canonical.{IsCanonicalText, IsTextShaped};
+ghost use Rattle.rs_global.specs.Canonical.{IsCanonicalProtocolText, IsTextShaped};
 ghost use Rattle.rs_global.specs.Enough.{AreEnough};
 ghost use Rattle.rs_global.specs.Printing as spec;
 ghost use Rattle.rs_global.specs.Texts.{names_text};
@@ -17,7 +19,7 @@ pub fn print_protocol(alloc: Global, names: &Names, protocol: &Protocol) -> Resu
     requires shaped { IsTextShaped protocol.now }
     requires sound { IsSound names.now }
     requires enough { AreEnough names.now protocol.now }
-    ensures canonical { IfOk result (λ text. IsCanonicalText names.now protocol.now text) }
+    ensures canonical { IfOk result (λ text. IsCanonicalProtocolText names.now protocol.now text) }
 {
     let mut text = Text::new(alloc);
     text.push(b"roles ")?;
@@ -43,7 +45,7 @@ fn push_names(text: &mut Text, names: &[Name]) -> Result<(), NoMemory>
 }
 
 fn push_others(text: &mut Text, names: &[Name]) -> Result<(), NoMemory>
-    ensures { OnOk result (text.new ≡ text.old ++ spec.others_text names.now) }
+    ensures { OnOk result (text.new ≡ text.old ++ spec.further_names_text names.now) }
 {
     for name in names {
         text.push(b", ")?;

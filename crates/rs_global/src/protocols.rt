@@ -1,11 +1,12 @@
-ghost use Rattle.std.specs.Prelude.{◌≡◌, ◌≤◌, ◌+◌, ◌++◌, length, map, IfOk, IfErr, ◌⊎◌};
-ghost use Rattle.rs_model.specs.declared.limits.TheConstants.{MOST_LABELS, MOST_ROLES, MOST_TALKS};
-ghost use Rattle.rs_text.specs.declared.faults.TextKind.TheVariants as kind;
-ghost use Rattle.rs_text.specs.Sound.{IsSound};
+//! The reader of protocols.
+
+ghost use Rattle.std.specs.Prelude.{◌≡◌, ◌≤◌, ◌+◌, ◌++◌, length, map, IfOk, IfErr};
+ghost use Rattle.rs_text.specs.FirstFaults.{IsRefusal};
+ghost use Rattle.rs_text.specs.Sound.{AreReadable};
 ghost use Rattle.rs_global.specs.Faults.{FirstFault};
 ghost use Rattle.rs_global.specs.Graph.{finish_of};
-ghost use Rattle.rs_global.specs.Parts.{graph_spelt, node_at, node_by};
-ghost use Rattle.rs_global.specs.Spells.{SpellsProtocol};
+ghost use Rattle.rs_global.specs.Parts.{graph_spelt, node_of_point, node_of_head};
+ghost use Rattle.rs_global.specs.Read.{IsProtocolRead};
 
 use rs_bodies::{Dialect, Head, Point, Spelling, read_part};
 use rs_model::{Arms, Names, NoMemory, Node, Protocol};
@@ -27,14 +28,9 @@ pub fn read_protocol(
     at: usize,
 ) -> Result<(Names, Protocol, usize), TextFault>
     requires { at ≤ length bytes.now }
-    ensures ok { IfOk result (λ r. SpellsProtocol bytes.now at r.0 r.1 r.2) }
-    ensures err { IfErr result (λ e. (e.kind ≡ kind.NoMemory) ⊎ FirstFault bytes.now at e.kind e.at) }
-    ensures sound { IfOk result (λ r. IsSound r.0) }
-    ensures roles { IfOk result (λ r. length r.0.roles ≤ MOST_ROLES) }
-    ensures labels { IfOk result (λ r. length r.0.labels ≤ MOST_LABELS) }
-    ensures talks { IfOk result (λ r. length r.1.nodes ≤ MOST_TALKS + 1) }
-    ensures within { IfOk result (λ r. r.2 ≤ length bytes.now) }
-    ensures place { IfErr result (λ e. e.at ≤ length bytes.now) }
+    ensures ok { IfOk result (λ r. IsProtocolRead bytes.now at r.0 r.1 r.2) }
+    ensures err { IfErr result (λ e. IsRefusal (FirstFault bytes.now at) bytes.now e) }
+    ensures names { IfOk result (λ r. AreReadable r.0) }
 {
     let mut names = Names {
         roles: Vec::new(alloc),
@@ -64,7 +60,7 @@ fn graph(alloc: Global, roles: u8, spelling: Spelling) -> Result<Protocol, NoMem
 
 /// The nodes of heads, with the end behind them where there is one.
 fn nodes(alloc: Global, points: Vec<Point>, ended: bool) -> Result<Vec<Node>, NoMemory>
-    ensures nodes { IfOk result (λ nodes. nodes.items ≡ map node_at points.items ++ finish_of ended) }
+    ensures nodes { IfOk result (λ nodes. nodes.items ≡ map node_of_point points.items ++ finish_of ended) }
     ensures count { IfOk result (λ nodes. length nodes.items ≤ length points.items + 1) }
 {
     let mut nodes = talks(alloc, points)?;
@@ -76,7 +72,7 @@ fn nodes(alloc: Global, points: Vec<Point>, ended: bool) -> Result<Vec<Node>, No
 
 fn talks(alloc: Global, points: Vec<Point>) -> Result<Vec<Node>, NoMemory>
     ensures count { IfOk result (λ nodes. length nodes.items ≡ length points.items) }
-    ensures nodes { IfOk result (λ nodes. nodes.items ≡ map node_at points.items) }
+    ensures nodes { IfOk result (λ nodes. nodes.items ≡ map node_of_point points.items) }
 {
     let mut nodes = Vec::with_capacity(alloc, points.len().saturating_add(1))?;
     for point in points {
@@ -89,7 +85,7 @@ fn talks(alloc: Global, points: Vec<Point>) -> Result<Vec<Node>, NoMemory>
 
 /// The node of a head. A protocol has talks alone.
 fn node(head: Head, arms: Arms) -> Node
-    ensures { result ≡ node_by head arms }
+    ensures { result ≡ node_of_head head arms }
 {
     match head {
         Head::Talk { sender, receiver } => Node::Talk {

@@ -1,3 +1,5 @@
+//! The test whether some text reads to a protocol.
+
 ghost use Rattle.std.specs.Prelude.{◌≡◌, ◌&&◌, nat_le, IsTrue, ◌↔◌};
 ghost use Rattle.rs_model.specs.declared.limits.TheConstants.{MOST_ROLES};
 ghost use Rattle.rs_global.specs.Canonical.{IsTextShaped};

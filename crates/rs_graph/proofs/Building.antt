@@ -1,50 +1,49 @@
 -- A graph that is built move by move.
-use Rattle.std.proofs.Common.{◌≡◌, ◌≢◌, ◌⊎◌, inl, inr, ℕ, ◌<◌, Bool, true, false, List, [], ◌∷◌, ◌++◌, length, get_or, set, refl, sym, ap, ◌∙◌, subst, arith, ◌+◌, suc, zero, Some, slice_get, length-append, take, map, replicate}
+use Rattle.std.proofs.Common.{◌≡◌, ◌≢◌, ◌⊎◌, inl, inr, ℕ, ◌<◌, Bool, true, false, List, [], ◌∷◌, ◌++◌, length, get_or, set, refl, sym, ap, ◌∙◌, subst, arith, ◌+◌, suc, zero, Some, slice_get}
+use Rattle.std.proofs.Common.{length-append, take, map}
 use Rattle.std.proofs.lemmas.Bool.Decides.{eqb_tells}
-use Rattle.std.proofs.lemmas.Bool.{cases_lt}
-use Rattle.std.proofs.lemmas.List.{get_or-set_same, get_or-set_other, length-set, get_or_past, get_or-replicate, length-replicate}
+use Rattle.std.proofs.lemmas.List.{get_or-set_same, get_or-set_other, length-set}
 use Rattle.rs_graph.specs.Built.{IsBuilt, IsFilled}
 use Rattle.rs_graph.specs.Graphs.{Graph_data, with_end, with_move, with_result}
-use Rattle.rs_graph.specs.Lists.{Among, Names}
+use Rattle.rs_graph.specs.Lists.{Among, ArePlacesOf}
 use Rattle.std.specs.List.{sum_by}
-use Rattle.std.proofs.lemmas.List.Folds.{sum_by-replicate}
 use Rattle.std.proofs.lemmas.List.Sums.{sum_by-set, sum_by_push}
 use Rattle.rs_graph.specs.Removal.{IsInto, Leads, edges_in}
 use Rattle.rs_graph.specs.Graphs.{moves_of}
 use Rattle.rs_graph.specs.declared.graph.Move.{Move}
-use Rattle.rs_graph.proofs.Growth.{take_on, at_short, at_within, has-last, has-left, has-push}
+use Rattle.rs_graph.proofs.Growth.{take_on, at_short, at_within, has_last, has_left, has_push}
 use Rattle.rs_graph.proofs.Buckets.{got}
 use Rattle.rs_graph.proofs.Kept.{Pictures}
 
 -- an empty move more changes no result
-push-empty : (row : List (List ℕ)) (b : ℕ) → get_or (row ++ ([] ∷ [])) b [] ≡ get_or row b []
-push-empty [] zero = refl
-push-empty [] (suc b) = refl
-push-empty (r ∷ row) zero = refl
-push-empty (r ∷ row) (suc b) = push-empty row b
+push_empty : (row : List (List ℕ)) (b : ℕ) → get_or (row ++ ([] ∷ [])) b [] ≡ get_or row b []
+push_empty [] zero = refl
+push_empty [] (suc b) = refl
+push_empty (r ∷ row) zero = refl
+push_empty (r ∷ row) (suc b) = push_empty row b
 
-move-leads : (outs : List (List (List ℕ))) (n a b : ℕ) → n < length outs → get_or (get_or (with_move outs n) a []) b [] ≡ get_or (get_or outs a []) b []
-move-leads outs n a b inn = elim (eqb_tells a n) [
+move_leads : (outs : List (List (List ℕ))) (n a b : ℕ) → n < length outs → get_or (get_or (with_move outs n) a []) b [] ≡ get_or (get_or outs a []) b []
+move_leads outs n a b inn = elim (eqb_tells a n) [
   | inl e ↦ (let P : ℕ → Type 0 = λ z. get_or (get_or (with_move outs n) z []) b [] ≡ get_or (get_or outs z []) b [] in
-      subst P (sym e.1) (ap (λ (y : List (List ℕ)). get_or y b []) (get_or-set_same outs n (get_or outs n [] ++ ([] ∷ [])) [] inn) ∙ push-empty (get_or outs n []) b))
+      subst P (sym e.1) (ap (λ (y : List (List ℕ)). get_or y b []) (get_or-set_same outs n (get_or outs n [] ++ ([] ∷ [])) [] inn) ∙ push_empty (get_or outs n []) b))
   | inr e ↦ ap (λ (y : List (List ℕ)). get_or y b []) (get_or-set_other outs n a (get_or outs n [] ++ ([] ∷ [])) [] e.1)
 ]
 
-move-count : (outs : List (List (List ℕ))) (n : ℕ) → n < length outs → edges_in (with_move outs n) ≡ edges_in outs
-move-count outs n inn =
+move_count : (outs : List (List (List ℕ))) (n : ℕ) → n < length outs → edges_in (with_move outs n) ≡ edges_in outs
+move_count outs n inn =
     let s = sum_by-set (λ (moves : List (List ℕ)). sum_by (λ (results : List ℕ). length results) moves) outs n (get_or outs n [] ++ ([] ∷ [])) [] inn in
     let p = sum_by_push (λ (results : List ℕ). length results) (get_or outs n []) [] in
     omega arith
 
-edge-count : (outs : List (List (List ℕ))) (n p r : ℕ) → n < length outs → p < length (get_or outs n []) → edges_in (with_result outs n p r) ≡ edges_in outs + 1
-edge-count outs n p r inn inp =
+edge_count : (outs : List (List (List ℕ))) (n p r : ℕ) → n < length outs → p < length (get_or outs n []) → edges_in (with_result outs n p r) ≡ edges_in outs + 1
+edge_count outs n p r inn inp =
     let s = sum_by-set (λ (moves : List (List ℕ)). sum_by (λ (results : List ℕ). length results) moves) outs n (set (get_or outs n []) p (get_or (get_or outs n []) p [] ++ (r ∷ []))) [] inn in
     let q = sum_by-set (λ (results : List ℕ). length results) (get_or outs n []) p (get_or (get_or outs n []) p [] ++ (r ∷ [])) [] inp in
     let l = length-append (get_or (get_or outs n []) p []) (r ∷ []) in
     omega arith
 
-end-count : (intos : List (List Move)) (r : ℕ) (m : Move) → r < length intos → sum_by (λ (row : List Move). length row) (with_end intos r m) ≡ sum_by (λ (row : List Move). length row) intos + 1
-end-count intos r m h =
+end_count : (intos : List (List Move)) (r : ℕ) (m : Move) → r < length intos → sum_by (λ (row : List Move). length row) (with_end intos r m) ≡ sum_by (λ (row : List Move). length row) intos + 1
+end_count intos r m h =
     let s = sum_by-set (λ (row : List Move). length row) intos r (get_or intos r [] ++ (m ∷ [])) [] h in
     let l = length-append (get_or intos r []) (m ∷ []) in
     omega arith
@@ -52,18 +51,19 @@ end-count intos r m h =
 pub into_move : (outs : List (List (List ℕ))) (intos : List (List Move)) (n : ℕ) → n < length outs → IsInto outs intos → IsInto (with_move outs n) intos
 into_move outs intos n inn i = record {
   size = i.size ∙ sym (length-set outs n (get_or outs n [] ++ ([] ∷ [])));
-  to = λ m r h. i.to m r (subst (λ (z : List ℕ). Among z r) (move-leads outs n m.node m.place inn) h);
-  from = λ m r h. subst (λ (z : List ℕ). Among z r) (sym (move-leads outs n m.node m.place inn)) (i.from m r h);
-  count = i.count ∙ sym (move-count outs n inn);
+  to = λ m r h. i.to m r (subst (λ (z : List ℕ). Among z r) (move_leads outs n m.node m.place inn) h);
+  from = λ m r h. subst (λ (z : List ℕ). Among z r) (sym (move_leads outs n m.node m.place inn)) (i.from m r h);
+  count = i.count ∙ sym (move_count outs n inn);
 }
 
 -- how the results of a move read with one more
-result-leads : (outs : List (List (List ℕ))) (n p r a b : ℕ) → n < length outs → p < length (get_or outs n [])
+result_leads : (outs : List (List (List ℕ))) (n p r a b : ℕ) → n < length outs → p < length (get_or outs n [])
     → ((a ≡ n) × (b ≡ p) × (get_or (get_or (with_result outs n p r) a []) b [] ≡ get_or (get_or outs n []) p [] ++ (r ∷ [])))
     ⊎ (((a ≡ n) × (b ≡ p) → ⊥) × (get_or (get_or (with_result outs n p r) a []) b [] ≡ get_or (get_or outs a []) b []))
-result-leads outs n p r a b inn inp =
+result_leads outs n p r a b inn inp =
     let row : List (List ℕ) = set (get_or outs n []) p (get_or (get_or outs n []) p [] ++ (r ∷ [])) in
-    let here : get_or (with_result outs n p r) n [] ≡ set (get_or outs n []) p (get_or (get_or outs n []) p [] ++ (r ∷ [])) = get_or-set_same outs n (set (get_or outs n []) p (get_or (get_or outs n []) p [] ++ (r ∷ []))) [] inn in
+    let here : get_or (with_result outs n p r) n [] ≡ set (get_or outs n []) p (get_or (get_or outs n []) p [] ++ (r ∷ []))
+    = get_or-set_same outs n (set (get_or outs n []) p (get_or (get_or outs n []) p [] ++ (r ∷ []))) [] inn in
     elim (eqb_tells a n) [
       | inl e ↦ elim (eqb_tells b p) [
         | inl d ↦ inl (
@@ -82,9 +82,14 @@ result-leads outs n p r a b inn inp =
       | inr e ↦ inr ((λ q. e.1 q.0), ap (λ (y : List (List ℕ)). get_or y b []) (get_or-set_other outs n a (set (get_or outs n []) p (get_or (get_or outs n []) p [] ++ (r ∷ []))) [] e.1))
     ]
 
-end-reads : (intos : List (List Move)) (r x : ℕ) (m : Move) → r < length intos → ((x ≡ r) × (get_or (with_end intos r m) x [] ≡ get_or intos r [] ++ (m ∷ []))) ⊎ ((x ≢ r) × (get_or (with_end intos r m) x [] ≡ get_or intos x []))
-end-reads intos r x m inr' = elim (eqb_tells x r) [
-  | inl e ↦ inl (e.1, (let P : ℕ → Type 0 = λ z. get_or (with_end intos r m) z [] ≡ get_or intos r [] ++ (m ∷ []) in subst P (sym e.1) (get_or-set_same intos r (get_or intos r [] ++ (m ∷ [])) [] inr')))
+end_reads : (intos : List (List Move)) (r x : ℕ) (m : Move) → r < length intos
+    → ((x ≡ r) × (get_or (with_end intos r m) x [] ≡ get_or intos r [] ++ (m ∷ []))) ⊎ ((x ≢ r) × (get_or (with_end intos r m) x [] ≡ get_or intos x []))
+end_reads intos r x m inr' = elim (eqb_tells x r) [
+  | inl e ↦ inl (
+    e.1,
+    (let P : ℕ → Type 0 = λ z. get_or (with_end intos r m) z [] ≡ get_or intos r [] ++ (m ∷ []) in subst P (sym e.1)
+        (get_or-set_same intos r (get_or intos r [] ++ (m ∷ [])) [] inr')),
+  )
   | inr e ↦ inr (e.1, get_or-set_other intos r x (get_or intos r [] ++ (m ∷ [])) [] e.1)
 ]
 
@@ -93,48 +98,56 @@ pub into_edge : (outs : List (List (List ℕ))) (intos : List (List Move)) (n p 
 into_edge outs intos n p r inn inp inr' i =
     let m0 : Move = record { node = n; place = p } in
     let inr2 : r < length intos = (let a = i.size in omega arith) in
-    let grows : (x : ℕ) (m : Move) → Among (get_or intos x []) m → Among (get_or (with_end intos r (record { node = n; place = p })) x []) m = λ x m h. elim (end-reads intos r x (record { node = n; place = p }) inr2) [
-      | inl e ↦ (let h' : Among (get_or intos r []) m = subst (λ (z : ℕ). Among (get_or intos z []) m) e.0 h in subst (λ (z : List Move). Among z m) (sym e.1) (has-left (get_or intos r []) ((record { node = n; place = p }) ∷ []) m h'))
+    let grows : (x : ℕ) (m : Move) → Among (get_or intos x []) m → Among (get_or (with_end intos r (record { node = n; place = p })) x []) m
+    = λ x m h. elim (end_reads intos r x (record { node = n; place = p }) inr2) [
+      | inl e ↦ (let h' : Among (get_or intos r []) m = subst (λ (z : ℕ). Among (get_or intos z []) m) e.0 h in subst (λ (z : List Move). Among z m) (sym e.1)
+          (has_left (get_or intos r []) ((record { node = n; place = p }) ∷ []) m h'))
       | inr e ↦ subst (λ (z : List Move). Among z m) (sym e.1) h
     ] in
     record {
-      size = length-set intos r (get_or intos r [] ++ ((record { node = n; place = p }) ∷ [])) ∙ i.size ∙ sym (length-set outs n (set (get_or outs n []) p (get_or (get_or outs n []) p [] ++ (r ∷ []))));
-      to = λ m x h. elim (result-leads outs n p r m.node m.place inn inp) [
+      size = length-set intos r (get_or intos r [] ++ ((record { node = n; place = p }) ∷ [])) ∙ i.size
+          ∙ sym (length-set outs n (set (get_or outs n []) p (get_or (get_or outs n []) p [] ++ (r ∷ []))));
+      to = λ m x h. elim (result_leads outs n p r m.node m.place inn inp) [
         | inl e ↦ (let h' : Among (get_or (get_or outs n []) p [] ++ (r ∷ [])) x = subst (λ (z : List ℕ). Among z x) e.2 h in
             let same : (record { node = n; place = p }) ≡ m = ap (λ (y : ℕ). record { node = y; place = p }) (sym e.0) ∙ ap (λ (y : ℕ). record { node = m.node; place = y }) (sym e.1) in
-            elim (has-push (get_or (get_or outs n []) p []) r x h') [
+            elim (has_push (get_or (get_or outs n []) p []) r x h') [
               | inl k ↦ grows x m (i.to m x (subst (λ (z : Move). Among (get_or (get_or outs z.node []) z.place []) x) same k))
               | inr k ↦ (let P : ℕ → Type 0 = λ z. Among (get_or (with_end intos r (record { node = n; place = p })) z []) m in
-                  let base : P r = (let last = has-last (get_or intos r []) (record { node = n; place = p }) in
+                  let base : P r = (let last = has_last (get_or intos r []) (record { node = n; place = p }) in
                   let e2 = get_or-set_same intos r (get_or intos r [] ++ ((record { node = n; place = p }) ∷ [])) [] inr2 in
-                  subst (λ (z : Move). Among (get_or (with_end intos r (record { node = n; place = p })) r []) z) same (subst (λ (z : List Move). Among z (record { node = n; place = p })) (sym e2) last)) in
+                  subst (λ (z : Move). Among (get_or (with_end intos r (record { node = n; place = p })) r []) z) same
+                  (subst (λ (z : List Move). Among z (record { node = n; place = p })) (sym e2) last)) in
                   subst P k base)
             ])
         | inr e ↦ grows x m (i.to m x (subst (λ (z : List ℕ). Among z x) e.1 h))
       ];
       from = λ m x h.
-          let old : Leads outs m.node m.place x → Leads (with_result outs n p r) m.node m.place x = λ k. (elim (result-leads outs n p r m.node m.place inn inp) [
-            | inl e ↦ subst (λ (z : List ℕ). Among z x) (sym e.2) (has-left (get_or (get_or outs n []) p []) (r ∷ []) x (let k1 = subst (λ (y : ℕ). Leads outs y m.place x) e.0 k in subst (λ (y : ℕ). Leads outs n y x) e.1 k1))
+          let old : Leads outs m.node m.place x → Leads (with_result outs n p r) m.node m.place x = λ k. (elim (result_leads outs n p r m.node m.place inn inp) [
+            | inl e ↦ subst (λ (z : List ℕ). Among z x) (sym e.2)
+                (has_left (get_or (get_or outs n []) p []) (r ∷ []) x (let k1 = subst (λ (y : ℕ). Leads outs y m.place x) e.0 k in subst (λ (y : ℕ). Leads outs n y x) e.1 k1))
             | inr e ↦ subst (λ (z : List ℕ). Among z x) (sym e.1) k
           ]) in
-          (elim (end-reads intos r x (record { node = n; place = p }) inr2) [
-            | inl e ↦ (let h' : Among (get_or intos r [] ++ ((record { node = n; place = p }) ∷ [])) m = subst (λ (z : List Move). Among z m) e.1 h in elim (has-push (get_or intos r []) (record { node = n; place = p }) m h') [
-              | inl k ↦ old (i.from m x (subst (λ (z : ℕ). Among (get_or intos z []) m) (sym e.0) k))
-              | inr k ↦ (let P : Move → Type 0 = λ z. Leads (with_result outs n p r) z.node z.place x in
-                  let base : P (record { node = n; place = p }) = (elim (result-leads outs n p r n p inn inp) [
-                    | inl f ↦ subst (λ (z : List ℕ). Among z x) (sym f.2) (subst (λ (z : ℕ). Among (get_or (get_or outs n []) p [] ++ (r ∷ [])) z) (sym e.0) (has-last (get_or (get_or outs n []) p []) r))
-                    | inr f ↦ absurd (f.0 (refl, refl))
-                  ]) in subst P k base)
-            ])
+          (elim (end_reads intos r x (record { node = n; place = p }) inr2) [
+            | inl e ↦ (let h' : Among (get_or intos r [] ++ ((record { node = n; place = p }) ∷ [])) m = subst (λ (z : List Move). Among z m) e.1 h in elim
+                (has_push (get_or intos r []) (record { node = n; place = p }) m h') [
+                  | inl k ↦ old (i.from m x (subst (λ (z : ℕ). Among (get_or intos z []) m) (sym e.0) k))
+                  | inr k ↦ (let P : Move → Type 0 = λ z. Leads (with_result outs n p r) z.node z.place x in
+                      let base : P (record { node = n; place = p }) = (elim (result_leads outs n p r n p inn inp) [
+                        | inl f ↦ subst (λ (z : List ℕ). Among z x) (sym f.2)
+                            (subst (λ (z : ℕ). Among (get_or (get_or outs n []) p [] ++ (r ∷ [])) z) (sym e.0) (has_last (get_or (get_or outs n []) p []) r))
+                        | inr f ↦ absurd (f.0 (refl, refl))
+                      ]) in subst P k base)
+                ])
             | inr e ↦ old (i.from m x (subst (λ (z : List Move). Among z m) e.1 h))
           ]);
-      count = (let a = end-count intos r (record { node = n; place = p }) inr2 in let b = edge-count outs n p r inn inp in let c = i.count in omega arith);
+      count = (let a = end_count intos r (record { node = n; place = p }) inr2 in let b = edge_count outs n p r inn inp in let c = i.count in omega arith);
     }
 
 pub fill_none : (g : Graph_data) (n : ℕ) → get_or g.outs n [] ≡ [] → IsInto g.outs g.intos → IsFilled g g n []
 fill_none g n e i = record { size = refl; here = e; others = λ k ne. refl; into = i }
 
-pub fill_move : (old g new : Graph_data) (n : ℕ) (moves : List (List ℕ)) → n < length old.outs → IsFilled old g n moves → new.outs ≡ with_move g.outs n → new.intos ≡ g.intos → IsFilled old new n (moves ++ ([] ∷ []))
+pub fill_move : (old g new : Graph_data) (n : ℕ) (moves : List (List ℕ)) → n < length old.outs → IsFilled old g n moves → new.outs ≡ with_move g.outs n → new.intos ≡ g.intos
+    → IsFilled old new n (moves ++ ([] ∷ []))
 fill_move old g new n moves inn f eo ei =
     let inn' : n < length g.outs = (let a = f.size in omega arith) in
     let i : IsInto (with_move g.outs n) g.intos = into_move g.outs g.intos n inn' f.into in
@@ -145,7 +158,8 @@ fill_move old g new n moves inn f eo ei =
       into = subst (λ (z : List (List (List ℕ))). IsInto z new.intos) (sym eo) (subst (λ (z : List (List Move)). IsInto (with_move g.outs n) z) (sym ei) i);
     }
 
-pub fill_edge : (old g new : Graph_data) (n p r : ℕ) (moves : List (List ℕ)) → n < length old.outs → p < length moves → r < length old.outs → IsFilled old g n moves → new.outs ≡ with_result g.outs n p r → new.intos ≡ with_end g.intos r (record { node = n; place = p })
+pub fill_edge : (old g new : Graph_data) (n p r : ℕ) (moves : List (List ℕ)) → n < length old.outs → p < length moves → r < length old.outs → IsFilled old g n moves
+    → new.outs ≡ with_result g.outs n p r → new.intos ≡ with_end g.intos r (record { node = n; place = p })
     → IsFilled old new n (set moves p (get_or moves p [] ++ (r ∷ [])))
 fill_edge old g new n p r moves inn inp inr' f eo ei =
     let inn' : n < length g.outs = (let a = f.size in omega arith) in
@@ -156,22 +170,25 @@ fill_edge old g new n p r moves inn inp inr' f eo ei =
     let row : List (List ℕ) = set (get_or g.outs n []) p (get_or (get_or g.outs n []) p [] ++ (r ∷ [])) in
     record {
       size = ap (λ (z : List (List (List ℕ))). length z) eo ∙ length-set g.outs n (set (get_or g.outs n []) p (get_or (get_or g.outs n []) p [] ++ (r ∷ []))) ∙ f.size;
-      here = ap (λ (z : List (List (List ℕ))). get_or z n []) eo ∙ get_or-set_same g.outs n (set (get_or g.outs n []) p (get_or (get_or g.outs n []) p [] ++ (r ∷ []))) [] inn' ∙ ap (λ (z : List (List ℕ)). set z p (get_or z p [] ++ (r ∷ []))) f.here;
-      others = λ k ne. ap (λ (z : List (List (List ℕ))). get_or z k []) eo ∙ get_or-set_other g.outs n k (set (get_or g.outs n []) p (get_or (get_or g.outs n []) p [] ++ (r ∷ []))) [] ne ∙ f.others k ne;
+      here = ap (λ (z : List (List (List ℕ))). get_or z n []) eo ∙ get_or-set_same g.outs n (set (get_or g.outs n []) p (get_or (get_or g.outs n []) p [] ++ (r ∷ []))) [] inn'
+          ∙ ap (λ (z : List (List ℕ)). set z p (get_or z p [] ++ (r ∷ []))) f.here;
+      others = λ k ne. ap (λ (z : List (List (List ℕ))). get_or z k []) eo ∙ get_or-set_other g.outs n k (set (get_or g.outs n []) p (get_or (get_or g.outs n []) p [] ++ (r ∷ []))) [] ne
+          ∙ f.others k ne;
       into = subst (λ (z : List (List (List ℕ))). IsInto z new.intos) (sym eo) (subst (λ (z : List (List Move)). IsInto (with_result g.outs n p r) z) (sym ei) i);
     }
 
-set-last : (ms : List (List ℕ)) (r : ℕ) → set (ms ++ ([] ∷ [])) (length ms) (get_or (ms ++ ([] ∷ [])) (length ms) [] ++ (r ∷ [])) ≡ ms ++ ((r ∷ []) ∷ [])
-set-last [] r = refl
-set-last (m ∷ ms) r = ap (λ (z : List (List ℕ)). m ∷ z) (set-last ms r)
+set_last : (ms : List (List ℕ)) (r : ℕ) → set (ms ++ ([] ∷ [])) (length ms) (get_or (ms ++ ([] ∷ [])) (length ms) [] ++ (r ∷ [])) ≡ ms ++ ((r ∷ []) ∷ [])
+set_last [] r = refl
+set_last (m ∷ ms) r = ap (λ (z : List (List ℕ)). m ∷ z) (set_last ms r)
 
-map-push : (xs : List ℕ) (x : ℕ) → map (λ (y : ℕ). y ∷ []) (xs ++ (x ∷ [])) ≡ map (λ (y : ℕ). y ∷ []) xs ++ ((x ∷ []) ∷ [])
-map-push [] x = refl
-map-push (y ∷ xs) x = ap (λ (z : List (List ℕ)). (y ∷ []) ∷ z) (map-push xs x)
+map_push : (xs : List ℕ) (x : ℕ) → map (λ (y : ℕ). y ∷ []) (xs ++ (x ∷ [])) ≡ map (λ (y : ℕ). y ∷ []) xs ++ ((x ∷ []) ∷ [])
+map_push [] x = refl
+map_push (y ∷ xs) x = ap (λ (z : List (List ℕ)). (y ∷ []) ∷ z) (map_push xs x)
 
 -- a further move to one number
 pub any_on : (old g h new : Graph_data) (n i r p : ℕ) (row : List ℕ) → n < length old.outs → r < length old.outs → slice_get row i ≡ Some r → IsFilled old g n (moves_of true (take i row))
-    → h.outs ≡ with_move g.outs n → h.intos ≡ g.intos → p ≡ length (get_or g.outs n []) → new.outs ≡ with_result h.outs n p r → new.intos ≡ with_end h.intos r (record { node = n; place = p }) → IsFilled old new n (moves_of true (take (i + 1) row))
+    → h.outs ≡ with_move g.outs n → h.intos ≡ g.intos → p ≡ length (get_or g.outs n []) → new.outs ≡ with_result h.outs n p r → new.intos ≡ with_end h.intos r (record { node = n; place = p })
+    → IsFilled old new n (moves_of true (take (i + 1) row))
 any_on old g h new n i r p row inn inr' e f eo ei ep fo fi =
     let ms : List (List ℕ) = map (λ (y : ℕ). y ∷ []) (take i row) in
     let a = fill_move old g h n (map (λ (y : ℕ). y ∷ []) (take i row)) inn f eo ei in
@@ -179,8 +196,9 @@ any_on old g h new n i r p row inn inr' e f eo ei ep fo fi =
     let l = length-append (map (λ (y : ℕ). y ∷ []) (take i row)) ([] ∷ []) in
     let b = fill_edge old h new n p r (map (λ (y : ℕ). y ∷ []) (take i row) ++ ([] ∷ [])) inn (omega arith) inr' a fo fi in
     let s : set (map (λ (y : ℕ). y ∷ []) (take i row) ++ ([] ∷ [])) p (get_or (map (λ (y : ℕ). y ∷ []) (take i row) ++ ([] ∷ [])) p [] ++ (r ∷ [])) ≡ map (λ (y : ℕ). y ∷ []) (take (i + 1) row) =
-    subst (λ (q : ℕ). set (map (λ (y : ℕ). y ∷ []) (take i row) ++ ([] ∷ [])) q (get_or (map (λ (y : ℕ). y ∷ []) (take i row) ++ ([] ∷ [])) q [] ++ (r ∷ [])) ≡ map (λ (y : ℕ). y ∷ []) (take (i + 1) row)) (sym ep')
-    (set-last (map (λ (y : ℕ). y ∷ []) (take i row)) r ∙ sym (ap (map (λ (y : ℕ). y ∷ [])) (take_on row i r e) ∙ map-push (take i row) r)) in
+    subst (λ (q : ℕ). set (map (λ (y : ℕ). y ∷ []) (take i row) ++ ([] ∷ [])) q (get_or (map (λ (y : ℕ). y ∷ []) (take i row) ++ ([] ∷ [])) q [] ++ (r ∷ [])) ≡ map (λ (y : ℕ). y ∷ [])
+    (take (i + 1) row)) (sym ep')
+    (set_last (map (λ (y : ℕ). y ∷ []) (take i row)) r ∙ sym (ap (map (λ (y : ℕ). y ∷ [])) (take_on row i r e) ∙ map_push (take i row) r)) in
     subst (λ (z : List (List ℕ)). IsFilled old new n z) s b
 
 -- one more number for the one move
@@ -190,72 +208,36 @@ all_on old g new n i r row inn inr' e f eo ei =
     let b = fill_edge old g new n 0 r (take i row ∷ []) inn (omega arith) inr' f eo ei in
     subst (λ (z : List ℕ). IsFilled old new n (z ∷ [])) (sym (take_on row i r e)) b
 
-pub all_begin : (old new : Graph_data) (n : ℕ) (row : List ℕ) → n < length old.outs → get_or old.outs n [] ≡ [] → IsInto old.outs old.intos → new.outs ≡ with_move old.outs n → new.intos ≡ old.intos → IsFilled old new n (moves_of false (take 0 row))
+pub all_begin : (old new : Graph_data) (n : ℕ) (row : List ℕ) → n < length old.outs → get_or old.outs n [] ≡ [] → IsInto old.outs old.intos → new.outs ≡ with_move old.outs n → new.intos ≡ old.intos
+    → IsFilled old new n (moves_of false (take 0 row))
 all_begin old new n row inn e i eo ei = fill_move old old new n [] inn (fill_none old n e i) eo ei
 
-pub built_on : (anys : List Bool) (rows : List (List ℕ)) (i : ℕ) (g new : Graph_data) (any : Bool) (row : List ℕ) → any ≡ get_or anys i false → row ≡ get_or rows i [] → IsBuilt anys rows i g → IsFilled g new i (moves_of any row) → IsBuilt anys rows (i + 1) new
-built_on anys rows i g new any row ea er b f = record {
-  size = f.size ∙ b.size;
-  done = λ k lt. elim (cases_lt k i) [
-    | inl a ↦ f.others k (λ e. let bad : ⊥ = omega arith in bad) ∙ b.done k a
-    | inr a ↦ (let e : i ≡ k = omega arith in subst (λ (z : ℕ). get_or new.outs z [] ≡ moves_of (get_or anys z false) (get_or rows z [])) e
-        (f.here ∙ ap (λ (z : Bool). moves_of z row) ea ∙ ap (λ (z : List ℕ). moves_of (get_or anys i false) z) er))
-  ];
-  free = λ k le. f.others k (λ e. let bad : ⊥ = omega arith in bad) ∙ b.free k (omega arith);
-  into = f.into;
-}
-
-empty-out : (size i : ℕ) → get_or (replicate {A = List (List ℕ)} size []) i [] ≡ []
-empty-out size i = elim (cases_lt i size) [ inl a ↦ get_or-replicate size i [] [] a | inr a ↦ get_or_past (replicate size []) i [] (let l : length (replicate {A = List (List ℕ)} size []) ≡ size = length-replicate {A = List (List ℕ)} size [] in omega arith) ]
-
-empty-in : (size i : ℕ) → get_or (replicate {A = List Move} size []) i [] ≡ []
-empty-in size i = elim (cases_lt i size) [ inl a ↦ get_or-replicate size i [] [] a | inr a ↦ get_or_past (replicate size []) i [] (let l : length (replicate {A = List Move} size []) ≡ size = length-replicate {A = List Move} size [] in omega arith) ]
-
-pub built_none : (anys : List Bool) (rows : List (List ℕ)) (g : Graph_data) → g.outs ≡ replicate (length rows) [] → g.intos ≡ replicate (length rows) [] → IsBuilt anys rows 0 g
-built_none anys rows g eo ei =
-    let lo : length g.outs ≡ length rows = ap (λ (z : List (List (List ℕ))). length z) eo ∙ length-replicate {A = List (List ℕ)} (length rows) [] in
-    let li : length g.intos ≡ length rows = ap (λ (z : List (List Move)). length z) ei ∙ length-replicate {A = List Move} (length rows) [] in
-    let o : (n : ℕ) → get_or g.outs n [] ≡ [] = λ n. ap (λ (z : List (List (List ℕ))). get_or z n []) eo ∙ empty-out (length rows) n in
-    let q : (n : ℕ) → get_or g.intos n [] ≡ [] = λ n. ap (λ (z : List (List Move)). get_or z n []) ei ∙ empty-in (length rows) n in
-    record {
-      size = lo;
-      done = λ i lt. (let bad : ⊥ = omega arith in absurd bad);
-      free = λ i le. o i;
-      into = record {
-        size = li ∙ sym lo;
-        to = λ m r h. (let z : get_or (get_or g.outs m.node []) m.place [] ≡ [] = ap (λ (y : List (List ℕ)). get_or y m.place []) (o m.node) in let bad : Among [] r = subst (λ (y : List ℕ). Among y r) z h in absurd bad);
-        from = λ m r h. (let bad : Among [] m = subst (λ (y : List Move). Among y m) (q r) h in absurd bad);
-        count = (let a = sum_by-replicate (λ (row : List Move). length row) (length rows) [] in let b = sum_by-replicate (λ (moves : List (List ℕ)). sum_by (λ (results : List ℕ). length results) moves) (length rows) [] in
-            let c : sum_by (λ (row : List Move). length row) g.intos ≡ sum_by (λ (row : List Move). length row) (replicate (length rows) []) = ap (sum_by (λ (row : List Move). length row)) ei in
-            let d : edges_in g.outs ≡ edges_in (replicate (length rows) []) = ap edges_in eo in omega arith);
-      };
-    }
-
 -- the graph of what was discovered pictures the moves
-names-length : {X : Type 0} (found : List X) (ns : List ℕ) (xs : List X) → Names found ns xs → length ns ≡ length xs
-names-length found [] [] h = refl
-names-length found [] (x ∷ xs) h = elim h [ ]
-names-length found (n ∷ ns) [] h = elim h [ ]
-names-length found (n ∷ ns) (x ∷ xs) h = let k = names-length found ns xs h.1 in omega arith
+names_length : {X : Type 0} (found : List X) (ns : List ℕ) (xs : List X) → ArePlacesOf found ns xs → length ns ≡ length xs
+names_length found [] [] h = refl
+names_length found [] (x ∷ xs) h = elim h [ ]
+names_length found (n ∷ ns) [] h = elim h [ ]
+names_length found (n ∷ ns) (x ∷ xs) h = let k = names_length found ns xs h.1 in omega arith
 
-moves-count : {X : Type 0} (any : Bool) (row : List ℕ) (xs : List X) → length row ≡ length xs → length (moves_of any row) ≡ length (moves_of any xs)
-moves-count true [] [] e = refl
-moves-count true [] (x ∷ xs) e = absurd cc
-moves-count true (n ∷ row) [] e = absurd cc
-moves-count true (n ∷ row) (x ∷ xs) e = let k = moves-count true row xs (omega arith) in omega arith
-moves-count false row xs e = refl
+moves_count : {X : Type 0} (any : Bool) (row : List ℕ) (xs : List X) → length row ≡ length xs → length (moves_of any row) ≡ length (moves_of any xs)
+moves_count true [] [] e = refl
+moves_count true [] (x ∷ xs) e = absurd cc
+moves_count true (n ∷ row) [] e = absurd cc
+moves_count true (n ∷ row) (x ∷ xs) e = let k = moves_count true row xs (omega arith) in omega arith
+moves_count false row xs e = refl
 
-moves-name : {X : Type 0} (found : List X) (any : Bool) (row : List ℕ) (xs : List X) (place : ℕ) (rs : List X) → Names found row xs → slice_get (moves_of any xs) place ≡ Some rs → Names found (get_or (moves_of any row) place []) rs
-moves-name found true [] [] place rs h e = absurd cc
-moves-name found true [] (x ∷ xs) place rs h e = elim h [ ]
-moves-name found true (n ∷ row) [] place rs h e = elim h [ ]
-moves-name {X = X} found true (n ∷ row) (x ∷ xs) zero rs h e = let k : (x ∷ []) ≡ rs = cc in subst (λ (z : List X). Names found (n ∷ []) z) k (h.0, tt)
-moves-name found true (n ∷ row) (x ∷ xs) (suc place) rs h e = moves-name found true row xs place rs h.1 e
-moves-name {X = X} found false row xs zero rs h e = let k : xs ≡ rs = cc in subst (λ (z : List X). Names found row z) k h
-moves-name found false row xs (suc place) rs h e = absurd cc
+moves_name : {X : Type 0} (found : List X) (any : Bool) (row : List ℕ) (xs : List X) (place : ℕ) (rs : List X) → ArePlacesOf found row xs → slice_get (moves_of any xs) place ≡ Some rs
+    → ArePlacesOf found (get_or (moves_of any row) place []) rs
+moves_name found true [] [] place rs h e = absurd cc
+moves_name found true [] (x ∷ xs) place rs h e = elim h [ ]
+moves_name found true (n ∷ row) [] place rs h e = elim h [ ]
+moves_name {X = X} found true (n ∷ row) (x ∷ xs) zero rs h e = let k : (x ∷ []) ≡ rs = cc in subst (λ (z : List X). ArePlacesOf found (n ∷ []) z) k (h.0, tt)
+moves_name found true (n ∷ row) (x ∷ xs) (suc place) rs h e = moves_name found true row xs place rs h.1 e
+moves_name {X = X} found false row xs zero rs h e = let k : xs ≡ rs = cc in subst (λ (z : List X). ArePlacesOf found row z) k h
+moves_name found false row xs (suc place) rs h e = absurd cc
 
 pub pictured : {X : Type 0} (any : X → Bool) (next : X → List X) (found : List X) (anys : List Bool) (rows : List (List ℕ)) (g : Graph_data) → length rows ≡ length found
-    → ((k : ℕ) (x : X) (row : List ℕ) → slice_get found k ≡ Some x → slice_get rows k ≡ Some row → Names found row (next x))
+    → ((k : ℕ) (x : X) (row : List ℕ) → slice_get found k ≡ Some x → slice_get rows k ≡ Some row → ArePlacesOf found row (next x))
     → ((k : ℕ) (x : X) → slice_get found k ≡ Some x → get_or anys k false ≡ any x)
     → IsBuilt anys rows (length rows) g → Pictures (λ (x : X). moves_of (any x) (next x)) found g.outs
 pictured {X = X} any next found anys rows g len names flags b =
@@ -266,8 +248,8 @@ pictured {X = X} any next found anys rows g len names flags b =
     record {
       size = b.size ∙ len;
       count = λ n x e. (let r = at-row n x e in let nm = names n x r.0 e r.1 in
-          ap (λ (z : List (List ℕ)). length z) (reads n x e) ∙ moves-count (any x) (get_or rows n []) (next x) (ap (λ (z : List ℕ). length z) r.2 ∙ names-length found r.0 (next x) nm));
+          ap (λ (z : List (List ℕ)). length z) (reads n x e) ∙ moves_count (any x) (get_or rows n []) (next x) (ap (λ (z : List ℕ). length z) r.2 ∙ names_length found r.0 (next x) nm));
       names = λ n place x rs e m. (let r = at-row n x e in let nm = names n x r.0 e r.1 in
-          subst (λ (z : List (List ℕ)). Names found (get_or z place []) rs) (sym (reads n x e))
-          (moves-name found (any x) (get_or rows n []) (next x) place rs (subst (λ (z : List ℕ). Names found z (next x)) (sym r.2) nm) m));
+          subst (λ (z : List (List ℕ)). ArePlacesOf found (get_or z place []) rs) (sym (reads n x e))
+          (moves_name found (any x) (get_or rows n []) (next x) place rs (subst (λ (z : List ℕ). ArePlacesOf found z (next x)) (sym r.2) nm) m));
     }

@@ -1,9 +1,11 @@
 -- What is found grows item by item.
-use Rattle.std.proofs.Common.{◌≡◌, ◌≢◌, ◌⊎◌, inl, inr, ℕ, ◌<◌, ◌≤◌, Bool, true, false, List, [], ◌∷◌, ◌++◌, length, refl, sym, ap, ◌∙◌, subst, arith, ◌+◌, suc, zero, Some, slice_get, get_or, take, drop, length-append, map, ◌||◌}
+use Rattle.std.proofs.Common.{◌≡◌, ◌≢◌, ◌⊎◌, inl, inr, ℕ, ◌<◌, ◌≤◌, Bool, true, false, List, [], ◌∷◌, ◌++◌, length, refl, sym, ap, ◌∙◌, subst, arith, ◌+◌, suc, zero, Some, slice_get, get_or, take}
+use Rattle.std.proofs.Common.{drop, length-append, map, ◌||◌}
 use Rattle.std.specs.List.{list_any}
 use Rattle.std.proofs.lemmas.Option.{none-some, same_Some}
-use Rattle.rs_graph.specs.Lists.{Among, Once, Names}
-use Rattle.rs_graph.specs.Discovery.{Reached, Begin, Step, Numbered, NoMore, Known, New, Worked, AllDone, Next, IsDiscovery, MoreThan, Adds, Grown, Growing}
+use Rattle.rs_graph.specs.Lists.{Among, ArePlacesOf}
+use Rattle.rs_graph.specs.Order.{Once, Numbered, NoMore, Known, New, Worked, AllDone, Next}
+use Rattle.rs_graph.specs.Discovery.{Reached, Begin, Step, IsDiscovery, MoreThan, Adds, AreNamed, Grown, Growing, IsNamed}
 
 pub drop_here : {A : Type 0} (xs : List A) (k : ℕ) (x : A) → slice_get xs k ≡ Some x → drop k xs ≡ x ∷ drop (k + 1) xs
 drop_here [] k x g = absurd (none-some x g)
@@ -31,19 +33,19 @@ at_short [] i x e = absurd cc
 at_short (y ∷ ys) zero x e = omega arith
 at_short (y ∷ ys) (suc i) x e = let k = at_short ys i x e in omega arith
 
-names-have : {X : Type 0} (found : List X) (ns : List ℕ) (ys : List X) → Names found ns ys → (y : X) → Among ys y → Among found y
-names-have found [] [] h y k = elim k [ ]
-names-have found [] (z ∷ ys) h y k = elim h [ ]
-names-have found (n ∷ ns) [] h y k = elim k [ ]
-names-have found (n ∷ ns) (z ∷ ys) h y (inl e) = in_at found n y (h.0 ∙ ap Some e)
-names-have found (n ∷ ns) (z ∷ ys) h y (inr k) = names-have found ns ys h.1 y k
+names_have : {X : Type 0} (found : List X) (ns : List ℕ) (ys : List X) → ArePlacesOf found ns ys → (y : X) → Among ys y → Among found y
+names_have found [] [] h y k = elim k [ ]
+names_have found [] (z ∷ ys) h y k = elim h [ ]
+names_have found (n ∷ ns) [] h y k = elim k [ ]
+names_have found (n ∷ ns) (z ∷ ys) h y (inl e) = in_at found n y (h.0 ∙ ap Some e)
+names_have found (n ∷ ns) (z ∷ ys) h y (inr k) = names_have found ns ys h.1 y k
 
 pub all_found : {X : Type 0} (next : X → List X) (start : X) (found : List X) (rows : List (List ℕ)) → IsDiscovery next start found rows → (x : X) → Reached next start x → Among found x
 all_found next start found rows d _ Begin = in_at found 0 start d.first
 all_found next start found rows d _ (Step x y r h) =
     let p = at_in found x (all_found next start found rows d x r) in
     let q = at_within rows p.0 (rw d.all (at_short found p.0 x p.1)) in
-    names-have found q.0 (next x) (d.names p.0 x q.0 p.1 q.1) y h
+    names_have found q.0 (next x) (d.names p.0 x q.0 p.1 q.1) y h
 
 -- a list that grows at its end
 pub push_at : {X : Type 0} (xs : List X) (y : X) (i : ℕ) (x : X) → slice_get xs i ≡ Some x → slice_get (xs ++ (y ∷ [])) i ≡ Some x
@@ -67,13 +69,7 @@ push_once xs y once new = λ i j x a b. elim (push_is xs y i x a) [
   | inr p ↦ elim (push_is xs y j x b) [ inl q ↦ absurd (new (in_at xs j y (q ∙ ap Some (sym p.1)))) | inr q ↦ p.0 ∙ sym q.0 ]
 ]
 
-pub names_grow : {X : Type 0} (found : List X) (z : X) (ns : List ℕ) (ys : List X) → Names found ns ys → Names (found ++ (z ∷ [])) ns ys
-names_grow found z [] [] h = tt
-names_grow found z [] (y ∷ ys) h = elim h [ ]
-names_grow found z (n ∷ ns) [] h = elim h [ ]
-names_grow found z (n ∷ ns) (y ∷ ys) h = (push_at found z n y h.0, names_grow found z ns ys h.1)
-
-pub names_push : {X : Type 0} (found : List X) (ns : List ℕ) (ys : List X) (n : ℕ) (y : X) → Names found ns ys → slice_get found n ≡ Some y → Names found (ns ++ (n ∷ [])) (ys ++ (y ∷ []))
+pub names_push : {X : Type 0} (found : List X) (ns : List ℕ) (ys : List X) (n : ℕ) (y : X) → ArePlacesOf found ns ys → slice_get found n ≡ Some y → ArePlacesOf found (ns ++ (n ∷ [])) (ys ++ (y ∷ []))
 names_push found [] [] n y h e = (e, tt)
 names_push found [] (z ∷ ys) n y h e = elim h [ ]
 names_push found (m ∷ ns) [] n y h e = elim h [ ]
@@ -93,36 +89,40 @@ pub worked_push : (k known mid after : ℕ) (rows : List (List ℕ)) (row : List
 worked_push k known _ after _ row (AllDone _ _) h n = Next k known after after row [] (omega arith) n (AllDone (suc k) after)
 worked_push k known mid after _ row (Next _ _ m _ r rows lt nu w) h n = Next k known m after r (rows ++ (row ∷ [])) lt nu (worked_push (suc k) m mid after rows row w (omega arith) n)
 
-pub names_kept : {X : Type 0} (old new : List X) → ((n : ℕ) (x : X) → slice_get old n ≡ Some x → slice_get new n ≡ Some x) → (ns : List ℕ) (ys : List X) → Names old ns ys → Names new ns ys
+pub names_kept : {X : Type 0} (old new : List X) → ((n : ℕ) (x : X) → slice_get old n ≡ Some x → slice_get new n ≡ Some x) → (ns : List ℕ) (ys : List X) → ArePlacesOf old ns ys → ArePlacesOf new ns ys
 names_kept old new kept [] [] h = tt
 names_kept old new kept [] (y ∷ ys) h = elim h [ ]
 names_kept old new kept (n ∷ ns) [] h = elim h [ ]
 names_kept old new kept (n ∷ ns) (y ∷ ys) h = (kept n y h.0, names_kept old new kept ns ys h.1)
 
-pub has-left : {X : Type 0} (xs ys : List X) (x : X) → Among xs x → Among (xs ++ ys) x
-has-left [] ys x h = elim h [ ]
-has-left (z ∷ xs) ys x (inl e) = inl e
-has-left (z ∷ xs) ys x (inr h) = inr (has-left xs ys x h)
+pub has_left : {X : Type 0} (xs ys : List X) (x : X) → Among xs x → Among (xs ++ ys) x
+has_left [] ys x h = elim h [ ]
+has_left (z ∷ xs) ys x (inl e) = inl e
+has_left (z ∷ xs) ys x (inr h) = inr (has_left xs ys x h)
 
-pub has-push : {X : Type 0} (xs : List X) (y x : X) → Among (xs ++ (y ∷ [])) x → Among xs x ⊎ (y ≡ x)
-has-push [] y x (inl e) = inr e
-has-push [] y x (inr h) = elim h [ ]
-has-push (z ∷ xs) y x (inl e) = inl (inl e)
-has-push (z ∷ xs) y x (inr h) = elim (has-push xs y x h) [ inl k ↦ inl (inr k) | inr e ↦ inr e ]
+pub has_push : {X : Type 0} (xs : List X) (y x : X) → Among (xs ++ (y ∷ [])) x → Among xs x ⊎ (y ≡ x)
+has_push [] y x (inl e) = inr e
+has_push [] y x (inr h) = elim h [ ]
+has_push (z ∷ xs) y x (inl e) = inl (inl e)
+has_push (z ∷ xs) y x (inr h) = elim (has_push xs y x h) [ inl k ↦ inl (inr k) | inr e ↦ inr e ]
 
-pub has-last : {X : Type 0} (xs : List X) (x : X) → Among (xs ++ (x ∷ [])) x
-has-last [] x = inl refl
-has-last (z ∷ xs) x = inr (has-last xs x)
+pub has_last : {X : Type 0} (xs : List X) (x : X) → Among (xs ++ (x ∷ [])) x
+has_last [] x = inl refl
+has_last (z ∷ xs) x = inr (has_last xs x)
 
-grown-adds : {X : Type 0} (old ys cur : List X) (y : X) (new : List X) → Grown old ys cur → Adds cur y new → Grown old (ys ++ (y ∷ [])) new
-grown-adds old ys cur y new g (inl e) = record {
+pub grown_adds : {X : Type 0} (old ys cur : List X) (y : X) (new : List X) → Grown old ys cur → Adds cur y new → Grown old (ys ++ (y ∷ [])) new
+grown_adds old ys cur y new g (inl e) = record {
   once = λ o. rw e (g.once o);
-  only = λ n x h. elim (g.only n x (rw e at h)) [ inl k ↦ inl k | inr k ↦ inr (has-left ys (y ∷ []) x k) ];
+  only = λ n x h. elim (g.only n x (rw e at h)) [ inl k ↦ inl k | inr k ↦ inr (has_left ys (y ∷ []) x k) ];
   kept = λ n x h. rw e (g.kept n x h);
 }
-grown-adds {X = X} old ys cur y new g (inr p) = record {
+grown_adds {X = X} old ys cur y new g (inr p) = record {
   once = λ o. rw p.1 (push_once cur y (g.once o) p.0);
-  only = λ n x h. elim (push_is cur y n x (rw p.1 at h)) [ inl k ↦ elim (g.only n x k) [ inl q ↦ inl q | inr q ↦ inr (has-left ys (y ∷ []) x q) ] | inr q ↦ inr (subst (λ (z : X). Among (ys ++ (y ∷ [])) z) q.1 (has-last ys y)) ];
+  only = λ n x h. elim (push_is cur y n x (rw p.1 at h)) [
+    | inl k ↦ elim (g.only n x k) [ inl q ↦ inl q | inr q ↦ inr (has_left ys (y ∷ []) x q) ]
+    | inr q ↦ inr
+        (subst (λ (z : X). Among (ys ++ (y ∷ [])) z) q.1 (has_last ys y))
+  ];
   kept = λ n x h. rw p.1 (push_at cur y n x (g.kept n x h));
 }
 
@@ -131,35 +131,45 @@ take_on [] i y e = absurd cc
 take_on {X = X} (z ∷ ys) zero y e = (let k : z ≡ y = cc in ap (λ (w : X). w ∷ []) k)
 take_on {X = X} (z ∷ ys) (suc i) y e = let k : suc i + 1 ≡ suc (i + 1) = omega arith in rw k (ap (λ (ws : List X). z ∷ ws) (take_on ys i y e))
 
-has-take : {X : Type 0} (ys : List X) (i : ℕ) (x : X) → Among (take i ys) x → Among ys x
-has-take [] zero x h = elim h [ ]
-has-take [] (suc i) x h = elim h [ ]
-has-take (y ∷ ys) zero x h = elim h [ ]
-has-take (y ∷ ys) (suc i) x (inl e) = inl e
-has-take (y ∷ ys) (suc i) x (inr h) = inr (has-take ys i x h)
+-- an item that is there, and one that isn't
+pub named_known : {X : Type 0} (old : List X) (y : X) (n : ℕ) → slice_get old n ≡ Some y → IsNamed old y old n
+named_known old y n h = record { adds = inl refl; longer = omega arith; at = h; known = λ q. at_short old n y h; fresh = λ other. absurd (other refl) }
 
-pub grown_on : {X : Type 0} (old ys cur : List X) (i : ℕ) (y : X) (new : List X) → slice_get ys i ≡ Some y → Grown old (take i ys) cur → Adds cur y new → Grown old (take (i + 1) ys) new
-grown_on old ys cur i y new h g a = rw (take_on ys i y h) (grown-adds old (take i ys) cur y new g a)
+pub named_new : {X : Type 0} (old new : List X) (y : X) (n : ℕ) → (Among old y → ⊥) → new ≡ old ++ (y ∷ []) → n ≡ length old → IsNamed old y new n
+named_new {X = X} old new y n out e l =
+    let more : length new ≡ length old + 1 = ap (λ (z : List X). length z) e ∙ length-append old (y ∷ []) in
+    record {
+      adds = inr (out, e);
+      longer = omega arith;
+      at = rw (e, l) (push_new old y);
+      known = λ q. (let b = ap (λ (z : List X). length z) q in let bad : ⊥ = omega arith in absurd bad);
+      fresh = λ q. l;
+    }
 
-pub grown_all : {X : Type 0} (old ys cur : List X) (i : ℕ) → Grown old (take i ys) cur → Grown old ys cur
-grown_all old ys cur i g = record { once = g.once; only = λ n x h. elim (g.only n x h) [ inl k ↦ inl k | inr k ↦ inr (has-take ys i x k) ]; kept = g.kept }
-
-pub grown_none : {X : Type 0} (old ys : List X) → Grown old (take 0 ys) old
-grown_none old ys = record { once = λ o. o; only = λ n x h. inl h; kept = λ n x h. h }
+pub named_none : {X : Type 0} (old : List X) → AreNamed old [] old []
+named_none old = record { grown = record { once = λ o. o; only = λ n x h. inl h; kept = λ n x h. h }; names = tt; numbered = NoMore (length old); longer = omega arith }
 
 -- one more is named
-pub named_on : {X : Type 0} (old ys cur : List X) (i : ℕ) (y : X) (n : ℕ) (row : List ℕ) (new : List X) → slice_get ys i ≡ Some y → Adds cur y new → slice_get new n ≡ Some y → (new ≡ cur → n < length cur) → ((new ≡ cur → ⊥) → n ≡ length cur)
-    → Names cur row (take i ys) → Numbered (length old) row (length cur) → Names new (row ++ (n ∷ [])) (take (i + 1) ys) × Numbered (length old) (row ++ (n ∷ [])) (length new)
-named_on {X = X} old ys cur i y n row new h (inl e) here was fresh na nu =
-    let na' : Names new row (take i ys) = subst (λ (z : List X). Names z row (take i ys)) (sym e) na in
-    let nu' : Numbered (length old) (row ++ (n ∷ [])) (length new) = subst (λ (z : List X). Numbered (length old) (row ++ (n ∷ [])) (length z)) (sym e) (numbered_known (length old) (length cur) n row nu (was e)) in
-    (rw (take_on ys i y h) (names_push new row (take i ys) n y na' here), nu')
-named_on {X = X} old ys cur i y n row new h (inr p) here was fresh na nu =
-    let l : length new ≡ suc (length cur) = ap (λ (z : List X). length z) p.1 ∙ (let k = length-append cur (y ∷ []) in omega arith) in
-    let e : n ≡ length cur = fresh (λ q. let b = ap (λ (z : List X). length z) q in let bad : ⊥ = omega arith in absurd bad) in
-    let na' : Names new row (take i ys) = names_kept cur new (λ m x k. rw p.1 (push_at cur y m x k)) row (take i ys) na in
-    let nu' : Numbered (length old) (row ++ (n ∷ [])) (suc (length cur)) = rw e (numbered_new (length old) (length cur) row nu) in
-    (rw (take_on ys i y h) (names_push new row (take i ys) n y na' here), rw l nu')
+pub named_push : {X : Type 0} (old ys cur new : List X) (y : X) (n : ℕ) (row row' : List ℕ) → AreNamed old ys cur row → IsNamed cur y new n → row' ≡ row ++ (n ∷ [])
+    → AreNamed old (ys ++ (y ∷ [])) new row'
+named_push {X = X} old ys cur new y n row row' a one er =
+    let kept : (m : ℕ) (x : X) → slice_get cur m ≡ Some x → slice_get new m ≡ Some x = λ m x k. elim one.adds [ inl e ↦ rw e k | inr p ↦ rw p.1 (push_at cur y m x k) ] in
+    rw er record {
+      grown = grown_adds old ys cur y new a.grown one.adds;
+      names = names_push new row ys n y (names_kept cur new kept row ys a.names) one.at;
+      numbered = elim one.adds [
+        | inl e ↦ (let nu = numbered_known (length old) (length cur) n row a.numbered (one.known e) in subst (λ (z : List X). Numbered (length old) (row ++ (n ∷ [])) (length z)) (sym e) nu)
+        | inr p ↦ (let l : length new ≡ suc (length cur) = ap (λ (z : List X). length z) p.1 ∙ (let k = length-append cur (y ∷ []) in omega arith) in
+            let e : n ≡ length cur = one.fresh (λ q. let b = ap (λ (z : List X). length z) q in let bad : ⊥ = omega arith in absurd bad) in
+            rw l (rw e (numbered_new (length old) (length cur) row a.numbered)))
+      ];
+      longer = (let o = a.longer in let l = one.longer in omega arith);
+    }
+
+-- one more is named, the next of these
+pub named_on : {X : Type 0} (old ys cur new : List X) (i : ℕ) (y : X) (n : ℕ) (row row' : List ℕ) → slice_get ys i ≡ Some y → AreNamed old (take i ys) cur row → IsNamed cur y new n
+    → row' ≡ row ++ (n ∷ []) → AreNamed old (take (i + 1) ys) new row'
+named_on {X = X} old ys cur new i y n row row' h a one er = subst (λ (z : List X). AreNamed old z new row') (sym (take_on ys i y h)) (named_push old (take i ys) cur new y n row row' a one er)
 
 pub growing_begin : {X : Type 0} (next : X → List X) (start : X) → Growing next start (start ∷ []) []
 growing_begin {X = X} next start = record {
@@ -171,13 +181,15 @@ growing_begin {X = X} next start = record {
   ahead = omega arith;
 }
 
-pub growing_reach : {X : Type 0} (next : X → List X) (start : X) (found : List X) (rows : List (List ℕ)) (x : X) (new : List X) → Growing next start found rows → slice_get found (length rows) ≡ Some x → Grown found (next x) new
+pub growing_reach : {X : Type 0} (next : X → List X) (start : X) (found : List X) (rows : List (List ℕ)) (x : X) (new : List X) → Growing next start found rows → slice_get found (length rows) ≡ Some x
+    → Grown found (next x) new
     → (n : ℕ) (y : X) → slice_get new n ≡ Some y → Reached next start y
 growing_reach next start found rows x new g here gr n y h = elim (gr.only n y h) [ inl k ↦ g.reached n y k | inr k ↦ Step x y (g.reached (length rows) x here) k ]
 
-pub growing_on : {X : Type 0} (next : X → List X) (start : X) (found : List X) (rows : List (List ℕ)) (x : X) (new : List X) (row : List ℕ) → Growing next start found rows → slice_get found (length rows) ≡ Some x → Grown found (next x) new
-    → Names new row (next x) → Numbered (length found) row (length new) → length found ≤ length new → Growing next start new (rows ++ (row ∷ []))
-growing_on {X = X} next start found rows x new row g here gr na nu longer = record {
+pub growing_on : {X : Type 0} (next : X → List X) (start : X) (found : List X) (rows : List (List ℕ)) (x : X) (new : List X) (row : List ℕ) → Growing next start found rows
+    → slice_get found (length rows) ≡ Some x → AreNamed found (next x) new row
+    → Growing next start new (rows ++ (row ∷ []))
+growing_on {X = X} next start found rows x new row g here named = let gr = named.grown in record {
   first = gr.kept 0 start g.first;
   once = gr.once g.once;
   reached = growing_reach next start found rows x new g here gr;
@@ -187,16 +199,17 @@ growing_on {X = X} next start found rows x new row g here gr na nu longer = reco
         names_kept found new gr.kept r (next y) (g.names k y r (y'.1 ∙ ap Some same) q))
     | inr q ↦ (let a' : slice_get new (length rows) ≡ Some y = rw q.0 at a in
         let same : x ≡ y = cc (gr.kept (length rows) x here, a') in
-        (let na1 : Names new r (next x) = subst (λ (z : List ℕ). Names new z (next x)) q.1 na in subst (λ (z : X). Names new r (next z)) same na1))
+        (let na1 : ArePlacesOf new r (next x) = subst (λ (z : List ℕ). ArePlacesOf new z (next x)) q.1 named.names in subst (λ (z : X). ArePlacesOf new r (next z)) same na1))
   ];
-  order = worked_push 0 1 (length found) (length new) rows row g.order (let k = at_short found (length rows) x here in omega arith) nu;
-  ahead = (let k = at_short found (length rows) x here in let l = length-append rows (row ∷ []) in omega arith);
+  order = worked_push 0 1 (length found) (length new) rows row g.order (let k = at_short found (length rows) x here in omega arith) named.numbered;
+  ahead = (let k = at_short found (length rows) x here in let l = length-append rows (row ∷ []) in let o = named.longer in omega arith);
 }
 
 pub growing_done : {X : Type 0} (next : X → List X) (start : X) (found : List X) (rows : List (List ℕ)) → Growing next start found rows → length found ≤ length rows → IsDiscovery next start found rows
 growing_done next start found rows g h = record { first = g.first; once = g.once; all = (let a = g.ahead in omega arith); names = g.names; reached = g.reached; order = g.order }
 
-pub growing_large : {X : Type 0} (next : X → List X) (start : X) (found : List X) (rows : List (List ℕ)) (x : X) (limit : ℕ) (new : List X) → Growing next start found rows → slice_get found (length rows) ≡ Some x → Grown found (next x) new
+pub growing_large : {X : Type 0} (next : X → List X) (start : X) (found : List X) (rows : List (List ℕ)) (x : X) (limit : ℕ) (new : List X) → Growing next start found rows
+    → slice_get found (length rows) ≡ Some x → Grown found (next x) new
     → limit < length new → MoreThan limit next start
 growing_large next start found rows x limit new g here gr h = record { some = new; once = gr.once g.once; reached = growing_reach next start found rows x new g here gr; many = h }
 
@@ -211,32 +224,33 @@ cut k [] = []
 cut zero (y ∷ ys) = ys
 cut (suc k) (y ∷ ys) = y ∷ cut k ys
 
-cut-length : {X : Type 0} (ys : List X) (k : ℕ) (x : X) → slice_get ys k ≡ Some x → length ys ≡ suc (length (cut k ys))
-cut-length [] k x e = absurd cc
-cut-length (y ∷ ys) zero x e = refl
-cut-length (y ∷ ys) (suc k) x e = let r = cut-length ys k x e in omega arith
+cut_length : {X : Type 0} (ys : List X) (k : ℕ) (x : X) → slice_get ys k ≡ Some x → length ys ≡ suc (length (cut k ys))
+cut_length [] k x e = absurd cc
+cut_length (y ∷ ys) zero x e = refl
+cut_length (y ∷ ys) (suc k) x e = let r = cut_length ys k x e in omega arith
 
-cut-has : {X : Type 0} (ys : List X) (k j : ℕ) (z : X) → slice_get ys j ≡ Some z → j ≢ k → Among (cut k ys) z
-cut-has [] k j z e ne = absurd cc
-cut-has (y ∷ ys) zero zero z e ne = absurd (ne refl)
-cut-has (y ∷ ys) zero (suc j) z e ne = in_at ys j z e
-cut-has (y ∷ ys) (suc k) zero z e ne = inl cc
-cut-has (y ∷ ys) (suc k) (suc j) z e ne = inr (cut-has ys k j z e (λ q. ne (omega arith)))
+cut_has : {X : Type 0} (ys : List X) (k j : ℕ) (z : X) → slice_get ys j ≡ Some z → j ≢ k → Among (cut k ys) z
+cut_has [] k j z e ne = absurd cc
+cut_has (y ∷ ys) zero zero z e ne = absurd (ne refl)
+cut_has (y ∷ ys) zero (suc j) z e ne = in_at ys j z e
+cut_has (y ∷ ys) (suc k) zero z e ne = inl cc
+cut_has (y ∷ ys) (suc k) (suc j) z e ne = inr (cut_has ys k j z e (λ q. ne (omega arith)))
 
 pub no_more : {X : Type 0} (xs ys : List X) → Once xs → ((x : X) → Among xs x → Among ys x) → length xs ≤ length ys
 no_more [] ys once all = omega arith
 no_more {X = X} (x ∷ xs) ys once all =
     let p = at_in ys x (all x (inl refl)) in
-    let l = cut-length ys p.0 x p.1 in
+    let l = cut_length ys p.0 x p.1 in
     let k = no_more xs (cut p.0 ys) (λ i j z a b. let e = once (suc i) (suc j) z a b in omega arith)
-    (λ z m. let q = at_in ys z (all z (inr m)) in cut-has ys p.0 q.0 z q.1 (λ e. let s = at_in xs z m in
+    (λ z m. let q = at_in ys z (all z (inr m)) in cut_has ys p.0 q.0 z q.1 (λ e. let s = at_in xs z m in
     let q' : slice_get ys p.0 ≡ Some z = subst (λ (w : ℕ). slice_get ys w ≡ Some z) e q.1 in
     let same : x ≡ z = cc (p.1, q') in
     let bad = once zero (suc s.0) x refl (s.1 ∙ ap Some (sym same)) in let no : ⊥ = omega arith in no)) in
     omega arith
 
 -- found whole and more than the limit can't both be
-pub not_both : {X : Type 0} (next : X → List X) (start : X) (found : List X) (rows : List (List ℕ)) (limit : ℕ) → IsDiscovery next start found rows → length found ≤ limit → MoreThan limit next start → ⊥
+pub not_both : {X : Type 0} (next : X → List X) (start : X) (found : List X) (rows : List (List ℕ)) (limit : ℕ) → IsDiscovery next start found rows → length found ≤ limit → MoreThan limit next start
+    → ⊥
 not_both next start found rows limit d few m =
     let k = no_more m.some found m.once (λ x h. let p = at_in m.some x h in all_found next start found rows d x (m.reached p.0 x p.1)) in
     let b = m.many in let bad : ⊥ = omega arith in bad
@@ -250,36 +264,35 @@ take_kept {X = X} old new (suc k) kept h =
     let e : k + 1 ≡ suc k = omega arith in
     rw (← e) (take_on new k p.0 (kept k p.0 p.1) ∙ ap (λ (z : List X). z ++ (p.0 ∷ [])) r ∙ sym (take_on old k p.0 p.1))
 
-take-next : {X : Type 0} (old new : List X) (k : ℕ) (x : X) → ((j : ℕ) (y : X) → slice_get old j ≡ Some y → slice_get new j ≡ Some y) → slice_get old k ≡ Some x → take (k + 1) new ≡ take k old ++ (x ∷ [])
-take-next {X = X} old new k x kept g = take_on new k x (kept k x g) ∙ ap (λ (z : List X). z ++ (x ∷ [])) (take_kept old new k kept (let a = at_short old k x g in omega arith))
+take_next : {X : Type 0} (old new : List X) (k : ℕ) (x : X) → ((j : ℕ) (y : X) → slice_get old j ≡ Some y → slice_get new j ≡ Some y) → slice_get old k ≡ Some x
+    → take (k + 1) new ≡ take k old ++ (x ∷ [])
+take_next {X = X} old new k x kept g = take_on new k x (kept k x g) ∙ ap (λ (z : List X). z ++ (x ∷ [])) (take_kept old new k kept (let a = at_short old k x g in omega arith))
 
-map-append : {X Y : Type 0} (f : X → Y) (xs ys : List X) → map f (xs ++ ys) ≡ map f xs ++ map f ys
-map-append f [] ys = refl
-map-append {X = X} {Y = Y} f (x ∷ xs) ys = ap (λ (z : List Y). f x ∷ z) (map-append f xs ys)
+map_append : {X Y : Type 0} (f : X → Y) (xs ys : List X) → map f (xs ++ ys) ≡ map f xs ++ map f ys
+map_append f [] ys = refl
+map_append {X = X} {Y = Y} f (x ∷ xs) ys = ap (λ (z : List Y). f x ∷ z) (map_append f xs ys)
 
-pub map_next : {X Y : Type 0} (f : X → Y) (old new : List X) (k m : ℕ) (x : X) (ys ys' : List Y) (y : Y) → ((j : ℕ) (z : X) → slice_get old j ≡ Some z → slice_get new j ≡ Some z) → slice_get old k ≡ Some x
+pub map_next : {X Y : Type 0} (f : X → Y) (old new : List X) (k m : ℕ) (x : X) (ys ys' : List Y) (y : Y) → ((j : ℕ) (z : X) → slice_get old j ≡ Some z → slice_get new j ≡ Some z)
+    → slice_get old k ≡ Some x
     → m ≡ k + 1 → ys ≡ map f (take k old) → y ≡ f x → ys' ≡ ys ++ (y ∷ []) → ys' ≡ map f (take m new)
 map_next {X = X} {Y = Y} f old new k m x ys ys' y kept g em e ey e' =
-    let t : take m new ≡ take k old ++ (x ∷ []) = ap (λ (z : ℕ). take z new) em ∙ take-next old new k x kept g in
-    e' ∙ ap (λ (z : List Y). z ++ (y ∷ [])) e ∙ ap (λ (z : Y). map f (take k old) ++ (z ∷ [])) ey ∙ sym (ap (map f) t ∙ map-append f (take k old) (x ∷ []))
+    let t : take m new ≡ take k old ++ (x ∷ []) = ap (λ (z : ℕ). take z new) em ∙ take_next old new k x kept g in
+    e' ∙ ap (λ (z : List Y). z ++ (y ∷ [])) e ∙ ap (λ (z : Y). map f (take k old) ++ (z ∷ [])) ey ∙ sym (ap (map f) t ∙ map_append f (take k old) (x ∷ []))
 
-or-false : (b : Bool) → (b || false) ≡ b
-or-false true = refl
-or-false false = refl
+or_false : (b : Bool) → (b || false) ≡ b
+or_false true = refl
+or_false false = refl
 
-or-assoc : (a b c : Bool) → (a || (b || c)) ≡ ((a || b) || c)
-or-assoc true b c = refl
-or-assoc false b c = refl
+or_assoc : (a b c : Bool) → (a || (b || c)) ≡ ((a || b) || c)
+or_assoc true b c = refl
+or_assoc false b c = refl
 
-any-push : {X : Type 0} (f : X → Bool) (xs : List X) (x : X) → list_any f (xs ++ (x ∷ [])) ≡ (list_any f xs || f x)
-any-push f [] x = or-false (f x)
-any-push f (y ∷ xs) x = ap (λ (b : Bool). f y || b) (any-push f xs x) ∙ or-assoc (f y) (list_any f xs) (f x)
+any_push : {X : Type 0} (f : X → Bool) (xs : List X) (x : X) → list_any f (xs ++ (x ∷ [])) ≡ (list_any f xs || f x)
+any_push f [] x = or_false (f x)
+any_push f (y ∷ xs) x = ap (λ (b : Bool). f y || b) (any_push f xs x) ∙ or_assoc (f y) (list_any f xs) (f x)
 
 pub any_next : {X : Type 0} (f : X → Bool) (old new : List X) (k m : ℕ) (x : X) (a b c : Bool) → ((j : ℕ) (z : X) → slice_get old j ≡ Some z → slice_get new j ≡ Some z) → slice_get old k ≡ Some x
     → m ≡ k + 1 → a ≡ list_any f (take k old) → b ≡ f x → c ≡ (a || b) → c ≡ list_any f (take m new)
 any_next {X = X} f old new k m x a b c kept g em ea eb ec =
-    let t : take m new ≡ take k old ++ (x ∷ []) = ap (λ (z : ℕ). take z new) em ∙ take-next old new k x kept g in
-    rw (ec, ea, eb) (sym (ap (list_any f) t ∙ any-push f (take k old) x))
-
-pub push_new_at : (xs ys : List ℕ) (y n : ℕ) → ys ≡ xs ++ (y ∷ []) → n ≡ length xs → slice_get ys n ≡ Some y
-push_new_at xs ys y n e k = rw (e, k) (push_new xs y)
+    let t : take m new ≡ take k old ++ (x ∷ []) = ap (λ (z : ℕ). take z new) em ∙ take_next old new k x kept g in
+    rw (ec, ea, eb) (sym (ap (list_any f) t ∙ any_push f (take k old) x))

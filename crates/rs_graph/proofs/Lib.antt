@@ -5,6 +5,7 @@ pub mod Endless
 pub mod Following
 pub mod Growth
 pub mod Kept
+pub mod Numbering
 pub mod Placing
 pub mod Ranking
 pub mod Removed

@@ -4,9 +4,14 @@ use Rattle.std.proofs.lemmas.Bool.{cases_lt}
 use Rattle.std.proofs.lemmas.List.{get_or-set_same, get_or-set_other, length-set, get_or_past}
 use Rattle.rs_graph.specs.Lists.{Among}
 use Rattle.rs_graph.specs.Ranks.{Edge, RankFits, IsOrdered, Ranked}
-use Rattle.rs_graph.specs.Walks.{Walk, Here, Further, IsRank, IsOnCycle, RanksFit}
+use Rattle.rs_graph.specs.Walks.{Walk, Here, Further, IsRank, IsOnCycle}
 use Rattle.rs_graph.proofs.Buckets.{got, place_in}
 use Rattle.rs_graph.proofs.Growth.{at_in, at_short}
+
+-- the rank falls on each step, and by one on some step unless it is 0
+pub record RanksFit (E : ℕ → ℕ → Type 0) (rank : ℕ → ℕ) : Type 0 where
+  pub falls : (i j : ℕ) → E i j → rank j < rank i
+  pub tight : (i : ℕ) → (rank i ≡ 0) ⊎ ((j : ℕ) × E i j × (rank i ≡ suc (rank j)))
 
 -- no walk is longer than the rank
 pub at_most : (E : ℕ → ℕ → Type 0) (rank : ℕ → ℕ) → RanksFit E rank → (i n k : ℕ) → Walk E i n k → n ≤ rank i
@@ -29,7 +34,7 @@ back : (rows : List (List ℕ)) (order : List ℕ) → IsOrdered rows order → 
 back rows order o i v _ _ is (Here _) = (i, is, omega arith)
 back rows order o i v _ k is (Further _ j _ n e w) =
     let b = o.ends i v j is e in
-    let r = back rows order o b.index j n k b.is w in
+    let r = back rows order o b.index j n k b.stands w in
     (r.0, r.1, (let a = r.2 in let c = b.early in omega arith))
 
 -- so it is on no cycle
@@ -40,15 +45,21 @@ no_cycle rows order o i v is c =
     let a = r.2 in let bad : ⊥ = omega arith in bad
 
 -- one more is ranked
-pub ranked_on : (rows : List (List ℕ)) (order ranks : List ℕ) (i n rank : ℕ) → IsOrdered rows order → slice_get order i ≡ Some n → Ranked rows order ranks i → RankFits (get_or rows n []) ranks rank → rank ≤ i → Ranked rows order (set ranks n rank) (i + 1)
+pub ranked_on : (rows : List (List ℕ)) (order ranks : List ℕ) (i n rank : ℕ) → IsOrdered rows order → slice_get order i ≡ Some n → Ranked rows order ranks i → RankFits (get_or rows n []) ranks rank
+    → rank ≤ i → Ranked rows order (set ranks n rank) (i + 1)
 ranked_on rows order ranks i n rank o is r f low =
     let inn : n < length ranks = (let a = o.within i n is in let b = r.size in omega arith) in
     let here : get_or (set ranks n rank) n 0 ≡ rank = get_or-set_same ranks n rank 0 inn in
     let other : (x : ℕ) → x ≢ n → get_or (set ranks n rank) x 0 ≡ get_or ranks x 0 = λ x ne. get_or-set_other ranks n x rank 0 ne in
     let apart : (k x : ℕ) → k < i → slice_get order k ≡ Some x → x ≢ n = λ k x lt g e. (let q = o.once k i n (g ∙ ap Some e) is in let bad : ⊥ = omega arith in bad) in
-    let kept : (m rank' : ℕ) → (k : ℕ) → k ≤ i → slice_get order k ≡ Some m → RankFits (get_or rows m []) ranks rank' → RankFits (get_or rows m []) (set ranks n rank) rank' = λ m rank' k le g q. record {
-      falls = λ j h. (let b = o.ends k m j g h in let e = other j (apart b.index j (let c = b.early in omega arith) b.is) in let a = q.falls j h in omega arith);
-      tight = (elim q.tight [ inl z ↦ inl z | inr p ↦ (let b = o.ends k m p.0 g p.1 in let e = other p.0 (apart b.index p.0 (let c = b.early in omega arith) b.is) in inr (p.0, p.1, (let a = p.2 in omega arith))) ]);
+    let kept : (m rank' : ℕ) → (k : ℕ) → k ≤ i → slice_get order k ≡ Some m → RankFits (get_or rows m []) ranks rank' → RankFits (get_or rows m []) (set ranks n rank) rank'
+    = λ m rank' k le g q. record {
+      falls = λ j h. (let b = o.ends k m j g h in let e = other j (apart b.index j (let c = b.early in omega arith) b.stands) in let a = q.falls j h in omega arith);
+      tight = (elim q.tight [
+        | inl z ↦ inl z
+        | inr p ↦
+            (let b = o.ends k m p.0 g p.1 in let e = other p.0 (apart b.index p.0 (let c = b.early in omega arith) b.stands) in inr (p.0, p.1, (let a = p.2 in omega arith)))
+      ]);
     } in
     record {
       size = length-set ranks n rank ∙ r.size;
@@ -70,17 +81,18 @@ pub ranked_none : (rows : List (List ℕ)) (order ranks : List ℕ) → length r
 ranked_none rows order ranks e = record { size = e; fits = λ i n lt g. (let bad : ⊥ = omega arith in absurd bad); low = λ i n lt g. (let bad : ⊥ = omega arith in absurd bad) }
 
 -- where all are in the order the ranks are right
-pub all_ranked : (rows : List (List ℕ)) (order ranks : List ℕ) → IsOrdered rows order → Ranked rows order ranks (length order) → ((n : ℕ) → n < length rows → Among order n) → RanksFit (Edge rows) (λ n. get_or ranks n 0)
+pub all_ranked : (rows : List (List ℕ)) (order ranks : List ℕ) → IsOrdered rows order → Ranked rows order ranks (length order) → ((n : ℕ) → n < length rows → Among order n)
+    → RanksFit (Edge rows) (λ n. get_or ranks n 0)
 all_ranked rows order ranks o r all = record {
-  falls = λ i j e. (let p = at_in order i (all i (edge-within i j e)) in (r.fits p.0 i (at_short order p.0 i p.1) p.1).falls j e);
+  falls = λ i j e. (let p = at_in order i (all i (edge_within_shown i j e)) in (r.fits p.0 i (at_short order p.0 i p.1) p.1).falls j e);
   tight = λ i. elim (cases_lt i (length rows)) [
     | inl a ↦ (let p = at_in order i (all i a) in (r.fits p.0 i (at_short order p.0 i p.1) p.1).tight)
     | inr a ↦ inl (get_or_past ranks i 0 (let b = r.size in omega arith))
   ];
 }
   where
-    edge-within : (i j : ℕ) → Edge rows i j → i < length rows
-    edge-within i j e = elim (cases_lt i (length rows)) [ inl a ↦ a | inr a ↦ (let z = get_or_past rows i [] a in let bad : Among [] j = subst (λ (w : List ℕ). Among w j) z e in absurd bad) ]
+    edge_within_shown : (i j : ℕ) → Edge rows i j → i < length rows
+    edge_within_shown i j e = elim (cases_lt i (length rows)) [ inl a ↦ a | inr a ↦ (let z = get_or_past rows i [] a in let bad : Among [] j = subst (λ (w : List ℕ). Among w j) z e in absurd bad) ]
 
 -- the greatest of a row so far
 pub record Topped (row : List ℕ) (ranks : List ℕ) (rank : ℕ) (count : ℕ) : Type 0 where
@@ -92,7 +104,11 @@ topped_none row ranks = record { falls = λ k lt. (let bad : ⊥ = omega arith i
 
 pub topped_on : (row ranks : List ℕ) (rank i : ℕ) → Topped row ranks rank i → Topped row ranks (max rank (get_or ranks (get_or row i 0) 0 + 1)) (i + 1)
 topped_on row ranks rank i t = record {
-  falls = λ k lt. (elim (cases_lt k i) [ inl a ↦ (let b = t.falls k a in omega arith) | inr a ↦ (let e : i ≡ k = omega arith in subst (λ (z : ℕ). get_or ranks (get_or row z 0) 0 < max rank (get_or ranks (get_or row i 0) 0 + 1)) e (omega arith)) ]);
+  falls = λ k lt. (elim (cases_lt k i) [
+    | inl a ↦ (let b = t.falls k a in omega arith)
+    | inr a ↦
+        (let e : i ≡ k = omega arith in subst (λ (z : ℕ). get_or ranks (get_or row z 0) 0 < max rank (get_or ranks (get_or row i 0) 0 + 1)) e (omega arith))
+  ]);
   tight = (elim (cases_lt rank (get_or ranks (get_or row i 0) 0 + 1)) [
     | inl a ↦ inr (i, (omega arith), (omega arith))
     | inr a ↦ (let m : max rank (get_or ranks (get_or row i 0) 0 + 1) ≡ rank = omega arith in elim t.tight [ inl z ↦ inl (m ∙ z) | inr p ↦ inr (p.0, (let b = p.1 in omega arith), m ∙ p.2) ])

@@ -2,6 +2,7 @@ pub mod Built
 pub mod Discovery
 pub mod Graphs
 pub mod Lists
+pub mod Order
 pub mod Paths
 pub mod Places
 pub mod Ranks

@@ -4,12 +4,12 @@ use Rattle.std.specs.List.{sum_by}
 use Rattle.rs_graph.specs.Lists.{Among}
 use Rattle.rs_graph.specs.Ranks.{Edge}
 use Rattle.rs_graph.specs.Walks.{Walk, IsOnCycle}
-use Rattle.rs_graph.specs.declared.cycles.Mark.{Mark}
-use Rattle.rs_graph.specs.declared.cycles.Mark.TheVariants.{Ahead, On, Known}
-use Rattle.rs_graph.specs.declared.cycles.Part.{Part}
+use Rattle.rs_graph.specs.declared.cycles.NodeMark.{NodeMark}
+use Rattle.rs_graph.specs.declared.cycles.NodeMark.TheVariants.{Ahead, On, Known}
+use Rattle.rs_graph.specs.declared.cycles.PathPart.{PathPart}
 
 -- of the node it is known whether it is on a cycle
-abbrev pub CycleIsKnown : List Mark → ℕ → Type 0
+abbrev pub CycleIsKnown : List NodeMark → ℕ → Type 0
 CycleIsKnown marks x = (round : Bool) × (slice_get marks x ≡ Some (Known round))
 
 -- a part of the path: its nodes, and their edges that are still to be looked at
@@ -29,13 +29,13 @@ edges_of [] = []
 edges_of (l ∷ ls) = edges_of ls ++ l.edges
 
 -- where each part begins among the nodes and among these edges, and whether it goes round
-abbrev pub parts_of : List Layer → List Part
+abbrev pub parts_of : List Layer → List PathPart
 parts_of [] = []
 parts_of (l ∷ ls) = parts_of ls ++ (record { start = length (path_of ls); edges = length (edges_of ls); round = l.round } ∷ [])
 
 -- the nodes of a part are reached from those before it; they lead to each other where it goes round, else it is one node;
 -- and each of their edges leads to a known node, is still to be looked at, or stays in a part that goes round
-pub record LayerFits (rows : List (List ℕ)) (marks : List Mark) (lower nodes edges : List ℕ) (round : Bool) : Type 0 where
+pub record LayerFits (rows : List (List ℕ)) (marks : List NodeMark) (lower nodes edges : List ℕ) (round : Bool) : Type 0 where
   pub first : (x : ℕ) × Among nodes x
   pub reached : (x y : ℕ) → Among lower x → Among nodes y → (n : ℕ) × Walk (Edge rows) x n y
   pub around : round ≡ true → (x y : ℕ) → Among nodes x → Among nodes y → (n : ℕ) × Walk (Edge rows) x (suc n) y
@@ -44,12 +44,12 @@ pub record LayerFits (rows : List (List ℕ)) (marks : List Mark) (lower nodes e
   pub told : (x y : ℕ) → Among nodes x → Edge rows x y → CycleIsKnown marks y ⊎ (Among edges y ⊎ (Among nodes y × (round ≡ true)))
 
 -- each part fits behind those before it
-abbrev pub AllFit : List (List ℕ) → List Mark → List Layer → Type 0
+abbrev pub AllFit : List (List ℕ) → List NodeMark → List Layer → Type 0
 AllFit rows marks [] = Unit {0}
 AllFit rows marks (l ∷ ls) = LayerFits rows marks (path_of ls) l.nodes l.edges l.round × AllFit rows marks ls
 
 -- what is known is right, and is closed; nodes on the path know their places
-pub record AreRight (rows : List (List ℕ)) (marks : List Mark) (path : List ℕ) : Type 0 where
+pub record AreRight (rows : List (List ℕ)) (marks : List NodeMark) (path : List ℕ) : Type 0 where
   pub size : length marks ≡ length rows
   pub to : (i x : ℕ) → slice_get path i ≡ Some x → slice_get marks x ≡ Some (On i)
   pub from : (x i : ℕ) → slice_get marks x ≡ Some (On i) → slice_get path i ≡ Some x
@@ -58,7 +58,7 @@ pub record AreRight (rows : List (List ℕ)) (marks : List Mark) (path : List �
   pub not : (x : ℕ) → slice_get marks x ≡ Some (Known false) → IsOnCycle (Edge rows) x → ⊥
 
 -- as far as the search has come
-pub record Searching (rows : List (List ℕ)) (marks : List Mark) (path edges : List ℕ) (parts : List Part) : Type 0 where
+pub record Searching (rows : List (List ℕ)) (marks : List NodeMark) (path edges : List ℕ) (parts : List PathPart) : Type 0 where
   pub layers : List Layer
   pub path_is : path ≡ path_of layers
   pub edges_is : edges ≡ edges_of layers
@@ -66,8 +66,13 @@ pub record Searching (rows : List (List ℕ)) (marks : List Mark) (path edges : 
   pub fit : AllFit rows marks layers
   pub right : AreRight rows marks path
 
+-- the search rests between two nodes: no path is followed
+pub record Resting (rows : List (List ℕ)) (marks : List NodeMark) (path edges : List ℕ) (parts : List PathPart) : Type 0 where
+  pub searching : Searching rows marks path edges parts
+  pub none : path ≡ []
+
 -- the last part is taken off the path: it stands from that place of the path and of the edges on
-pub record Splits (rows : List (List ℕ)) (marks : List Mark) (path edges : List ℕ) (parts : List Part) (start from : ℕ) : Type 0 where
+pub record Splits (rows : List (List ℕ)) (marks : List NodeMark) (path edges : List ℕ) (parts : List PathPart) (start from : ℕ) : Type 0 where
   pub nodes : List ℕ
   pub last : List ℕ
   pub layers : List Layer
@@ -78,13 +83,13 @@ pub record Splits (rows : List (List ℕ)) (marks : List Mark) (path edges : Lis
   pub from_is : from ≡ length (edges_of layers)
   pub fit : AllFit rows marks layers
 
--- .. as a part of its own
-pub record TakenOff (rows : List (List ℕ)) (marks : List Mark) (path edges : List ℕ) (parts : List Part) (part : Part) : Type 0 where
+-- the part was taken off the path, and fits behind what is left of it
+pub record TakenOff (rows : List (List ℕ)) (marks : List NodeMark) (path edges : List ℕ) (parts : List PathPart) (part : PathPart) : Type 0 where
   pub splits : Splits rows marks path edges parts part.start part.edges
   pub here : LayerFits rows marks (path_of splits.layers) splits.nodes splits.last part.round
 
--- .. or as several, which are joined: all their nodes lead to y, an edge of theirs, and from there to each other where y is one of them
-pub record Joining (rows : List (List ℕ)) (marks : List Mark) (path edges : List ℕ) (parts : List Part) (start from y : ℕ) : Type 0 where
+-- several parts were taken off the path, to be joined: all their nodes lead to y, an edge of theirs, and from there to each other where y is one of them
+pub record Joining (rows : List (List ℕ)) (marks : List NodeMark) (path edges : List ℕ) (parts : List PathPart) (start from y : ℕ) : Type 0 where
   pub splits : Splits rows marks path edges parts start from
   pub first : (x : ℕ) × Among splits.nodes x
   pub reached : (x z : ℕ) → Among (path_of splits.layers) x → Among splits.nodes z → (n : ℕ) × Walk (Edge rows) x n z
@@ -94,7 +99,7 @@ pub record Joining (rows : List (List ℕ)) (marks : List Mark) (path edges : Li
   pub opens : Among splits.nodes y → (z : ℕ) → Among splits.nodes z → (n : ℕ) × Walk (Edge rows) y n z
 
 -- some of the last nodes of the path have left it, and are known
-pub record Leaving (old : List Mark) (from : List ℕ) (marks : List Mark) (path : List ℕ) (round : Bool) : Type 0 where
+pub record Leaving (old : List NodeMark) (from : List ℕ) (marks : List NodeMark) (path : List ℕ) (round : Bool) : Type 0 where
   pub left : List ℕ
   pub whole : from ≡ path ++ left
   pub size : length marks ≡ length old
@@ -102,16 +107,16 @@ pub record Leaving (old : List Mark) (from : List ℕ) (marks : List Mark) (path
   pub off : (x : ℕ) → (Among left x → ⊥) → slice_get marks x ≡ slice_get old x
 
 -- so many nodes weren't come to yet
-abbrev pub ahead : List Mark → ℕ
+abbrev pub ahead : List NodeMark → ℕ
 ahead [] = 0
 ahead (Ahead ∷ marks) = suc (ahead marks)
 ahead (On place ∷ marks) = ahead marks
 ahead (Known round ∷ marks) = ahead marks
 
 -- what is still to be done at most
-abbrev pub to_do : List (List ℕ) → List Mark → List ℕ → List Part → ℕ
+abbrev pub to_do : List (List ℕ) → List NodeMark → List ℕ → List PathPart → ℕ
 to_do rows marks edges parts = ahead marks * (sum_by (λ (row : List ℕ). length row) rows + 2) + length edges + length parts
 
 -- no node is ahead that wasn't
-abbrev pub NoneMoreAhead : List Mark → List Mark → Type 0
+abbrev pub NoneMoreAhead : List NodeMark → List NodeMark → Type 0
 NoneMoreAhead old new = (x : ℕ) → slice_get new x ≡ Some Ahead → slice_get old x ≡ Some Ahead

@@ -1,6 +1,7 @@
 -- Believed: ranks over the rows of a graph, along an order in which each number stands behind all that its row leads to.
 use Rattle.std.specs.Prelude.{◌≡◌, ◌⊎◌, ℕ, suc, ◌<◌, ◌≤◌, List, [], length, Some, slice_get, slice_index_or}
-use Rattle.rs_graph.specs.Lists.{Among, Once}
+use Rattle.rs_graph.specs.Lists.{Among}
+use Rattle.rs_graph.specs.Order.{Once}
 
 -- the row of i leads to j
 abbrev pub Edge : List (List ℕ) → ℕ → ℕ → Type 0
@@ -9,7 +10,7 @@ Edge rows i j = Among (slice_index_or rows i []) j
 -- a number stands in the order before that place
 pub record Earlier (order : List ℕ) (n before : ℕ) : Type 0 where
   pub index : ℕ
-  pub is : slice_get order index ≡ Some n
+  pub stands : slice_get order index ≡ Some n
   pub early : index < before
 
 -- the order has numbers of rows, each once, and each behind all that its row leads to

@@ -1,7 +1,8 @@
 -- Believed: the removal of nodes that have no move left: a graph whose nodes have moves, and of each move the results.
 use Rattle.std.specs.Prelude.{◌≡◌, ◌⊎◌, ℕ, suc, ◌+◌, ◌<◌, ◌≤◌, Bool, true, false, List, [], ◌∷◌, length, map, replicate, ◌==◌, if◌then◌else◌, Some, slice_get, slice_index_or}
 use Rattle.std.specs.List.{sum_by}
-use Rattle.rs_graph.specs.Lists.{Among, Once}
+use Rattle.rs_graph.specs.Lists.{Among}
+use Rattle.rs_graph.specs.Order.{Once}
 use Rattle.rs_graph.specs.declared.graph.Move.{Move}
 
 -- how many moves the node has
@@ -32,7 +33,7 @@ pub record Behind (outs : List (List (List ℕ))) (order : List ℕ) (n place be
   pub result : ℕ
   pub leads : Leads outs n place result
   pub index : ℕ
-  pub is : slice_get order index ≡ Some result
+  pub stands : slice_get order index ≡ Some result
   pub early : index < before
 
 -- the nodes that are removed, in an order in which each move of a removed node has a result that was removed before; and for each other node its first move whose results all stay
@@ -45,6 +46,12 @@ pub record IsRemoval (outs : List (List (List ℕ))) (current order : List ℕ) 
   pub ordered : (i n place : ℕ) → slice_get order i ≡ Some n → place < moves_at outs n → Behind outs order n place i
   pub listed : (n : ℕ) → n < length outs → at current n ≡ moves_at outs n → Among order n
   pub once : Once order
+
+-- node 0 stays, and nodes that stay lead only to such, by the moves at which they stay
+pub record AreLeft (outs : List (List (List ℕ))) (current : List ℕ) : Type 0 where
+  pub size : length current ≡ length outs
+  pub start : at current 0 < moves_at outs 0
+  pub closed : (n r : ℕ) → at current n < moves_at outs n → Leads outs n (at current n) r → at current r < moves_at outs r
 
 -- the flag of the move
 abbrev pub is_lost : List (List Bool) → ℕ → ℕ → Bool
@@ -83,7 +90,7 @@ abbrev pub whole : List (List Move) → ℕ
 whole intos = sum_by (λ (row : List Move). suc (length row)) intos
 
 -- the next move of a node from a place on that isn't lost, or the number of its moves
-pub record Next (flags : List Bool) (start next : ℕ) : Type 0 where
+pub record IsNextMove (flags : List Bool) (start next : ℕ) : Type 0 where
   pub most : next ≤ length flags
   pub unlost : next < length flags → slice_index_or flags next false ≡ false
   pub past : (place : ℕ) → start ≤ place → place < next → slice_index_or flags place false ≡ true

@@ -5,15 +5,15 @@ ghost use Rattle.rs_graph.specs.Removal.{IsInto};
 ghost use Rattle.rs_graph.specs.Built.{IsBuilt, IsFilled};
 ghost use Rattle.rs_graph.specs.Graphs.{moves_of};
 
-use crate::graph::{Graph, Row};
+use crate::graph::{Graph, NodeRow};
 use rs_model::NoMemory;
 use std::alloc::Global;
 
 // Gives the node a move for each number.
 fn fill_any(graph: &mut Graph, node: u32, row: &[u32]) -> Result<(), NoMemory>
-    requires there { node < length graph.old.outs }
+    requires present { node < length graph.old.outs }
     requires empty { slice_index_or graph.old.outs node [] ≡ [] }
-    requires few { length row.now + 1 < 2 ^ 32 }
+    requires bounded { length row.now + 1 < 2 ^ 32 }
     requires within { (r : ℕ) → Among row.now r → r < length graph.old.outs }
     requires into { IsInto graph.old.outs graph.old.intos }
     ensures { OnOk result (IsFilled graph.old graph.new node (moves_of true row.now)) }
@@ -27,9 +27,9 @@ fn fill_any(graph: &mut Graph, node: u32, row: &[u32]) -> Result<(), NoMemory>
 
 // Gives the node one move to all the numbers.
 fn fill_all(graph: &mut Graph, node: u32, row: &[u32]) -> Result<(), NoMemory>
-    requires there { node < length graph.old.outs }
+    requires present { node < length graph.old.outs }
     requires empty { slice_index_or graph.old.outs node [] ≡ [] }
-    requires few { length row.now + 1 < 2 ^ 32 }
+    requires bounded { length row.now + 1 < 2 ^ 32 }
     requires within { (r : ℕ) → Among row.now r → r < length graph.old.outs }
     requires into { IsInto graph.old.outs graph.old.intos }
     ensures { OnOk result (IsFilled graph.old graph.new node (moves_of false row.now)) }
@@ -42,9 +42,9 @@ fn fill_all(graph: &mut Graph, node: u32, row: &[u32]) -> Result<(), NoMemory>
 }
 
 fn fill(graph: &mut Graph, node: u32, any: bool, row: &[u32]) -> Result<(), NoMemory>
-    requires there { node < length graph.old.outs }
+    requires present { node < length graph.old.outs }
     requires empty { slice_index_or graph.old.outs node [] ≡ [] }
-    requires few { length row.now + 1 < 2 ^ 32 }
+    requires bounded { length row.now + 1 < 2 ^ 32 }
     requires within { (r : ℕ) → Among row.now r → r < length graph.old.outs }
     requires into { IsInto graph.old.outs graph.old.intos }
     ensures { OnOk result (IsFilled graph.old graph.new node (moves_of any row.now)) }
@@ -70,10 +70,10 @@ fn bare(alloc: Global, count: usize) -> Result<Graph, NoMemory>
 }
 
 /// The graph in which each node has a move for each number of its row where it may choose, and else one move to all.
-pub fn graph_of(alloc: Global, anys: &[bool], rows: &[Row]) -> Result<Graph, NoMemory>
+pub fn graph_of(alloc: Global, anys: &[bool], rows: &[NodeRow]) -> Result<Graph, NoMemory>
     requires nodes { length rows.now + 1 < 2 ^ 32 }
     requires anys { length anys.now ≡ length rows.now }
-    requires few { (n : ℕ) → length (slice_index_or rows.now n []) + 1 < 2 ^ 32 }
+    requires bounded { (n : ℕ) → length (slice_index_or rows.now n []) + 1 < 2 ^ 32 }
     requires within { (n r : ℕ) → Among (slice_index_or rows.now n []) r → r < length rows.now }
     ensures { IfOk result (λ g. IsBuilt anys.now rows.now (length rows.now) g) }
 {

@@ -2,19 +2,19 @@
 //! looked at is left, and then it is known of its nodes whether they are on a cycle. Each edge is looked at twice at most.
 ghost use Rattle.std.specs.Prelude.{◌≡◌, ◌≢◌, ◌<◌, ◌≤◌, ◌+◌, ◌^◌, [], ◌∷◌, ◌++◌, List, ℕ, IfOk, OnOk, MatchOption, length, replicate, slice_get, Some, true, false};
 ghost use Rattle.rs_graph.specs.Lists.{Among};
-ghost use Rattle.rs_graph.specs.Paths.{AreRight, NoneMoreAhead, Joining, Leaving, Searching, TakenOff, ahead, to_do};
+ghost use Rattle.rs_graph.specs.Paths.{AreRight, NoneMoreAhead, Joining, Leaving, Resting, Searching, TakenOff, ahead, to_do};
 ghost use Rattle.rs_graph.specs.Ranks.{Edge, IsOrdered};
 ghost use Rattle.rs_graph.specs.Walks.{IsLeastOnCycle, IsOnCycle, Walk};
-ghost use Rattle.rs_graph.specs.declared.cycles.Mark.{Mark};
-ghost use Rattle.rs_graph.specs.declared.cycles.Mark.TheVariants.{Ahead, On};
+ghost use Rattle.rs_graph.specs.declared.cycles.NodeMark.{NodeMark};
+ghost use Rattle.rs_graph.specs.declared.cycles.NodeMark.TheVariants.{Ahead, On};
 
-use crate::graph::Row;
+use crate::graph::NodeRow;
 use rs_model::NoMemory;
 use std::alloc::Global;
 
 /// What is known of a node.
 #[derive(Clone, Copy, Debug)]
-pub enum Mark {
+pub enum NodeMark {
     /// The search hasn't come to it.
     Ahead,
     /// It stands on the path, at this place.
@@ -25,7 +25,7 @@ pub enum Mark {
 
 /// A part of the path.
 #[derive(Clone, Copy, Debug)]
-pub struct Part {
+pub struct PathPart {
     /// The place of its first node.
     pub start: usize,
     /// The place of its first edge that is still to be looked at.
@@ -37,31 +37,32 @@ pub struct Part {
 // The search for cycles.
 #[derive(Drop, Debug)]
 struct Search {
-    marks: Vec<Mark>,
+    marks: Vec<NodeMark>,
     path: Vec<u32>,
     edges: Vec<u32>,
-    parts: Vec<Part>,
+    parts: Vec<PathPart>,
 }
 
 // The node becomes a part of its own, with all its edges.
-fn enter(rows: &[Row], search: &mut Search, y: u32) -> Result<(), NoMemory>
+fn enter(rows: &[NodeRow], search: &mut Search, y: u32) -> Result<(), NoMemory>
     requires nodes { length rows.now < 2 ^ 32 }
     requires new { slice_get search.old.marks.items y ≡ Some Ahead }
     requires led { (x : ℕ) → Among search.old.path.items x → (n : ℕ) × Walk (Edge rows.now) x n y }
     requires searching { Searching rows.now search.old.marks.items search.old.path.items search.old.edges.items search.old.parts.items }
     ensures searching { OnOk result (Searching rows.now search.new.marks.items search.new.path.items search.new.edges.items search.new.parts.items) }
-    ensures less { OnOk result (to_do rows.now search.new.marks.items search.new.edges.items search.new.parts.items < to_do rows.now search.old.marks.items search.old.edges.items search.old.parts.items) }
+    ensures less { OnOk result (to_do rows.now search.new.marks.items search.new.edges.items search.new.parts.items
+        < to_do rows.now search.old.marks.items search.old.edges.items search.old.parts.items) }
     ensures on { OnOk result (NoneMoreAhead search.old.marks.items search.new.marks.items) }
     ensures here { OnOk result (slice_get search.new.marks.items y ≢ Some Ahead) }
 {
     let start = search.path.len();
     let edges = search.edges.len();
-    search.marks[y as usize] = Mark::On {
+    search.marks[y as usize] = NodeMark::On {
         place: start as u32,
     };
     search.path.push(y)?;
     search.edges.extend_from_slice(rows[y as usize].as_slice())?;
-    search.parts.push(Part {
+    search.parts.push(PathPart {
         start,
         edges,
         round: false,
@@ -70,7 +71,7 @@ fn enter(rows: &[Row], search: &mut Search, y: u32) -> Result<(), NoMemory>
 }
 
 // The last nodes of the path leave it: of each it is known whether it is on a cycle.
-fn leave(marks: &mut Vec<Mark>, path: &mut Vec<u32>, start: usize, round: bool)
+fn leave(marks: &mut Vec<NodeMark>, path: &mut Vec<u32>, start: usize, round: bool)
     requires start { start ≤ length path.old.items }
     requires on { (i x : ℕ) → slice_get path.old.items i ≡ Some x → slice_get marks.old.items x ≡ Some (On i) }
     ensures leaving { Leaving marks.old.items path.old.items marks.new.items path.new.items round }
@@ -79,13 +80,13 @@ fn leave(marks: &mut Vec<Mark>, path: &mut Vec<u32>, start: usize, round: bool)
 {
     while path.len() > start {
         let Some(x) = path.pop() else { return };
-        marks[x as usize] = Mark::Known { round };
+        marks[x as usize] = NodeMark::Known { round };
     }
 }
 
 // The last parts become one that goes round: those behind the place and the one that has it.
-fn join(parts: &mut Vec<Part>, last: Part, place: u32) -> Result<(), NoMemory>
-    ensures joined { OnOk result ((rows : List (List ℕ)) (marks : List Mark) (path edges : List ℕ) (y : ℕ) → AreRight rows marks path → slice_get marks y ≡ Some (On place)
+fn join(parts: &mut Vec<PathPart>, last: PathPart, place: u32) -> Result<(), NoMemory>
+    ensures joined { OnOk result ((rows : List (List ℕ)) (marks : List NodeMark) (path edges : List ℕ) (y : ℕ) → AreRight rows marks path → slice_get marks y ≡ Some (On place)
         → Joining rows marks path edges parts.old.items last.start last.edges y → Searching rows marks path edges parts.new.items) }
     ensures less { OnOk result (length parts.new.items ≤ length parts.old.items + 1) }
 {
@@ -96,7 +97,7 @@ fn join(parts: &mut Vec<Part>, last: Part, place: u32) -> Result<(), NoMemory>
             None => return Ok(()),
         }
     }
-    parts.push(Part {
+    parts.push(PathPart {
         start: joined.start,
         edges: joined.edges,
         round: true,
@@ -105,13 +106,14 @@ fn join(parts: &mut Vec<Part>, last: Part, place: u32) -> Result<(), NoMemory>
 }
 
 // Looks at one edge of the part that was taken off the path, or leaves it where there is none.
-fn look(rows: &[Row], search: &mut Search, part: Part) -> Result<(), NoMemory>
+fn look(rows: &[NodeRow], search: &mut Search, part: PathPart) -> Result<(), NoMemory>
     requires nodes { length rows.now < 2 ^ 32 }
     requires within { (x y : ℕ) → Edge rows.now x y → y < length rows.now }
     requires right { AreRight rows.now search.old.marks.items search.old.path.items }
     requires off { TakenOff rows.now search.old.marks.items search.old.path.items search.old.edges.items search.old.parts.items part }
     ensures searching { OnOk result (Searching rows.now search.new.marks.items search.new.path.items search.new.edges.items search.new.parts.items) }
-    ensures less { OnOk result (to_do rows.now search.new.marks.items search.new.edges.items search.new.parts.items < to_do rows.now search.old.marks.items search.old.edges.items search.old.parts.items + 1) }
+    ensures less { OnOk result (to_do rows.now search.new.marks.items search.new.edges.items search.new.parts.items
+        < to_do rows.now search.old.marks.items search.old.edges.items search.old.parts.items + 1) }
     ensures on { OnOk result (NoneMoreAhead search.old.marks.items search.new.marks.items) }
 {
     let count = search.edges.len();
@@ -121,15 +123,15 @@ fn look(rows: &[Row], search: &mut Search, part: Part) -> Result<(), NoMemory>
     }
     let y = search.edges[count - 1];
     match search.marks[y as usize] {
-        Mark::Ahead => {
+        NodeMark::Ahead => {
             search.parts.push(part)?;
             enter(rows, search, y)
         }
-        Mark::On { place } => {
+        NodeMark::On { place } => {
             search.edges.pop();
             join(&mut search.parts, part, place)
         }
-        Mark::Known { .. } => {
+        NodeMark::Known { .. } => {
             search.edges.pop();
             search.parts.push(part)?;
             Ok(())
@@ -138,7 +140,7 @@ fn look(rows: &[Row], search: &mut Search, part: Part) -> Result<(), NoMemory>
 }
 
 // Follows the path until it is left.
-fn follow(rows: &[Row], search: &mut Search) -> Result<(), NoMemory>
+fn follow(rows: &[NodeRow], search: &mut Search) -> Result<(), NoMemory>
     requires nodes { length rows.now < 2 ^ 32 }
     requires within { (x y : ℕ) → Edge rows.now x y → y < length rows.now }
     requires searching { Searching rows.now search.old.marks.items search.old.path.items search.old.edges.items search.old.parts.items }
@@ -153,42 +155,38 @@ fn follow(rows: &[Row], search: &mut Search) -> Result<(), NoMemory>
 }
 
 // Goes on until it is known whether the number is on a cycle.
-fn come_to(rows: &[Row], search: &mut Search, v: u32) -> Result<(), NoMemory>
+fn come_to(rows: &[NodeRow], search: &mut Search, v: u32) -> Result<(), NoMemory>
     requires nodes { length rows.now < 2 ^ 32 }
-    requires there { v < length rows.now }
+    requires present { v < length rows.now }
     requires within { (x y : ℕ) → Edge rows.now x y → y < length rows.now }
-    requires searching { Searching rows.now search.old.marks.items search.old.path.items search.old.edges.items search.old.parts.items }
-    requires none { search.old.path.items ≡ [] }
-    ensures searching { OnOk result (Searching rows.now search.new.marks.items search.new.path.items search.new.edges.items search.new.parts.items) }
-    ensures none { OnOk result (search.new.path.items ≡ []) }
+    requires resting { Resting rows.now search.old.marks.items search.old.path.items search.old.edges.items search.old.parts.items }
+    ensures resting { OnOk result (Resting rows.now search.new.marks.items search.new.path.items search.new.edges.items search.new.parts.items) }
     ensures come { OnOk result (slice_get search.new.marks.items v ≢ Some Ahead) }
 {
     match search.marks[v as usize] {
-        Mark::Ahead => {
+        NodeMark::Ahead => {
             enter(rows, search, v)?;
             follow(rows, search)?;
             Ok(())
         }
-        Mark::On { .. } | Mark::Known { .. } => Ok(()),
+        NodeMark::On { .. } | NodeMark::Known { .. } => Ok(()),
     }
 }
 
 // Whether the number is on a cycle.
-fn is_on_cycle(rows: &[Row], search: &mut Search, v: u32) -> Result<bool, NoMemory>
+fn is_on_cycle(rows: &[NodeRow], search: &mut Search, v: u32) -> Result<bool, NoMemory>
     requires nodes { length rows.now < 2 ^ 32 }
-    requires there { v < length rows.now }
+    requires present { v < length rows.now }
     requires within { (x y : ℕ) → Edge rows.now x y → y < length rows.now }
-    requires searching { Searching rows.now search.old.marks.items search.old.path.items search.old.edges.items search.old.parts.items }
-    requires none { search.old.path.items ≡ [] }
-    ensures searching { OnOk result (Searching rows.now search.new.marks.items search.new.path.items search.new.edges.items search.new.parts.items) }
-    ensures none { OnOk result (search.new.path.items ≡ []) }
+    requires resting { Resting rows.now search.old.marks.items search.old.path.items search.old.edges.items search.old.parts.items }
+    ensures resting { OnOk result (Resting rows.now search.new.marks.items search.new.path.items search.new.edges.items search.new.parts.items) }
     ensures yes { IfOk result (λ b. b ≡ true → IsOnCycle (Edge rows.now) v) }
     ensures no { IfOk result (λ b. b ≡ false → IsOnCycle (Edge rows.now) v → ⊥) }
 {
     come_to(rows, search, v)?;
     match search.marks[v as usize] {
-        Mark::Known { round } => Ok(round),
-        Mark::Ahead | Mark::On { .. } => unreachable!(),
+        NodeMark::Known { round } => Ok(round),
+        NodeMark::Ahead | NodeMark::On { .. } => unreachable!(),
     }
 }
 
@@ -199,7 +197,7 @@ fn begin(alloc: Global, count: usize) -> Result<Search, NoMemory>
     ensures parts { IfOk result (λ s. s.parts.items ≡ []) }
 {
     Ok(Search {
-        marks: vec![in alloc; Mark::Ahead; count]?,
+        marks: vec![in alloc; NodeMark::Ahead; count]?,
         path: Vec::new(alloc),
         edges: Vec::new(alloc),
         parts: Vec::new(alloc),
@@ -207,7 +205,11 @@ fn begin(alloc: Global, count: usize) -> Result<Search, NoMemory>
 }
 
 /// The least number on a cycle, none of which stands in the order.
-pub fn least_on_cycle(alloc: Global, rows: &[Row], order: &[u32]) -> Result<Option<u32>, NoMemory>
+pub fn least_on_cycle(
+    alloc: Global,
+    rows: &[NodeRow],
+    order: &[u32],
+) -> Result<Option<u32>, NoMemory>
     requires nodes { length rows.now < 2 ^ 32 }
     requires ordered { IsOrdered rows.now order.now }
     requires within { (x y : ℕ) → Edge rows.now x y → y < length rows.now }

@@ -3,7 +3,7 @@ ghost use Rattle.std.specs.Prelude.{◌≡◌, ◌<◌, ◌+◌, ◌^◌, [], �
 ghost use Rattle.rs_graph.specs.Graphs.{pair_of, with_end, with_move, with_result};
 ghost use Rattle.rs_graph.specs.declared.graph.Move.{Move};
 
-use crate::steps::Steps;
+use crate::steps::StepCount;
 use rs_model::NoMemory;
 use smallvec::SmallVec;
 use std::alloc::Global;
@@ -20,17 +20,17 @@ pub struct Move {
 
 /// Numbers of nodes, in order. A few of them need no allocation.
 #[derive(Drop, Debug)]
-pub struct Row {
+pub struct NodeRow {
     numbers: SmallVec<u32, 4>,
 }
 
-impl MadeWith<Global> for Row {
-    fn made_with(alloc: Global) -> Row {
-        Row::new(alloc)
+impl MadeWith<Global> for NodeRow {
+    fn made_with(alloc: Global) -> NodeRow {
+        NodeRow::new(alloc)
     }
 }
 
-impl Model for Row {
+impl Model for NodeRow {
     ghost use Rattle.std.specs.Prelude.{List, ℕ};
 
     ghost Value = { List ℕ };
@@ -38,25 +38,25 @@ impl Model for Row {
     ghost view = { λ a. a.numbers.items };
 }
 
-impl Row {
+impl NodeRow {
     /// No numbers.
     #[inline(always)]
-    pub fn new(alloc: Global) -> Row
+    pub fn new(alloc: Global) -> NodeRow
         ensures { result ≡ [] }
     {
-        Row {
+        NodeRow {
             numbers: SmallVec::new(alloc),
         }
     }
 
     /// One number, which needs no allocation.
     #[inline(always)]
-    pub fn of_one(alloc: Global, n: u32) -> Row
+    pub fn of_one(alloc: Global, n: u32) -> NodeRow
         ensures { result ≡ n ∷ [] }
     {
         let mut numbers = SmallVec::new(alloc);
         numbers.push_reserved(n);
-        Row { numbers }
+        NodeRow { numbers }
     }
 
     /// The numbers.
@@ -68,10 +68,10 @@ impl Row {
     }
 
     /// The same numbers in memory of their own.
-    pub fn copy(&self, alloc: Global) -> Result<Row, NoMemory>
+    pub fn copy(&self, alloc: Global) -> Result<NodeRow, NoMemory>
         ensures { IfOk result (λ r. r ≡ self.now) }
     {
-        Ok(Row {
+        Ok(NodeRow {
             numbers: SmallVec::from_slice(alloc, self.numbers.as_slice())?,
         })
     }
@@ -89,11 +89,11 @@ impl Row {
 
 /// The moves of a node, each with its results. One move needs no allocation.
 #[derive(Drop, Debug)]
-pub struct Rows {
-    rows: SmallVec<Row, 1>,
+pub struct MoveResults {
+    rows: SmallVec<NodeRow, 1>,
 }
 
-impl Model for Rows {
+impl Model for MoveResults {
     ghost use Rattle.std.specs.Prelude.{List, ℕ};
 
     ghost Value = { List (List ℕ) };
@@ -105,16 +105,16 @@ impl Model for Rows {
     ghost invariant = { λ a. length a.rows.items < 2 ^ 32 };
 }
 
-impl Rows {
-    pub fn new(alloc: Global) -> Rows
+impl MoveResults {
+    pub fn new(alloc: Global) -> MoveResults
         ensures { result ≡ [] }
     {
-        Rows {
+        MoveResults {
             rows: SmallVec::new(alloc),
         }
     }
 
-    pub fn as_slice(&self) -> &[Row]
+    pub fn as_slice(&self) -> &[NodeRow]
         ensures { result.now ≡ self.now }
     {
         self.rows.as_slice()
@@ -126,7 +126,7 @@ impl Rows {
         self.rows.len() as u32
     }
 
-    pub fn push(&mut self, row: Row) -> Result<(), NoMemory>
+    pub fn push(&mut self, row: NodeRow) -> Result<(), NoMemory>
         requires { length self.old + 1 < 2 ^ 32 }
         ensures ok { OnOk result (self.new ≡ self.old ++ row ∷ []) }
         ensures err { OnErr result (self.new ≡ self.old) }
@@ -146,11 +146,11 @@ impl Rows {
 
 /// The moves that lead to a node. A few of them need no allocation.
 #[derive(Drop, Debug)]
-pub struct Ends {
+pub struct IncomingMoves {
     moves: SmallVec<Move, 2>,
 }
 
-impl Model for Ends {
+impl Model for IncomingMoves {
     ghost use Rattle.std.specs.Prelude.{List};
     ghost use Rattle.rs_graph.specs.declared.graph.Move.{Move};
 
@@ -159,11 +159,11 @@ impl Model for Ends {
     ghost view = { λ a. a.moves.items };
 }
 
-impl Ends {
-    pub fn new(alloc: Global) -> Ends
+impl IncomingMoves {
+    pub fn new(alloc: Global) -> IncomingMoves
         ensures { result ≡ [] }
     {
-        Ends {
+        IncomingMoves {
             moves: SmallVec::new(alloc),
         }
     }
@@ -192,8 +192,8 @@ impl Ends {
 /// Nodes, the moves of each, and the results of each move, which only counted calls read.
 #[derive(Drop, Debug)]
 pub struct Graph {
-    outs: Vec<Rows>,
-    intos: Vec<Ends>,
+    outs: Vec<MoveResults>,
+    intos: Vec<IncomingMoves>,
 }
 
 impl Model for Graph {
@@ -238,8 +238,8 @@ impl Graph {
     {
         let alloc = *self.outs.allocator();
         let number = self.outs.len() as u32;
-        self.outs.push(Rows::new(alloc))?;
-        if self.intos.push(Ends::new(alloc)).is_err() {
+        self.outs.push(MoveResults::new(alloc))?;
+        if self.intos.push(IncomingMoves::new(alloc)).is_err() {
             self.outs.pop();
             return Err(NoMemory);
         }
@@ -248,8 +248,8 @@ impl Graph {
 
     /// One more move of the node, which has no results; its place.
     pub fn add_move(&mut self, node: u32) -> Result<u32, NoMemory>
-        requires there { node < length self.old.outs }
-        requires few { length (slice_index_or self.old.outs node []) + 1 < 2 ^ 32 }
+        requires present { node < length self.old.outs }
+        requires bounded { length (slice_index_or self.old.outs node []) + 1 < 2 ^ 32 }
         ensures place { IfOk result (λ p. p ≡ length (slice_index_or self.old.outs node [])) }
         ensures outs { OnOk result (self.new.outs ≡ with_move self.old.outs node) }
         ensures intos { OnOk result (self.new.intos ≡ self.old.intos) }
@@ -257,13 +257,13 @@ impl Graph {
     {
         let alloc = *self.outs.allocator();
         let place = self.outs[node as usize].as_slice().len() as u32;
-        self.outs[node as usize].push(Row::new(alloc))?;
+        self.outs[node as usize].push(NodeRow::new(alloc))?;
         Ok(place)
     }
 
     /// One more result of the move.
     pub fn add_edge(&mut self, node: u32, place: u32, target: u32) -> Result<(), NoMemory>
-        requires there { node < length self.old.outs }
+        requires present { node < length self.old.outs }
         requires place { place < length (slice_index_or self.old.outs node []) }
         requires target { target < length self.old.outs }
         ensures outs { OnOk result (self.new.outs ≡ with_result self.old.outs node place target) }
@@ -292,9 +292,9 @@ impl Graph {
         node: u32,
         place: u32,
         nth: u32,
-        steps: &mut Steps<L>,
+        steps: &mut StepCount<L>,
     ) -> Option<u32>
-        requires there { node < length self.now.outs }
+        requires present { node < length self.now.outs }
         requires place { place < length (slice_index_or self.now.outs node []) }
         ensures value { result ≡ slice_get (slice_index_or (slice_index_or self.now.outs node []) place []) nth }
         ensures step { steps.new ≡ steps.old + 1 }
@@ -311,7 +311,12 @@ impl Graph {
 
     /// The nth edge that ends at the node, by the node and the place of its move, in order of addition; none where
     /// there are fewer. One step.
-    pub fn into<L: Ledger>(&self, node: u32, nth: u64, steps: &mut Steps<L>) -> Option<(u32, u32)>
+    pub fn into<L: Ledger>(
+        &self,
+        node: u32,
+        nth: u64,
+        steps: &mut StepCount<L>,
+    ) -> Option<(u32, u32)>
         requires { node < length self.now.outs }
         ensures value { result ≡ pair_of (slice_get (slice_index_or self.now.intos node []) nth) }
         ensures step { steps.new ≡ steps.old + 1 }
@@ -327,7 +332,7 @@ impl Graph {
         &self,
         node: u32,
         nth: usize,
-        steps: &mut Steps<L>,
+        steps: &mut StepCount<L>,
     ) -> Option<Move>
         requires { node < length self.now.outs }
         ensures value { result ≡ slice_get (slice_index_or self.now.intos node []) nth }

@@ -12,8 +12,8 @@ mod steps;
 
 pub use build::graph_of;
 pub use cycles::least_on_cycle;
-pub use graph::{Graph, Row};
-pub use number::{Numbers, number_all};
+pub use graph::{Graph, NodeRow};
+pub use number::{NumberedNodes, number_all};
 pub use ranks::{RankFault, rank_rows};
 pub use removal::{Removal, remove, remove_uncounted};
-pub use steps::Steps;
+pub use steps::StepCount;

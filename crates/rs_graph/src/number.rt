@@ -1,13 +1,13 @@
 //! Numbers by first discovery: from a start by the moves at which the nodes stay.
 ghost use Rattle.std.specs.Prelude.{◌≡◌, ◌≢◌, ◌<◌, ◌≤◌, ◌+◌, ◌^◌, [], ◌∷◌, ◌++◌, List, ℕ, OnOk, OnErr, IfOk, length, slice_get, slice_index_or, slice_set, Some};
-ghost use Rattle.rs_graph.specs.Discovery.{Adds, Grown, IsDiscovery, Numbered};
-ghost use Rattle.rs_graph.specs.Lists.{Among, Names};
+ghost use Rattle.rs_graph.specs.Discovery.{AreNamed, IsDiscovery, IsNamed};
+ghost use Rattle.rs_graph.specs.Lists.{Among};
 ghost use Rattle.rs_graph.specs.Places.{IsPlaced, next_of};
-ghost use Rattle.rs_graph.specs.Removal.{IsInto, Leads, at, moves_at};
+ghost use Rattle.rs_graph.specs.Removal.{AreLeft, IsInto, at, moves_at};
 ghost use Rattle.std.specs.List.{sum_by};
 
-use crate::graph::{Graph, Row};
-use crate::steps::Steps;
+use crate::graph::{Graph, NodeRow};
+use crate::steps::StepCount;
 use rs_model::NoMemory;
 use std::alloc::Global;
 use std::sync::ledger::Ledger;
@@ -18,15 +18,15 @@ fn read_move<L: Ledger>(
     graph: &Graph,
     node: u32,
     place: u32,
-    steps: &mut Steps<L>,
-) -> Result<Row, NoMemory>
-    requires there { node < length graph.now.outs }
+    steps: &mut StepCount<L>,
+) -> Result<NodeRow, NoMemory>
+    requires present { node < length graph.now.outs }
     requires place { place < length (slice_index_or graph.now.outs node []) }
-    requires few { length (slice_index_or (slice_index_or graph.now.outs node []) place []) < 2 ^ 32 }
+    requires bounded { length (slice_index_or (slice_index_or graph.now.outs node []) place []) < 2 ^ 32 }
     ensures row { IfOk result (λ row. row ≡ slice_index_or (slice_index_or graph.now.outs node []) place []) }
     ensures steps { IfOk result (λ row. steps.new ≡ steps.old + length row + 1) }
 {
-    let mut row = Row::new(alloc);
+    let mut row = NodeRow::new(alloc);
     let mut nth: u32 = 0;
     while let Some(r) = graph.out(node, place, nth, steps) {
         row.push(r)?;
@@ -37,14 +37,10 @@ fn read_move<L: Ledger>(
 
 // The number of a node, which is added where it has none.
 fn number_of(items: &mut Vec<u32>, places: &mut Vec<Option<u32>>, y: u32) -> Result<u32, NoMemory>
-    requires there { y < length places.old.items }
-    requires few { length places.old.items < 2 ^ 32 }
+    requires present { y < length places.old.items }
+    requires bounded { length places.old.items < 2 ^ 32 }
     requires placed { IsPlaced items.old.items places.old.items }
-    ensures adds { Adds items.old.items y items.new.items }
-    ensures longer { length items.old.items ≤ length items.new.items }
-    ensures at { IfOk result (λ n. slice_get items.new.items n ≡ Some y) }
-    ensures old { IfOk result (λ n. items.new.items ≡ items.old.items → n < length items.old.items) }
-    ensures fresh { IfOk result (λ n. (items.new.items ≡ items.old.items → ⊥) → n ≡ length items.old.items) }
+    ensures named { IfOk result (IsNamed items.old.items y items.new.items) }
     ensures placed { OnOk result (IsPlaced items.new.items places.new.items) }
     ensures size { OnOk result (length places.new.items ≡ length places.old.items) }
 {
@@ -65,18 +61,15 @@ fn name_all(
     items: &mut Vec<u32>,
     places: &mut Vec<Option<u32>>,
     ys: &[u32],
-) -> Result<Row, NoMemory>
+) -> Result<NodeRow, NoMemory>
     requires within { (y : ℕ) → Among ys.now y → y < length places.old.items }
-    requires few { length places.old.items < 2 ^ 32 }
+    requires bounded { length places.old.items < 2 ^ 32 }
     requires placed { IsPlaced items.old.items places.old.items }
-    ensures grown { OnOk result (Grown items.old.items ys.now items.new.items) }
-    ensures longer { OnOk result (length items.old.items ≤ length items.new.items) }
-    ensures names { IfOk result (λ row. Names items.new.items row ys.now) }
-    ensures numbered { IfOk result (λ row. Numbered (length items.old.items) row (length items.new.items)) }
+    ensures named { IfOk result (AreNamed items.old.items ys.now items.new.items) }
     ensures placed { OnOk result (IsPlaced items.new.items places.new.items) }
     ensures size { OnOk result (length places.new.items ≡ length places.old.items) }
 {
-    let mut numbers = Row::new(alloc);
+    let mut numbers = NodeRow::new(alloc);
     for i in 0..ys.len() {
         let n = number_of(items, places, ys[i])?;
         numbers.push(n)?;
@@ -86,9 +79,9 @@ fn name_all(
 
 /// The nodes that are reached from node 0 by the moves at which they stay, and of each the numbers of what it leads to.
 #[derive(Drop, Debug)]
-pub struct Numbers {
+pub struct NumberedNodes {
     pub items: Vec<u32>,
-    pub nexts: Vec<Row>,
+    pub nexts: Vec<NodeRow>,
 }
 
 /// Numbers the nodes that are reached from node 0 by the moves at which they stay, in order of first discovery. Counts
@@ -97,28 +90,26 @@ pub fn number_all<L: Ledger>(
     alloc: Global,
     graph: &Graph,
     current: &[u32],
-    steps: &mut Steps<L>,
-) -> Result<Numbers, NoMemory>
+    steps: &mut StepCount<L>,
+) -> Result<NumberedNodes, NoMemory>
     requires nodes { length graph.now.outs < 2 ^ 32 }
-    requires current { length current.now ≡ length graph.now.outs }
     requires into { IsInto graph.now.outs graph.now.intos }
-    requires stays { (n r : ℕ) → at current.now n < moves_at graph.now.outs n → Leads graph.now.outs n (at current.now n) r → at current.now r < moves_at graph.now.outs r }
+    requires left { AreLeft graph.now.outs current.now }
     requires short { (n : ℕ) → length (next_of graph.now.outs current.now n) < 2 ^ 32 }
-    requires start { at current.now 0 < moves_at graph.now.outs 0 }
     ensures found { IfOk result (λ d. IsDiscovery (next_of graph.now.outs current.now) 0 d.items.items d.nexts.items) }
-    ensures few { IfOk result (λ d. length d.items.items ≤ length graph.now.outs) }
+    ensures bounded { IfOk result (λ d. length d.items.items ≤ length graph.now.outs) }
     ensures stay { IfOk result (λ d. (i n : ℕ) → slice_get d.items.items i ≡ Some n → at current.now n < moves_at graph.now.outs n) }
     ensures steps { IfOk result (λ d. steps.new ≡ steps.old + sum_by (λ n. length (next_of graph.now.outs current.now n) + 1) d.items.items) }
 {
     let mut places: Vec<Option<u32>> = vec![in alloc; None; graph.nodes()]?;
     let mut items: Vec<u32> = Vec::new(alloc);
     number_of(&mut items, &mut places, 0)?;
-    let mut nexts: Vec<Row> = Vec::new(alloc);
+    let mut nexts: Vec<NodeRow> = Vec::new(alloc);
     while nexts.len() < items.len() {
         let n = items[nexts.len()];
         let row = read_move(alloc, graph, n, current[n as usize], steps)?;
         let next = name_all(alloc, &mut items, &mut places, row.as_slice())?;
         nexts.push(next)?;
     }
-    Ok(Numbers { items, nexts })
+    Ok(NumberedNodes { items, nexts })
 }

@@ -7,14 +7,14 @@ ghost use Rattle.rs_graph.specs.Unranked.{Unranks};
 
 use crate::build::graph_of;
 use crate::cycles::least_on_cycle;
-use crate::graph::Row;
+use crate::graph::NodeRow;
 use crate::removal::remove_uncounted;
 use rs_model::NoMemory;
 use std::alloc::Global;
 
 // One more than the greatest rank of the row, and 0 for no row. The ranks are below the number.
 fn top(row: &[u32], ranks: &[u32], below: usize) -> u32
-    requires few { below < 2 ^ 32 }
+    requires bounded { below < 2 ^ 32 }
     requires within { (j : ℕ) → Among row.now j → j < length ranks.now }
     requires low { (j : ℕ) → Among row.now j → slice_index_or ranks.now j 0 < below }
     ensures fits { RankFits row.now ranks.now result }
@@ -28,9 +28,9 @@ fn top(row: &[u32], ranks: &[u32], below: usize) -> u32
 }
 
 /// The ranks along an order in which each number stands behind all that its row leads to.
-pub fn rank_all(alloc: Global, rows: &[Row], order: &[u32]) -> Result<Vec<u32>, NoMemory>
+pub fn rank_all(alloc: Global, rows: &[NodeRow], order: &[u32]) -> Result<Vec<u32>, NoMemory>
     requires nodes { length rows.now < 2 ^ 32 }
-    requires few { length order.now < 2 ^ 32 }
+    requires bounded { length order.now < 2 ^ 32 }
     requires ordered { IsOrdered rows.now order.now }
     ensures { IfOk result (λ v. Ranked rows.now order.now v.items (length order.now)) }
 {
@@ -53,9 +53,9 @@ pub enum RankFault {
 }
 
 /// The greatest length of a walk from each number; or the least number on a cycle.
-pub fn rank_rows(alloc: Global, rows: &[Row]) -> Result<Vec<u32>, RankFault>
+pub fn rank_rows(alloc: Global, rows: &[NodeRow]) -> Result<Vec<u32>, RankFault>
     requires nodes { length rows.now + 1 < 2 ^ 32 }
-    requires few { (n : ℕ) → length (slice_index_or rows.now n []) + 1 < 2 ^ 32 }
+    requires bounded { (n : ℕ) → length (slice_index_or rows.now n []) + 1 < 2 ^ 32 }
     requires within { (n r : ℕ) → Edge rows.now n r → r < length rows.now }
     ensures ranks { IfOk result (λ v. (i : ℕ) → IsRank (Edge rows.now) i (slice_index_or v.items i 0)) }
     ensures size { IfOk result (λ v. length v.items ≡ length rows.now) }

@@ -1,11 +1,11 @@
 //! The removal of nodes that have no move left.
 ghost use Rattle.std.specs.Prelude.{◌≡◌, ◌≢◌, ◌<◌, ◌≤◌, ◌+◌, ◌^◌, [], ◌∷◌, ◌++◌, List, ℕ, OnOk, OnErr, OnSome, IfOk, length, slice_get, slice_index_or, Some};
-ghost use Rattle.rs_graph.specs.Removal.{Going, IsInto, IsRemoval, Leads, Next, Rest, From, cost_of, whole, moves_at, lowered_flags, moveless};
+ghost use Rattle.rs_graph.specs.Removal.{Going, IsInto, IsRemoval, Leads, IsNextMove, Rest, From, cost_of, whole, moves_at, lowered_flags, moveless};
 ghost use Rattle.std.specs.List.{sum_by};
 ghost use Rattle.rs_graph.specs.declared.graph.Move.{Move};
 
 use crate::graph::{Graph, Move};
-use crate::steps::Steps;
+use crate::steps::StepCount;
 use rs_model::NoMemory;
 use smallvec::SmallVec;
 use std::alloc::Global;
@@ -63,7 +63,7 @@ pub struct Removal {
 // The first place from that one on whose flag isn't raised, or the number of flags.
 fn next_move(flags: &[bool], start: usize) -> usize
     requires { start ≤ length flags.now }
-    ensures { Next flags.now start result }
+    ensures { IsNextMove flags.now start result }
 {
     let mut next = start;
     while next < flags.len() && flags[next] {
@@ -81,7 +81,7 @@ fn lose(
 ) -> Result<(), NoMemory>
     requires node { m.node < length lost.old.items }
     requires place { m.place < length (slice_index_or lost.old.items m.node []) }
-    requires few { length (slice_index_or lost.old.items m.node []) < 2 ^ 32 }
+    requires bounded { length (slice_index_or lost.old.items m.node []) < 2 ^ 32 }
     requires size { length current.old.items ≡ length lost.old.items }
     ensures keeps { OnOk result ((outs : List (List (List ℕ))) (k doing : ℕ) (rest : List Move) → slice_get order.old.items k ≡ Some doing → Leads outs m.node m.place doing
         → Going outs lost.old.items current.old.items order.old.items (Rest k (m ∷ rest)) → Going outs lost.new.items current.new.items order.new.items (Rest k rest)) }
@@ -112,11 +112,11 @@ fn hand_on<L: Ledger>(
     lost: &mut Vec<Flags>,
     current: &mut Vec<u32>,
     order: &mut Vec<u32>,
-    steps: &mut Steps<L>,
+    steps: &mut StepCount<L>,
 ) -> Result<(), NoMemory>
-    requires there { told < length order.old.items }
+    requires present { told < length order.old.items }
     requires into { IsInto graph.now.outs graph.now.intos }
-    requires few { (n : ℕ) → moves_at graph.now.outs n < 2 ^ 32 }
+    requires bounded { (n : ℕ) → moves_at graph.now.outs n < 2 ^ 32 }
     requires going { Going graph.now.outs lost.old.items current.old.items order.old.items (From told) }
     ensures going { OnOk result (Going graph.now.outs lost.new.items current.new.items order.new.items (From (told + 1))) }
     ensures order { OnOk result ((j x : ℕ) → slice_get order.old.items j ≡ Some x → slice_get order.new.items j ≡ Some x) }
@@ -161,10 +161,10 @@ fn without_moves(alloc: Global, graph: &Graph) -> Result<Vec<u32>, NoMemory>
 pub fn remove<L: Ledger>(
     alloc: Global,
     graph: &Graph,
-    steps: &mut Steps<L>,
+    steps: &mut StepCount<L>,
 ) -> Result<Removal, NoMemory>
     requires nodes { length graph.now.outs < 2 ^ 32 }
-    requires few { (n : ℕ) → moves_at graph.now.outs n < 2 ^ 32 }
+    requires bounded { (n : ℕ) → moves_at graph.now.outs n < 2 ^ 32 }
     requires into { IsInto graph.now.outs graph.now.intos }
     ensures removal { IfOk result (λ r. IsRemoval graph.now.outs r.current.items r.order.items) }
     ensures steps { IfOk result (λ r. steps.new ≡ steps.old + sum_by (λ n. cost_of graph.now.intos n) r.order.items) }
@@ -183,7 +183,7 @@ pub fn remove<L: Ledger>(
 /// The same removal, by steps that nobody counts.
 pub fn remove_uncounted(alloc: Global, graph: &Graph) -> Result<Removal, NoMemory>
     requires nodes { length graph.now.outs < 2 ^ 32 }
-    requires few { (n : ℕ) → moves_at graph.now.outs n < 2 ^ 32 }
+    requires bounded { (n : ℕ) → moves_at graph.now.outs n < 2 ^ 32 }
     requires into { IsInto graph.now.outs graph.now.intos }
     ensures { IfOk result (λ r. IsRemoval graph.now.outs r.current.items r.order.items) }
 {
@@ -195,10 +195,10 @@ fn remove_by<L: Ledger>(alloc: Global, graph: &Graph, blank: Blank) -> Result<Re
     requires parts { blank.parts ≡ L.parts }
     requires some { 0 < L.parts }
     requires nodes { length graph.now.outs < 2 ^ 32 }
-    requires few { (n : ℕ) → moves_at graph.now.outs n < 2 ^ 32 }
+    requires bounded { (n : ℕ) → moves_at graph.now.outs n < 2 ^ 32 }
     requires into { IsInto graph.now.outs graph.now.intos }
     ensures { IfOk result (λ r. IsRemoval graph.now.outs r.current.items r.order.items) }
 {
-    let mut steps: Steps<L> = Steps::new(blank);
+    let mut steps: StepCount<L> = StepCount::new(blank);
     remove(alloc, graph, &mut steps)
 }

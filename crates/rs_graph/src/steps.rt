@@ -6,12 +6,12 @@ use std::sync::ledger::{Blank, Book, Ledger, Share};
 
 /// How many steps were taken.
 #[derive(Drop)]
-pub struct Steps<L: Ledger> {
+pub struct StepCount<L: Ledger> {
     book: Book<L>,
     share: Share<L>,
 }
 
-impl<L: Ledger> Model for Steps<L> {
+impl<L: Ledger> Model for StepCount<L> {
     ghost use Rattle.std.specs.Prelude.{ℕ, ◌<◌};
 
     ghost Value = { ℕ };
@@ -21,16 +21,16 @@ impl<L: Ledger> Model for Steps<L> {
     ghost invariant = { λ s. 0 < s.share.parts };
 }
 
-impl<L: Ledger> Steps<L> {
+impl<L: Ledger> StepCount<L> {
     /// No steps yet, in the ledger that the blank opens.
-    pub fn new(blank: Blank) -> Steps<L>
+    pub fn new(blank: Blank) -> StepCount<L>
         requires name { blank.name ≡ L.name }
         requires parts { blank.parts ≡ L.parts }
         requires some { 0 < L.parts }
         ensures { result ≡ 0 }
     {
         let (book, share) = blank.open();
-        Steps { book, share }
+        StepCount { book, share }
     }
 
     pub fn tick(&mut self)

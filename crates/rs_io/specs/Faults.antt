@@ -15,7 +15,7 @@ abbrev pub Rose : ℕ → ℕ → Type 0 → Type 0
 Rose before now last_now = (before < now) ⊎ last_now
 
 -- the count never falls, and stays at its last value
-pub record Counts (before now : ℕ) (last_before last_now : Type 0) : Type 0 where
+pub record NeverFalls (before now : ℕ) (last_before last_now : Type 0) : Type 0 where
   pub later : before ≤ now
   pub stays : last_before → last_now
 

@@ -1,7 +1,10 @@
-ghost use Rattle.std.specs.Prelude.{◌≡◌, ◌-◌, ◌<◌, ◌≤◌, ◌==◌, ◌&&◌, ◌||◌, min, nat_lt, [], length, Some, IfOk, OnErr, is_err, if◌then◌else◌};
+//! Sources and sinks in memory that fail at chosen calls.
+
+ghost use Rattle.std.specs.Prelude.{◌≡◌, ◌-◌, ◌<◌, ◌≤◌, ◌==◌, ◌&&◌, ◌||◌, min, nat_lt, [], length, Some, IfOk, OnErr, is_err};
 ghost use Rattle.std.specs.Io.{ReadsAtMost, WritesAtMost};
 ghost use Rattle.std.specs.Io.KnownBytes.{ReadConsumes, WriteAppends};
-ghost use Rattle.rs_io.specs.Faults.{IsLast, Rose, Counts, one_count_more, is_listed};
+ghost use Rattle.rs_io.specs.Calls.{source_behind, sink_behind};
+ghost use Rattle.rs_io.specs.Faults.{IsLast, Rose, NeverFalls, one_count_more, is_listed};
 
 use crate::stock::Stock;
 use crate::{Failed, Sink, Source};
@@ -62,14 +65,11 @@ impl Source for MemSource {
     fn read(&mut self, into: &mut [u8]) -> Result<usize, Failed>
         ensures bound { ReadsAtMost result into.new }
         ensures bytes { ReadConsumes (Some self.old.left) (Some self.new.left) result into.new }
-        ensures count { Counts self.old.faults self.new.faults (IsLast self.old.faults) (IsLast self.new.faults) }
+        ensures count { NeverFalls self.old.faults self.new.faults (IsLast self.old.faults) (IsLast self.new.faults) }
         ensures cause { OnErr result (Rose self.old.faults self.new.faults (IsLast self.new.faults)) }
         ensures refuses { is_err result ≡ is_listed (one_count_more self.old.calls) self.old.failing }
         ensures gives { IfOk result (λ n. n ≡ min self.old.piece (min (length self.old.left) (length into.old))) }
-        ensures calls { self.new.calls ≡ one_count_more self.old.calls }
-        ensures faults { self.new.faults ≡ (if is_err result then one_count_more self.old.faults else self.old.faults) }
-        ensures piece { self.new.piece ≡ self.old.piece }
-        ensures failing { self.new.failing ≡ self.old.failing }
+        ensures rest { self.new ≡ source_behind (is_err result) self.new.left self.old }
     {
         self.calls = self.calls.saturating_add(1);
         if lists(self.failing.as_slice(), self.calls) {
@@ -150,16 +150,12 @@ impl Sink for MemSink {
         ensures bound { WritesAtMost result bytes.now }
         ensures progress { IfOk result (λ n. 0 < length bytes.now → 1 ≤ n) }
         ensures bytes { WriteAppends (Some self.old.written) (Some self.new.written) result bytes.now }
-        ensures count { Counts self.old.faults self.new.faults (IsLast self.old.faults) (IsLast self.new.faults) }
+        ensures count { NeverFalls self.old.faults self.new.faults (IsLast self.old.faults) (IsLast self.new.faults) }
         ensures cause { OnErr result (Rose self.old.faults self.new.faults (IsLast self.new.faults)) }
         ensures refuses { is_err result ≡ (is_listed (one_count_more self.old.calls) self.old.failing
             || (nat_lt 0 (length bytes.now) && (length self.old.written == self.old.room))) }
         ensures takes { IfOk result (λ n. n ≡ min self.old.piece (min (self.old.room - length self.old.written) (length bytes.now))) }
-        ensures calls { self.new.calls ≡ one_count_more self.old.calls }
-        ensures faults { self.new.faults ≡ (if is_err result then one_count_more self.old.faults else self.old.faults) }
-        ensures room { self.new.room ≡ self.old.room }
-        ensures piece { self.new.piece ≡ self.old.piece }
-        ensures failing { self.new.failing ≡ self.old.failing }
+        ensures rest { self.new ≡ sink_behind (is_err result) self.new.written self.old }
     {
         self.calls = self.calls.saturating_add(1);
         let left = self.room - self.taken.len();

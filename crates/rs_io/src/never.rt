@@ -1,7 +1,9 @@
+//! Sources and sinks in memory that never fail.
+
 ghost use Rattle.std.specs.Prelude.{◌≡◌, ◌<◌, ◌≤◌, min, length, None, Some, Ok, IfOk, OnErr};
 ghost use Rattle.std.specs.Io.{ReadsAtMost, WritesAtMost};
 ghost use Rattle.std.specs.Io.KnownBytes.{ReadConsumes, WriteAppends};
-ghost use Rattle.rs_io.specs.Faults.{Rose, Counts};
+ghost use Rattle.rs_io.specs.Faults.{Rose, NeverFalls};
 
 use crate::stock::Stock;
 use crate::{Failed, Sink, Source};
@@ -44,7 +46,7 @@ impl Source for NeverSource {
     fn read(&mut self, into: &mut [u8]) -> Result<usize, Failed>
         ensures bound { ReadsAtMost result into.new }
         ensures bytes { ReadConsumes (Some self.old) (Some self.new) result into.new }
-        ensures count { Counts 0 0 ⊥ ⊥ }
+        ensures count { NeverFalls 0 0 ⊥ ⊥ }
         ensures cause { OnErr result (Rose 0 0 ⊥) }
         ensures gives { result ≡ Ok (min (length self.old) (length into.old)) }
     {
@@ -74,7 +76,7 @@ impl Sink for NeverSink {
         ensures bound { WritesAtMost result bytes.now }
         ensures progress { IfOk result (λ n. 0 < length bytes.now → 1 ≤ n) }
         ensures bytes { WriteAppends None None result bytes.now }
-        ensures count { Counts 0 0 ⊥ ⊥ }
+        ensures count { NeverFalls 0 0 ⊥ ⊥ }
         ensures cause { OnErr result (Rose 0 0 ⊥) }
         ensures takes { result ≡ Ok (length bytes.now) }
     {

@@ -1,6 +1,8 @@
+//! All bytes of a source.
+
 ghost use Rattle.std.specs.Prelude.{◌≡◌, ℕ, ◌+◌, ◌<◌, ◌≤◌, ◌^◌, List, length, vec_len, IfOk, IfSome, OnOk, MatchResult};
 ghost use Rattle.std.specs.Io.KnownBytes.{Consumes, IsAtEnd};
-ghost use Rattle.rs_io.specs.Faults.{Rose, Counts};
+ghost use Rattle.rs_io.specs.Faults.{Rose, NeverFalls};
 ghost use Rattle.rs_io.specs.Stops.{StopsAfter};
 
 use crate::Source;
@@ -48,7 +50,7 @@ pub fn read_all<S: Source>(alloc: Global, source: &mut S, limit: usize) -> Resul
     // The bytes that were taken are those of the answer, and tell which stop it is.
     ensures taken { (bytes : List ℕ) × Consumes (S.left source.old) (S.left source.new) bytes
         × MatchResult result (λ v. v.items ≡ bytes) (StopsAfter limit (length bytes)) }
-    ensures count { Counts (S.faults source.old) (S.faults source.new) (S.last source.old) (S.last source.new) }
+    ensures count { NeverFalls (S.faults source.old) (S.faults source.new) (S.last source.old) (S.last source.new) }
     ensures too_long { result ≡ Err ReadStop.TooLong → IfSome (S.left source.old) (λ bytes. limit < length bytes) }
     ensures read_fault { result ≡ Err ReadStop.ReadFault → Rose (S.faults source.old) (S.faults source.new) (S.last source.new) }
 {

@@ -1,7 +1,9 @@
+//! Readers and writers of std as sources and sinks.
+
 ghost use Rattle.std.specs.Prelude.{◌≡◌, ◌<◌, ◌≤◌, length, IfOk, OnErr, is_err, if◌then◌else◌};
 ghost use Rattle.std.specs.Io.{ReadsAtMost, WritesAtMost};
 ghost use Rattle.std.specs.Io.KnownBytes.{ReadConsumes, WriteAppends, Keeps};
-ghost use Rattle.rs_io.specs.Faults.{IsLast, Rose, Counts, one_count_more};
+ghost use Rattle.rs_io.specs.Faults.{IsLast, Rose, NeverFalls, one_count_more};
 
 use crate::{Failed, Sink, Source};
 use std::io::{Read, Write};
@@ -42,7 +44,7 @@ impl<R: Read> Source for StdSource<R> {
     fn read(&mut self, into: &mut [u8]) -> Result<usize, Failed>
         ensures bound { ReadsAtMost result into.new }
         ensures bytes { ReadConsumes (R.remaining self.old.inner) (R.remaining self.new.inner) result into.new }
-        ensures count { Counts self.old.faults self.new.faults (IsLast self.old.faults) (IsLast self.new.faults) }
+        ensures count { NeverFalls self.old.faults self.new.faults (IsLast self.old.faults) (IsLast self.new.faults) }
         ensures cause { OnErr result (Rose self.old.faults self.new.faults (IsLast self.new.faults)) }
         ensures faults { self.new.faults ≡ (if is_err result then one_count_more self.old.faults else self.old.faults) }
     {
@@ -83,7 +85,7 @@ impl<W: Write> StdSink<W> {
     /// `Failed`: the writer answered an error.
     pub fn flush(&mut self) -> Result<(), Failed>
         ensures kept { Keeps (W.contents self.old.inner) (W.contents self.new.inner) }
-        ensures count { Counts self.old.faults self.new.faults (IsLast self.old.faults) (IsLast self.new.faults) }
+        ensures count { NeverFalls self.old.faults self.new.faults (IsLast self.old.faults) (IsLast self.new.faults) }
         ensures cause { OnErr result (Rose self.old.faults self.new.faults (IsLast self.new.faults)) }
         ensures faults { self.new.faults ≡ (if is_err result then one_count_more self.old.faults else self.old.faults) }
     {
@@ -109,7 +111,7 @@ impl<W: Write> Sink for StdSink<W> {
         ensures bound { WritesAtMost result bytes.now }
         ensures progress { IfOk result (λ n. 0 < length bytes.now → 1 ≤ n) }
         ensures bytes { WriteAppends (W.contents self.old.inner) (W.contents self.new.inner) result bytes.now }
-        ensures count { Counts self.old.faults self.new.faults (IsLast self.old.faults) (IsLast self.new.faults) }
+        ensures count { NeverFalls self.old.faults self.new.faults (IsLast self.old.faults) (IsLast self.new.faults) }
         ensures cause { OnErr result (Rose self.old.faults self.new.faults (IsLast self.new.faults)) }
         ensures faults { self.new.faults ≡ (if is_err result then one_count_more self.old.faults else self.old.faults) }
     {

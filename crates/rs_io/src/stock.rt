@@ -1,3 +1,5 @@
+//! Bytes in memory that are given in order.
+
 ghost use Rattle.std.specs.Prelude.{◌≡◌, min, length, take, ◌++◌};
 
 use std::marker::Model;

@@ -1,7 +1,9 @@
+//! What a source and a sink promise.
+
 ghost use Rattle.std.specs.Prelude.{ℕ, List, ◌<◌, ◌≤◌, length, Option, IfOk, OnErr};
 ghost use Rattle.std.specs.Io.{ReadsAtMost, WritesAtMost};
 ghost use Rattle.std.specs.Io.KnownBytes.{ReadConsumes, WriteAppends};
-ghost use Rattle.rs_io.specs.Faults.{Rose, Counts};
+ghost use Rattle.rs_io.specs.Faults.{Rose, NeverFalls};
 
 /// A read or a write that failed.
 #[derive(Clone, Copy, Debug, PartialEq, Eq)]
@@ -24,7 +26,7 @@ pub trait Source {
     fn read(&mut self, into: &mut [u8]) -> Result<usize, Failed>
         ensures bound { ReadsAtMost result into.new }
         ensures bytes { ReadConsumes (left self.old) (left self.new) result into.new }
-        ensures count { Counts (faults self.old) (faults self.new) (last self.old) (last self.new) }
+        ensures count { NeverFalls (faults self.old) (faults self.new) (last self.old) (last self.new) }
         ensures cause { OnErr result (Rose (faults self.old) (faults self.new) (last self.new)) };
 }
 
@@ -45,6 +47,6 @@ pub trait Sink {
         ensures bound { WritesAtMost result bytes.now }
         ensures progress { IfOk result (λ n. 0 < length bytes.now → 1 ≤ n) }
         ensures bytes { WriteAppends (written self.old) (written self.new) result bytes.now }
-        ensures count { Counts (faults self.old) (faults self.new) (last self.old) (last self.new) }
+        ensures count { NeverFalls (faults self.old) (faults self.new) (last self.old) (last self.new) }
         ensures cause { OnErr result (Rose (faults self.old) (faults self.new) (last self.new)) };
 }

@@ -1,6 +1,8 @@
+//! All bytes into a sink.
+
 ghost use Rattle.std.specs.Prelude.{OnOk, OnErr};
 ghost use Rattle.std.specs.Io.KnownBytes.{Appends};
-ghost use Rattle.rs_io.specs.Faults.{Rose, Counts};
+ghost use Rattle.rs_io.specs.Faults.{Rose, NeverFalls};
 ghost use Rattle.rs_io.specs.Prefix.{AppendsPrefix};
 
 use crate::Sink;
@@ -16,7 +18,7 @@ pub struct WriteFault;
 pub fn write_all<K: Sink>(sink: &mut K, bytes: &[u8]) -> Result<(), WriteFault>
     ensures ok { OnOk result (Appends (K.written sink.old) (K.written sink.new) bytes.now) }
     ensures err { OnErr result (AppendsPrefix (K.written sink.old) (K.written sink.new) bytes.now) }
-    ensures count { Counts (K.faults sink.old) (K.faults sink.new) (K.last sink.old) (K.last sink.new) }
+    ensures count { NeverFalls (K.faults sink.old) (K.faults sink.new) (K.last sink.old) (K.last sink.new) }
     ensures cause { OnErr result (Rose (K.faults sink.old) (K.faults sink.new) (K.last sink.new)) }
 {
     let mut done = 0;

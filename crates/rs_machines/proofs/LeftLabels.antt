@@ -7,18 +7,15 @@ use Rattle.rs_text.specs.declared.faults.TextKind.{TextKind}
 use Rattle.rs_text.specs.declared.faults.TextKind.TheVariants as kind
 use Rattle.rs_bodies.specs.Data.{Spelling_data}
 use Rattle.rs_bodies.specs.Graph.{labels_of}
-use Rattle.rs_bodies.specs.Spells.{Spells}
+use Rattle.rs_bodies.specs.Spellings.{Spells}
 use Rattle.rs_bodies.specs.declared.dialects.Dialect.TheVariants.{Acts}
 use Rattle.rs_machines.specs.Faults.{LeavesLabels, labels_among}
-use Rattle.rs_machines.specs.Parts.{machine_spelt}
-use Rattle.rs_machines.specs.Spells.{SpellsMachine}
-use Rattle.rs_machines.proofs.Spelt.{to_machine}
 use Rattle.rs_machines.proofs.TreeLabels.{tree_labels}
 use Rattle.rs_text.proofs.Nexts.{are_lexed}
 
-pub spelt_leaves : (bytes : List ℕ) (at : ℕ) (old new : Names_data) (s : Spelling_data) (until : ℕ) (k : TextKind) (offset : ℕ) → k ≡ kind.NoMemory → Spells Acts bytes at old new s until → LeavesLabels old new bytes at k offset
-spelt_leaves bytes at old new s until k offset e spelt =
-    let m : SpellsMachine bytes at old new (machine_spelt s) until = to_machine bytes at old new s until spelt in
+pub spelt_leaves : (bytes : List ℕ) (at : ℕ) (old new : Names_data) (s : Spelling_data) (until : ℕ) (k : TextKind) (offset : ℕ) → k ≡ kind.NoMemory → Spells Acts bytes at old new s until
+    → LeavesLabels old new bytes at k offset
+spelt_leaves bytes at old new s until k offset e m =
     let labels : labels_of Acts m.tree.body ≡ labels_among false (signs_of m.lexemes) = sym (ap (λ z. labels_among false z) m.spelt ∙ tree_labels m.tree) in
     inl (
       e,

@@ -3,13 +3,8 @@ pub mod TreeLabels
 pub mod NamedStates
 pub mod SpeltShapes
 pub mod Places
-pub mod Existence
-pub mod CanonOne
-pub mod EnoughNames
-pub mod PrintedTrees
-pub mod CanonWhole
 pub mod Printed
 pub mod ShapeWhole
-pub mod CanonOlder
 pub mod Spelt
 pub mod LeftLabels
+pub mod Canonical

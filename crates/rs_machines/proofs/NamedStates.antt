@@ -10,7 +10,7 @@ use Rattle.rs_bodies.specs.declared.dialects.Mark.TheVariants as mark
 use Rattle.rs_machines.specs.Enough.{AreEnoughFor}
 use Rattle.rs_machines.specs.Named.{ArmHasName, StateHasNames, HasNames}
 use Rattle.rs_machines.specs.Spells.{SpellsMachine}
-use Rattle.rs_machines.proofs.EnoughNames.{spelt_enough}
+use Rattle.rs_machines.proofs.Canonical.{spelt_enough}
 
 arms_named : (names : Names_data) (arms : List Arm) → ((place : ℕ) (arm : Arm) → slice_get arms place ≡ Some arm → arm.label.0 < length names.labels) → All (ArmHasName names) arms
 arms_named names arms f = λ k d lt. f k (get_or arms k d) (slice_get-get_or arms k d lt)

@@ -14,8 +14,10 @@ use Rattle.rs_bodies.specs.Graph.{labels_of, labels_of_arms}
 use Rattle.rs_bodies.specs.Trees.{Body, ends, again, binds, acts, offers, Branches, one, more, body_signs, branch_signs}
 use Rattle.rs_bodies.specs.Dialects.{mark_sign, with_mark}
 use Rattle.rs_bodies.specs.Dialects.{with_mark}
+use Rattle.rs_bodies.specs.Openings.{Opening, of_role, opening_signs}
 
-word_if : (a b : Bool) (l : List ℕ) (ts : List Sign) → (a ≡ true → l ≡ codes "rec") → (b ≡ true → l ≡ codes "end") → labels_among true ((if a then rec_word else if b then end_word else plain l) ∷ ts) ≡ l ∷ labels_among false ts
+word_if : (a b : Bool) (l : List ℕ) (ts : List Sign) → (a ≡ true → l ≡ codes "rec") → (b ≡ true → l ≡ codes "end")
+    → labels_among true ((if a then rec_word else if b then end_word else plain l) ∷ ts) ≡ l ∷ labels_among false ts
 word_if true b l ts e f = ap (λ z. z ∷ labels_among false ts) (sym (e refl))
 word_if false true l ts e f = ap (λ z. z ∷ labels_among false ts) (sym (f refl))
 word_if false false l ts e f = refl
@@ -39,14 +41,27 @@ mutual
   body_labels ends ts = refl
   body_labels (again name) ts = refl
   body_labels (binds name body) ts = body_labels body ts
-  body_labels (acts p (with_mark m) l s body) ts = marked m p ((arm_signs l s ++ body_signs Acts body) ++ ts) ∙ ap (λ z. labels_among true z) (append_assoc (arm_signs l s) (body_signs Acts body) ts) ∙ arm_labels l s (body_signs Acts body ++ ts) ∙ ap (λ z. l ∷ z) (body_labels body ts)
-  body_labels (offers p (with_mark m) arms) ts = marked m p (open_brace ∷ ((branch_signs Acts arms ++ close_brace ∷ []) ++ ts)) ∙ ap (λ z. labels_among true z) (append_assoc (branch_signs Acts arms) (close_brace ∷ []) ts) ∙ branch_labels arms (close_brace ∷ ts)
+  body_labels (acts p (with_mark m) l s body) ts =
+      marked m p ((arm_signs l s ++ body_signs Acts body) ++ ts) ∙ ap (λ z. labels_among true z) (append_assoc (arm_signs l s) (body_signs Acts body) ts) ∙ arm_labels l s (body_signs Acts body ++ ts)
+      ∙ ap (λ z. l ∷ z) (body_labels body ts)
+  body_labels (offers p (with_mark m) arms) ts =
+      marked m p (open_brace ∷ ((branch_signs Acts arms ++ close_brace ∷ []) ++ ts)) ∙ ap (λ z. labels_among true z) (append_assoc (branch_signs Acts arms) (close_brace ∷ []) ts)
+      ∙ branch_labels arms (close_brace ∷ ts)
 
   branch_labels : (arms : Branches Acts) (ts : List Sign) → labels_among true (branch_signs Acts arms ++ ts) ≡ labels_of_arms Acts arms ++ labels_among false ts
-  branch_labels (one l s body) ts = ap (λ z. labels_among true z) (append_assoc (arm_signs l s) (body_signs Acts body) ts) ∙ arm_labels l s (body_signs Acts body ++ ts) ∙ ap (λ z. l ∷ z) (body_labels body ts)
+  branch_labels (one l s body) ts =
+      ap (λ z. labels_among true z) (append_assoc (arm_signs l s) (body_signs Acts body) ts) ∙ arm_labels l s (body_signs Acts body ++ ts) ∙ ap (λ z. l ∷ z) (body_labels body ts)
   branch_labels (more l s body arms) ts =
-      ap (λ z. labels_among true z) (append_assoc (arm_signs l s) (body_signs Acts body ++ comma ∷ branch_signs Acts arms) ts ∙ ap (λ z. arm_signs l s ++ z) (append_assoc (body_signs Acts body) (comma ∷ branch_signs Acts arms) ts))
-      ∙ arm_labels l s (body_signs Acts body ++ comma ∷ (branch_signs Acts arms ++ ts)) ∙ ap (λ z. l ∷ z) (body_labels body (comma ∷ (branch_signs Acts arms ++ ts)) ∙ ap (λ z. labels_of Acts body ++ z) (branch_labels arms ts) ∙ sym (append_assoc (labels_of Acts body) (labels_of_arms Acts arms) (labels_among false ts)))
+      ap (λ z. labels_among true z)
+      (append_assoc (arm_signs l s) (body_signs Acts body ++ comma ∷ branch_signs Acts arms) ts
+      ∙ ap (λ z. arm_signs l s ++ z) (append_assoc (body_signs Acts body) (comma ∷ branch_signs Acts arms) ts))
+      ∙ arm_labels l s (body_signs Acts body ++ comma ∷ (branch_signs Acts arms ++ ts))
+      ∙ ap (λ z. l ∷ z) (body_labels body (comma ∷ (branch_signs Acts arms ++ ts)) ∙ ap (λ z. labels_of Acts body ++ z) (branch_labels arms ts)
+      ∙ sym (append_assoc (labels_of Acts body) (labels_of_arms Acts arms) (labels_among false ts)))
+
+opening_labels : (o : Opening Acts) (ts : List Sign) → labels_among false (opening_signs Acts o ++ ts) ≡ labels_among false ts
+opening_labels (of_role r) ts = refl
 
 pub tree_labels : (t : MachineTree) → labels_among false (machine_signs t) ≡ labels_of Acts t.body
-tree_labels t = ap (λ z. labels_among false z) (sym (append-nil (body_signs Acts t.body))) ∙ body_labels t.body [] ∙ append-nil (labels_of Acts t.body)
+tree_labels t =
+    opening_labels t.opening (body_signs Acts t.body) ∙ ap (λ z. labels_among false z) (sym (append-nil (body_signs Acts t.body))) ∙ body_labels t.body [] ∙ append-nil (labels_of Acts t.body)

@@ -6,6 +6,7 @@ use Rattle.rs_bodies.specs.declared.dialects.Mark.TheVariants as mark
 use Rattle.rs_machines.specs.Trees.{MachineTree}
 use Rattle.rs_bodies.specs.Trees.{binds, offers, more, one, again, ends}
 use Rattle.rs_bodies.specs.Dialects.{with_mark}
+use Rattle.rs_bodies.specs.Openings.{of_role}
 
 -- a text in which an act is gone back to
 abbrev pub text : List ℕ
@@ -18,6 +19,6 @@ old = record { roles = codes "A" ∷ codes "B" ∷ []; labels = codes "y" ∷ []
 -- its tree
 abbrev pub tree : MachineTree
 tree = record {
-  role = codes "A";
+  opening = of_role (codes "A");
   body = binds (codes "X") (offers (codes "B") (with_mark mark.Puts) (more (codes "x") None (again (codes "X")) (one (codes "y") (Some sort.Natural) ends)));
 }

@@ -1,5 +1,6 @@
 -- Believed: the first fault of a text, and the names that it leaves.
-pub use Rattle.rs_bodies.specs.Faults.{Keeps, LeavesLabels, LeavesNames, LeavesSome, labels_among}
+pub use Rattle.rs_bodies.specs.Faults.{LeavesLabels, LeavesNames, LeavesSome, labels_among}
+pub use Rattle.rs_text.specs.Kept.{Keeps}
 use Rattle.std.specs.Prelude.{ℕ, List}
 use Rattle.rs_model.specs.Data.{Names_data}
 use Rattle.rs_text.specs.declared.faults.TextKind.{TextKind}

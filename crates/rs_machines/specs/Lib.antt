@@ -1,8 +1,10 @@
 pub mod Trees
 pub mod Machines
-pub mod Spells
-pub mod Faults
 pub mod Parts
+pub mod Kinds
+pub mod Spells
+pub mod Read
+pub mod Faults
 pub mod Answers
 pub mod Tables
 pub mod Examples

@@ -15,7 +15,7 @@ ArmHasName names a = a.label.0 < length names.labels
 abbrev pub ChoiceHasNames : Names_data → Role → List Arm → Type 0
 ChoiceHasNames names peer arms = (peer.0 < length names.roles) × All (ArmHasName names) arms
 
--- .. of a state of any kind
+-- the peer and the labels of a state of any kind have names
 abbrev pub StateHasNames : Names_data → State → Type 0
 StateHasNames names state.Done = Unit {0}
 StateHasNames names (state.Puts peer arms) = ChoiceHasNames names peer arms

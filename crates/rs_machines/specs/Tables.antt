@@ -25,7 +25,7 @@ sort_in_table sort.Numbers = sort_text sort.Numbers
 abbrev pub arm_in_table : Names_data → Arm → List ℕ
 arm_in_table names a = name_at names.labels a.label.0 ++ codes "(" ++ sort_in_table a.sort ++ codes ") " ++ decimal a.next
 
--- .. behind another arm
+-- an arm behind another arm
 abbrev pub later_arm_in_table : Names_data → Arm → List ℕ
 later_arm_in_table names a = codes ", " ++ arm_in_table names a
 

@@ -1,4 +1,5 @@
-// What the first fault of a text is, and that the reader tells it. The functions do nothing: each states a law.
+//! What the first fault of a text is, and that the reader tells it. The functions do nothing: each states a law.
+
 ghost use Rattle.std.specs.Prelude.{◌≡◌, ◌≤◌, ℕ, List, Ok, Err, length, false};
 ghost use Rattle.rs_model.specs.Data.{Names_data, Machine_data};
 ghost use Rattle.rs_text.specs.declared.faults.TextFault.{TextFault};
@@ -14,22 +15,23 @@ ghost use Rattle.rs_machines.specs.Trees.{MachineTree, machine_signs};
 ghost use Rattle.rs_machines.specs.Answers.{MachineAnswer, ReadsAs};
 ghost use Rattle.rs_machines.specs.Spells.{SpellsMachine};
 
-/// Whatever fault the reader tells is the first fault of the text ..
+/// Whatever fault the reader tells is the first fault of the text.
 pub fn told_fault_is_the_first()
     ensures { (old : Names_data) (bytes : List ℕ) (at : ℕ) (fault : TextFault) → at ≤ length bytes → ReadsAs old bytes at (Err fault) → FirstFault old bytes at fault.kind fault.at }
 {}
 
-/// .. and the first fault of a text is told.
+/// The first fault of a text is told.
 pub fn first_fault_is_told()
     ensures { (old : Names_data) (bytes : List ℕ) (at : ℕ) (kind : TextKind) (offset : ℕ) → FirstFault old bytes at kind offset → ReadsAs old bytes at (Err (record { kind = kind; at = offset })) }
 {}
 
-/// A text has one first fault at most ..
+/// A text has one first fault at most.
 pub fn text_has_one_first_fault()
-    ensures { (old : Names_data) (bytes : List ℕ) (at : ℕ) (kind other : TextKind) (offset place : ℕ) → FirstFault old bytes at kind offset → FirstFault old bytes at other place → (kind ≡ other) × (offset ≡ place) }
+    ensures { (old : Names_data) (bytes : List ℕ) (at : ℕ) (kind other : TextKind) (offset place : ℕ) → FirstFault old bytes at kind offset → FirstFault old bytes at other place
+        → (kind ≡ other) × (offset ≡ place) }
 {}
 
-/// .. and none where a machine is read from it.
+/// A text from which a machine is read has no first fault.
 pub fn read_text_has_no_fault()
     ensures { (old : Names_data) (bytes : List ℕ) (at : ℕ) (answer : MachineAnswer) (kind : TextKind) (offset : ℕ) → ReadsAs old bytes at (Ok answer) → FirstFault old bytes at kind offset → ⊥ }
 {}
@@ -42,22 +44,26 @@ pub fn tokens_before_the_fault_begin_a_machine()
 /// Where another token is expected, the tokens up to that one begin a machine and with it they begin none, and what is
 /// wanted is what its place wants.
 pub fn expected_is_unexpected()
-    ensures { (old : Names_data) (bytes : List ℕ) (at : ℕ) (wanted : Wanted) (offset : ℕ) (fault : FirstFault old bytes at (kind.Expected wanted) offset) → IsUnexpected Acts (signs_of fault.before) fault.token.sign wanted }
+    ensures { (old : Names_data) (bytes : List ℕ) (at : ℕ) (wanted : Wanted) (offset : ℕ) (fault : FirstFault old bytes at (kind.Expected wanted) offset)
+        → IsUnexpected Acts (signs_of fault.before) fault.token.sign wanted }
 {}
 
-/// A text that a tree spells is read ..
+/// A text that a tree spells is read.
 pub fn spelt_text_is_read()
-    ensures { (old : Names_data) (bytes : List ℕ) (at : ℕ) (names : Names_data) (machine : Machine_data) (until : ℕ) → SpellsMachine bytes at old names machine until → (answer : MachineAnswer) × ReadsAs old bytes at (Ok answer) }
+    ensures { (old : Names_data) (bytes : List ℕ) (at : ℕ) (names : Names_data) (machine : Machine_data) (until : ℕ) → SpellsMachine bytes at old names machine until
+        → (answer : MachineAnswer) × ReadsAs old bytes at (Ok answer) }
 {}
 
-/// .. and has no first fault.
+/// A text that a tree spells has no first fault.
 pub fn spelt_text_has_no_fault()
-    ensures { (old : Names_data) (bytes : List ℕ) (at : ℕ) (names : Names_data) (machine : Machine_data) (until : ℕ) (kind : TextKind) (offset : ℕ) → SpellsMachine bytes at old names machine until → FirstFault old bytes at kind offset → ⊥ }
+    ensures { (old : Names_data) (bytes : List ℕ) (at : ℕ) (names : Names_data) (machine : Machine_data) (until : ℕ) (kind : TextKind) (offset : ℕ) → SpellsMachine bytes at old names machine until
+        → FirstFault old bytes at kind offset → ⊥ }
 {}
 
 /// A first fault leaves one list of names.
 pub fn first_fault_leaves_one_list_of_names()
-    ensures { (old new other : Names_data) (bytes : List ℕ) (at : ℕ) (kind another : TextKind) (offset place : ℕ) → LeavesNames old new bytes at kind offset → LeavesNames old other bytes at another place → new ≡ other }
+    ensures { (old new other : Names_data) (bytes : List ℕ) (at : ℕ) (kind another : TextKind) (offset place : ℕ) → LeavesNames old new bytes at kind offset
+        → LeavesNames old other bytes at another place → new ≡ other }
 {}
 
 /// The labels among the tokens of a machine are those of its tree.

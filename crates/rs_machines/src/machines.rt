@@ -1,11 +1,12 @@
-ghost use Rattle.std.specs.Prelude.{◌≡◌, ◌≤◌, ◌+◌, ◌++◌, length, map, take, IfOk, IfErr, ◌⊎◌};
-ghost use Rattle.rs_model.specs.declared.limits.TheConstants.{MOST_ACTS, MOST_LABELS, MOST_ROLES};
-ghost use Rattle.rs_text.specs.declared.faults.TextKind.TheVariants as kind;
-ghost use Rattle.rs_text.specs.Sound.{IsSound};
+//! The reader of machines.
+
+ghost use Rattle.std.specs.Prelude.{◌≡◌, ◌≤◌, ◌+◌, ◌++◌, length, map, IfOk, IfErr};
+ghost use Rattle.rs_text.specs.FirstFaults.{IsRefusal};
+ghost use Rattle.rs_text.specs.Sound.{AreReadable};
 ghost use Rattle.rs_machines.specs.Faults.{FirstFault, Keeps, LeavesLabels};
-ghost use Rattle.rs_machines.specs.Machines.{end_states, state_of};
-ghost use Rattle.rs_machines.specs.Parts.{machine_spelt, state_at, state_by};
-ghost use Rattle.rs_machines.specs.Spells.{SpellsMachine};
+ghost use Rattle.rs_machines.specs.Machines.{end_states, state_by_mark};
+ghost use Rattle.rs_machines.specs.Parts.{machine_spelt, state_of_point, state_of_head};
+ghost use Rattle.rs_machines.specs.Read.{IsMachineRead};
 
 use rs_bodies::{Dialect, Head, Mark, Point, Spelling, read_part};
 use rs_model::{Arms, Machine, Names, NoMemory, Role, State};
@@ -29,19 +30,12 @@ pub fn read_machine(
     names: &mut Names,
 ) -> Result<(Machine, usize), TextFault>
     requires at { at ≤ length bytes.now }
-    requires sound { IsSound names.old }
-    requires roles { length names.old.roles ≤ MOST_ROLES }
-    requires labels { length names.old.labels ≤ MOST_LABELS }
-    ensures ok { IfOk result (λ r. SpellsMachine bytes.now at names.old names.new r.0 r.1) }
-    ensures err { IfErr result (λ e. (e.kind ≡ kind.NoMemory) ⊎ FirstFault names.old bytes.now at e.kind e.at) }
+    requires names { AreReadable names.old }
+    ensures ok { IfOk result (λ r. IsMachineRead bytes.now at names.old names.new r.0 r.1) }
+    ensures err { IfErr result (λ e. IsRefusal (FirstFault names.old bytes.now at) bytes.now e) }
     ensures left { IfErr result (λ e. LeavesLabels names.old names.new bytes.now at e.kind e.at) }
-    ensures sound { IsSound names.new }
-    ensures roles { names.new.roles ≡ names.old.roles }
-    ensures labels { length names.new.labels ≤ MOST_LABELS }
+    ensures names { AreReadable names.new }
     ensures kept { Keeps names.old names.new }
-    ensures states { IfOk result (λ r. length r.0.states ≤ MOST_ACTS + 1) }
-    ensures within { IfOk result (λ r. r.1 ≤ length bytes.now) }
-    ensures place { IfErr result (λ e. e.at ≤ length bytes.now) }
 {
     let (spelling, until) = read_part(alloc, Dialect::Acts, bytes, at, names)?;
     match machine(alloc, spelling) {
@@ -67,7 +61,7 @@ fn machine(alloc: Global, spelling: Spelling) -> Result<Machine, NoMemory>
 
 /// The states of heads, with the end behind them where there is one.
 fn states(alloc: Global, points: Vec<Point>, ended: bool) -> Result<Vec<State>, NoMemory>
-    ensures states { IfOk result (λ states. states.items ≡ map state_at points.items ++ end_states ended) }
+    ensures states { IfOk result (λ states. states.items ≡ map state_of_point points.items ++ end_states ended) }
     ensures count { IfOk result (λ states. length states.items ≤ length points.items + 1) }
 {
     let mut states = acts(alloc, points)?;
@@ -79,7 +73,7 @@ fn states(alloc: Global, points: Vec<Point>, ended: bool) -> Result<Vec<State>, 
 
 fn acts(alloc: Global, points: Vec<Point>) -> Result<Vec<State>, NoMemory>
     ensures count { IfOk result (λ states. length states.items ≡ length points.items) }
-    ensures states { IfOk result (λ states. states.items ≡ map state_at points.items) }
+    ensures states { IfOk result (λ states. states.items ≡ map state_of_point points.items) }
 {
     let mut states = Vec::with_capacity(alloc, points.len().saturating_add(1))?;
     for point in points {
@@ -92,7 +86,7 @@ fn acts(alloc: Global, points: Vec<Point>) -> Result<Vec<State>, NoMemory>
 
 /// The state of a head. A machine has acts alone.
 fn state(head: Head, arms: Arms) -> State
-    ensures { result ≡ state_by head arms }
+    ensures { result ≡ state_of_head head arms }
 {
     match head {
         Head::Act { peer, mark } => act(mark, peer, arms),
@@ -102,7 +96,7 @@ fn state(head: Head, arms: Arms) -> State
 
 /// A state that puts to the peer or takes from it.
 fn act(mark: Mark, peer: Role, arms: Arms) -> State
-    ensures { result ≡ state_of mark peer arms }
+    ensures { result ≡ state_by_mark mark peer arms }
 {
     match mark {
         Mark::Puts => State::Puts { peer, arms },

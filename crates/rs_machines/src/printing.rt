@@ -1,3 +1,5 @@
+//! The printer of machines.
+
 ghost use Rattle.std.specs.Prelude.{◌≡◌, ◌++◌, IfOk, OnOk};
 ghost use Rattle.rs_text.specs.Sound.{IsSound};
 ghost use Rattle.rs_machines.specs.Canonical.{IsCanonicalMachineText, IsMachineTextShaped};

@@ -1,3 +1,5 @@
+//! The test whether some text reads to a machine.
+
 ghost use Rattle.std.specs.Prelude.{◌≡◌, nat_lt, IsTrue, ◌↔◌};
 ghost use Rattle.rs_model.specs.declared.limits.TheConstants.{MOST_ROLES};
 ghost use Rattle.rs_machines.specs.Canonical.{IsMachineTextShaped};

@@ -1,3 +1,5 @@
+//! The tables that machines are printed as.
+
 ghost use Rattle.std.specs.Prelude.{◌≡◌, ◌++◌, codes, IfOk, OnOk};
 ghost use Rattle.std.specs.List.{flat_map};
 ghost use Rattle.rs_text.specs.Shown.{shown_sort, shown_text};

@@ -1,4 +1,5 @@
 pub mod Lists
+pub mod Chains
 pub mod Faults
 pub mod Order
 pub mod Repeats

@@ -1,3 +1,5 @@
+//! The test of a machine.
+
 ghost use Rattle.std.specs.Prelude.{◌≡◌, ◌==◌, ◌<◌, ◌^◌, [], length, nat_le, IfErr, OnOk, None, Some};
 ghost use Rattle.std.specs.List.{list_any};
 ghost use Rattle.rs_model.specs.Checks.{choice_fault, first_repeat, machine_fault, state_fault};

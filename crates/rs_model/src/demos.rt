@@ -1,3 +1,5 @@
+//! The names of the demos.
+
 /// An example that runs on real data.
 #[derive(Clone, Copy, Debug, PartialEq, Eq)]
 pub enum Demo {

@@ -1,3 +1,5 @@
+//! Protocols as graphs of numbered nodes.
+
 ghost use Rattle.std.specs.Prelude.{◌≡◌, ◌↔◌, [], ◌∷◌, ◌++◌, IfOk, IsTrue, OnOk, OnErr};
 
 use crate::{NoMemory, Sort};

@@ -36,6 +36,9 @@ pub const MOST_CANDIDATES: usize = 65_536;
 /// The greatest bound of a derivation.
 pub const MOST_BOUND: usize = 64;
 
+/// The bound of a search where none is told.
+pub const DEFAULT_BOUND: u8 = 16;
+
 /// The greatest number in a text.
 pub const MOST_NUMBER: usize = 4_294_967_295;
 

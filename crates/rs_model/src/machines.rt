@@ -1,4 +1,6 @@
-ghost use Rattle.std.specs.Prelude.{◌≡◌, ◌↔◌, IsTrue};
+//! Machines as lists of numbered states, and their acts.
+
+ghost use Rattle.std.specs.Prelude.{◌≡◌, ◌↔◌, IfOk, IsTrue};
 
 use crate::{Arms, Label, NoMemory, Role, Sort};
 use std::alloc::Global;
@@ -140,4 +142,15 @@ impl Default for Act {
             sort: Sort::Unit,
         }
     }
+}
+
+/// Equal machines, in order, in memory of their own.
+pub fn copies_of(alloc: Global, machines: &[Machine]) -> Result<Vec<Machine>, NoMemory>
+    ensures { IfOk result (λ copies. copies.items ≡ machines.now) }
+{
+    let mut copies = Vec::with_capacity(alloc, machines.len())?;
+    for machine in machines {
+        copies.push(machine.copy(alloc)?)?;
+    }
+    Ok(copies)
 }

@@ -1,3 +1,5 @@
+//! Memory that was refused.
+
 use std::alloc::{AllocError, AllocFailed};
 
 /// Memory that was asked for was refused.

@@ -1,3 +1,5 @@
+//! Values that messages carry, and their sorts.
+
 ghost use Rattle.std.specs.Prelude.{◌≡◌, IfOk};
 
 use crate::NoMemory;

@@ -1,3 +1,5 @@
+//! The names of roles and labels.
+
 ghost use Rattle.std.specs.Prelude.{◌≡◌, ℕ, List, IfOk};
 
 use crate::NoMemory;

@@ -1,5 +1,5 @@
 -- Two runs by workers are alike.
-use Rattle.std.proofs.Common.{◌≡◌, ℕ, zero, suc, ◌<◌, List, [], ◌∷◌, length, slice_get, Some, refl, sym, ◌∙◌, arith}
+use Rattle.std.proofs.Common.{◌≡◌, ℕ, zero, suc, ◌<◌, List, [], ◌∷◌, length, slice_get, refl, sym, ◌∙◌, arith}
 use Rattle.std.proofs.lemmas.Option.{same_Some}
 use Rattle.rs_core.specs.Actors.{Behaviour}
 use Rattle.rs_core.specs.Determined.{WasStopped}
@@ -23,7 +23,8 @@ same_lists (suc n) (x ∷ xs) (y ∷ ys) a b same =
     (λ i. first i ∷ rest i)
 
 module _ {A : Type 0} (b : Behaviour A) where
-  both_shown : (roles : ℕ) (o : Ending A) (one other : List (List Entry)) (left right : List A) → EndingShows roles o (outcome.Ended one) left → EndingShows roles o (outcome.Ended other) right → (one ≡ other) × (left ≡ right)
+  both_shown : (roles : ℕ) (o : Ending A) (one other : List (List Entry)) (left right : List A) → EndingShows roles o (outcome.Ended one) left → EndingShows roles o (outcome.Ended other) right
+      → (one ≡ other) × (left ≡ right)
   both_shown roles (plain.Ended k) one other left right x y = (
     same_lists roles one other x.0.many y.0.many (λ p l. x.0.each p l ∙ sym (y.0.each p l)),
     same_lists roles left right x.1.many y.1.many (λ p l. x.1.each p l ∙ sym (y.1.each p l)),
@@ -40,6 +41,7 @@ module _ {A : Type 0} (b : Behaviour A) where
       → AgreesWithPlain machines b given limit (outcome.Ended other) right → (one ≡ other) × (left ≡ right)
   both_ended machines given limit one other left right x y = both_shown (length machines) x.some.0 one other left right (x.each x.some.0 x.some.1) (y.each x.some.0 x.some.1)
 
-  pub not_both : (machines : List Machine_data) (given : ℕ → A) (limit : ℕ) (one : List (List Entry)) (role : Role) (left right : List A) → AgreesWithPlain machines b given limit (outcome.Ended one) left
+  pub not_both : (machines : List Machine_data) (given : ℕ → A) (limit : ℕ) (one : List (List Entry)) (role : Role) (left right : List A)
+      → AgreesWithPlain machines b given limit (outcome.Ended one) left
       → AgreesWithPlain machines b given limit (outcome.Stopped role) right → ⊥
   not_both machines given limit one role left right x y = shown_stopped (length machines) x.some.0 one left (x.each x.some.0 x.some.1) (y.0.each x.some.0 x.some.1)

@@ -1,4 +1,4 @@
--- Jobs that have just been made are what the bench begins with.
+-- Jobs that have just been made are what the table of jobs begins with.
 use Rattle.std.proofs.Common.{◌≡◌, ℕ, ◌<◌, ◌≤◌, List, length, map, slice_get, All, IfSome, Option, Some, sym, ap, ◌∙◌, subst, arith, zero-le}
 use Rattle.std.proofs.lemmas.Option.{same_Some, slice_get_within}
 use mathlib.Core.Option.{some}
@@ -6,7 +6,7 @@ use lib.ListN.{get_elem?, length-map}
 use Rattle.atomic_table.proofs.Lists.{at_map}
 use Rattle.rs_core.specs.Actors.{Behaviour, Choice}
 use Rattle.rs_core.specs.declared.transcripts.Entry.{Entry}
-use Rattle.rs_core.proofs.Ends.{get-there}
+use Rattle.rs_core.proofs.Ends.{get_there}
 use Rattle.rs_exec.proofs.PlayedOn.{plays_nothing}
 use Rattle.rs_exec.specs.Tasks.{PlaysTask}
 use Rattle.rs_rings.specs.Passes.{Rings_data}
@@ -56,7 +56,7 @@ module _ {A : Type 0} (b : Behaviour A) where
       let here : slice_get stages r ≡ Some job.task.stage = ap (λ (l : List Stage). slice_get l r) (sym same) ∙ get_map (λ (j : Job A). j.task.stage) jobs r job at in
       let own : f.0 ≡ job.task.stage = same_Some f.0 job.task.stage (sym f.1 ∙ here) in
       let shows : sight_of_stage job.task.stage ≡ first_stage session r = ap sight_of_stage (sym own) ∙ f.3 in
-      let m = get-there session.machines r low in
+      let m = get_there session.machines r low in
       let actor : slice_get (actors_of jobs) r ≡ Some job.task.actor = get_map (λ (j : Job A). j.task.actor) jobs r job at in
       let so : PlaysTask session b job.task.actor job.task = plays_nothing b session r m.0 job.task m.1 shows new.kept in record {
         of = record {
@@ -75,7 +75,7 @@ module _ {A : Type 0} (b : Behaviour A) where
   begun session stages most jobs first same news =
       let many : length jobs ≡ length session.machines = sym (length-map jobs (λ (j : Job A). j.task.stage)) ∙ ap length same ∙ first.count in record {
         count = length-map jobs Some ∙ many;
-        tasks = λ r l. let j = get-there jobs r (subst (λ (z : ℕ). r < z) (sym many) l) in
+        tasks = λ r l. let j = get_there jobs r (subst (λ (z : ℕ). r < z) (sym many) l) in
             (j.0, at_map Some jobs r j.0 (elem_of jobs r j.0 j.1), fits session stages most jobs first same news r j.0 l j.1);
       }
 
@@ -83,7 +83,8 @@ module _ {A : Type 0} (b : Behaviour A) where
 pub begun_count : {T : Type 0} (JobFits : ℕ → T → Type 0) (n : ℕ) (xs : List (Option T)) (js : List T) → AreSeated JobFits n xs → xs ≡ map Some js → length js ≡ n
 begun_count JobFits n xs js begins is = sym (length-map js Some) ∙ ap length (sym is) ∙ begins.count
 
-pub begun_fits : {T : Type 0} (JobFits : ℕ → T → Type 0) (n : ℕ) (xs : List (Option T)) (js : List T) → AreSeated JobFits n xs → xs ≡ map Some js → (r : ℕ) (t : T) → slice_get js r ≡ Some t → JobFits r t
+pub begun_fits : {T : Type 0} (JobFits : ℕ → T → Type 0) (n : ℕ) (xs : List (Option T)) (js : List T) → AreSeated JobFits n xs → xs ≡ map Some js → (r : ℕ) (t : T) → slice_get js r ≡ Some t
+    → JobFits r t
 begun_fits {T} JobFits n xs js begins is r t at =
     let l = slice_get_within js r t at in
     let c = begun_count JobFits n xs js begins is in

@@ -1,5 +1,6 @@
--- How the bench starts, and what its end says.
-use Rattle.std.proofs.Common.{◌≡◌, ℕ, zero, suc, ◌+◌, ◌<◌, ◌≤◌, List, [], ◌∷◌, ◌++◌, length, map, replicate, take, take_all, get_or, set, Bool, true, false, get_or-set_same, get_or-set_other, slice_index, refl, sym, ap, ◌∙◌, subst, inl, inr, ⊎_elim, arith, Option, Some, None, zero-le}
+-- How the table of jobs starts, and what its end says.
+use Rattle.std.proofs.Common.{◌≡◌, ◌⊎◌, ℕ, zero, suc, ◌+◌, ◌<◌, ◌≤◌, List, [], ◌∷◌, ◌++◌, length, map, replicate, take, take_all, get_or, set, Bool, true, false, get_or-set_same, get_or-set_other}
+use Rattle.std.proofs.Common.{slice_index, refl, sym, ap, ◌∙◌, subst, inl, inr, ⊎_elim, arith, Option, Some, None, zero-le}
 use Rattle.std.proofs.lemmas.List.Sums.{sum_by-cons}
 use mathlib.Core.Option.{some, some-injective, some-ne-none}
 use native.Mathlib.Decide.{ℕ_discrete}
@@ -8,18 +9,24 @@ use lib.ListN.{get_elem?, length-map, length-replicate}
 use Rattle.atomic_table.specs.Table.{State, Seen, Final, opening}
 use Rattle.atomic_table.proofs.Lists.{at_map}
 use Rattle.rs_rings.proofs.Seats.{zeros}
-use Rattle.rs_pool.specs.declared.views.View.{View}
-use Rattle.rs_pool.specs.Rule.{PoolShows, first_view, total, amount_in}
-use Rattle.rs_pool.specs.Calls.{AreSettled, AreCollected, AreSeated}
+use Rattle.rs_pool.specs.declared.views.JobView.{JobView}
+use Rattle.rs_pool.specs.Rule.{PoolShows, view_at_start, sum_over_roles, amount_in}
+use Rattle.rs_pool.specs.Calls.{AreCollected, AreSeated}
 use Rattle.rs_pool.proofs.Sums.{two_le, all_or_some}
 use Rattle.rs_rings.proofs.OneRing.{at_below}
 use Rattle.rs_pool.proofs.Known.{some_none}
 
-one_view : (v d : View) (j : ℕ) → get_elem? (v ∷ []) j ≡ some d → v ≡ d
+-- what the slots hold in the end: each role's job, and all have ended or one has stopped
+pub record AreSettled {T : Type 0} (Fits : ℕ → T → Type 0) (Over : ℕ → T → Type 0) (n : ℕ) (xs : List (Option T)) : Type 0 where
+  pub count : length xs ≡ n
+  pub tasks : (r : ℕ) → r < n → (t : T) × (get_elem? xs r ≡ some (Some t)) × Fits r t
+  pub over : ((r : ℕ) (t : T) → r < n → get_elem? xs r ≡ some (Some t) → Over 1 t) ⊎ ((r : ℕ) × (t : T) × (r < n) × (get_elem? xs r ≡ some (Some t)) × Over 16 t)
+
+one_view : (v d : JobView) (j : ℕ) → get_elem? (v ∷ []) j ≡ some d → v ≡ d
 one_view v d zero e = some-injective v d e
 one_view v d (suc j) e = absurd (some-ne-none d (sym e))
 
-nothing : (n : ℕ) → total (λ _. 0) n ≡ 0
+nothing : (n : ℕ) → sum_over_roles (λ _. 0) n ≡ 0
 nothing zero = refl
 nothing (suc n) = let h = nothing n in omega arith
 
@@ -63,21 +70,22 @@ now_empty fs gs i e near h k lt = ap (λ l. get_or l k false) e ∙ dite (ℕ_di
     (λ ne. get_or-set_other fs i k false false ne ∙ h k (omega arith))
 
 module _ {T : Type 0} (Fits : ℕ → T → Type 0) (Over : ℕ → T → Type 0) (n shares : ℕ) where
-  pub begins : (words : ℕ) (xs : List (Option T)) → n ≤ 16 → words ≡ n + 1 → ((t : T) → Over 0 t) → AreSeated Fits n xs → PoolShows Fits Over n shares (opening (replicate words 0) xs (first_view shares))
+  pub begins : (words : ℕ) (xs : List (Option T)) → n ≤ 16 → words ≡ n + 1 → ((t : T) → Over 0 t) → AreSeated Fits n xs
+      → PoolShows Fits Over n shares (opening (replicate words 0) xs (view_at_start shares))
   begins words xs few w none' b = record {
     holder = λ _. None;
     counter = λ _. 0;
     amount = λ _. 0;
-    few = few;
+    bounded = few;
     words_are = length-replicate words 0 ∙ w ∙ omega arith;
     homes_are = length-map xs some ∙ b.count;
     held = record {
       each = λ r j l e. absurd (some_none j None e refl);
-      only = λ j d r at h. absurd (some_none r d.held h (ap (λ (u : View). u.held) (sym (one_view (first_view shares) d j at))));
+      only = λ j d r at h. absurd (some_none r d.held h (ap (λ (u : JobView). u.held) (sym (one_view (view_at_start shares) d j at))));
     };
     counts = record {
       each = λ r l m. absurd (m refl);
-      only = λ j d r at m. absurd (m (ap (λ (u : View). amount_in r u.counted) (sym (one_view (first_view shares) d j at))));
+      only = λ j d r at m. absurd (m (ap (λ (u : JobView). amount_in r u.counted) (sym (one_view (view_at_start shares) d j at))));
     };
     places = λ r l. let t = b.tasks r l in record {
       word_is = zeros words r;
@@ -88,22 +96,25 @@ module _ {T : Type 0} (Fits : ℕ → T → Type 0) (Over : ℕ → T → Type 0
     ends = record {
       roles = zeros words n ∙ sym (nothing n);
       counted = zeros words n ∙ refl;
-      seen = λ j d at. let e : d.seen ≡ 0 = ap (λ (u : View). u.seen) (sym (one_view (first_view shares) d j at)) in subst (λ (k : ℕ). k ≤ slice_index (replicate {A = ℕ} words 0) n) (sym e) zero-le;
+      seen = λ j d at. let e : d.seen ≡ 0 = ap (λ (u : JobView). u.seen) (sym (one_view (view_at_start shares) d j at)) in subst (λ (k : ℕ). k ≤ slice_index (replicate {A = ℕ} words 0) n) (sym e)
+          zero-le;
     };
-    shared = let a = sum_by-cons {X = View} (λ d. d.shares) (first_view shares) [] in omega arith;
+    shared = let a = sum_by-cons {X = JobView} (λ d. d.shares) (view_at_start shares) [] in omega arith;
   }
 
   -- nobody else holds a task where one view has all shares
-  all_home : (s : State (Option T) View) (sh : PoolShows Fits Over n shares s) (id : ℕ) (v : View) → get_elem? s.views id ≡ some v → v.held ≡ None → v.shares ≡ shares → (r : ℕ) → r < n → sh.holder r ≡ None
+  all_home : (s : State (Option T) JobView) (sh : PoolShows Fits Over n shares s) (id : ℕ) (v : JobView) → get_elem? s.views id ≡ some v → v.held ≡ None → v.shares ≡ shares → (r : ℕ) → r < n
+      → sh.holder r ≡ None
   all_home s sh id v at rests whole r l = go (sh.holder r) refl
     where
       go : (o : Option ℕ) → sh.holder r ≡ o → sh.holder r ≡ None
       go None e = e
       go (Some j) e = let h = sh.held.each r j l e in let p = (sh.held.only j h.0 r h.1 h.2).2 in dite (ℕ_discrete id j)
-          (λ is. absurd (some_none r v.held (ap (λ (u : View). u.held) (some-injective v h.0 (sym at ∙ ap (get_elem? s.views) is ∙ h.1)) ∙ h.2) rests))
-          (λ ne. let t = two_le {A = View} (λ d. d.shares) s.views id j v h.0 ne at h.1 in let w = sh.shared in absurd (omega arith))
+          (λ is. absurd (some_none r v.held (ap (λ (u : JobView). u.held) (some-injective v h.0 (sym at ∙ ap (get_elem? s.views) is ∙ h.1)) ∙ h.2) rests))
+          (λ ne. let t = two_le {A = JobView} (λ d. d.shares) s.views id j v h.0 ne at h.1 in let w = sh.shared in absurd (omega arith))
 
-  pub closes : (id : ℕ) (v : View) (ws : List ℕ) (xs : List (Option T)) → v.held ≡ None → v.shares ≡ shares → n ≤ v.seen → Final (Seen (PoolShows Fits Over n shares) id v) ws xs → AreSettled Fits Over n xs
+  pub closes : (id : ℕ) (v : JobView) (ws : List ℕ) (xs : List (Option T)) → v.held ≡ None → v.shares ≡ shares → n ≤ v.seen → Final (Seen (PoolShows Fits Over n shares) id v) ws xs
+      → AreSettled Fits Over n xs
   closes id v ws xs rests whole over f = let s = f.0 in let sh = f.1.0 in let at = f.1.1 in let same : length s.homes ≡ length xs = f.3 in
       let home = λ (r : ℕ) (l : r < n). (sh.places r l).home (all_home s sh id v at rests whole r l) in
       let there = λ (r : ℕ) (l : r < n). f.4 r (Some (home r l).0) (home r l).1 in

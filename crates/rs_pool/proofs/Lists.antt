@@ -52,13 +52,17 @@ all_none P (x ∷ xs) e = absurd (omega arith)
 pub begins_map : {A B : Type 0} (f : A → B) (out : List B) (ins all : List A) → out ≡ [] → reverse ins ≡ all → out ++ map f (reverse ins) ≡ map f all
 begins_map f out ins all none same = λ i. none i ++ map f (same i)
 
-pub goes_on_map : {A B : Type 0} (f : A → B) (out out' : List B) (ins ins' : List A) (x : A) (y : B) (all : List B) → out ++ map f (reverse ins) ≡ all → ins ≡ ins' ++ x ∷ [] → y ≡ f x → out' ≡ out ++ y ∷ [] → out' ++ map f (reverse ins') ≡ all
+pub goes_on_map : {A B : Type 0} (f : A → B) (out out' : List B) (ins ins' : List A) (x : A) (y : B) (all : List B) → out ++ map f (reverse ins) ≡ all → ins ≡ ins' ++ x ∷ [] → y ≡ f x
+    → out' ≡ out ++ y ∷ [] → out' ++ map f (reverse ins') ≡ all
 goes_on_map f out out' ins ins' x y all was popped is grown =
-    ap (λ o. o ++ map f (reverse ins')) grown ∙ append_assoc out (y ∷ []) (map f (reverse ins')) ∙ ap (λ z. out ++ (z ∷ map f (reverse ins'))) is ∙ ap (λ r. out ++ map f r) (sym (back_last ins ins' x popped)) ∙ was
+    ap (λ o. o ++ map f (reverse ins')) grown ∙ append_assoc out (y ∷ []) (map f (reverse ins')) ∙ ap (λ z. out ++ (z ∷ map f (reverse ins'))) is
+    ∙ ap (λ r. out ++ map f r) (sym (back_last ins ins' x popped)) ∙ was
 
-pub moves_back : {A B : Type 0} (f : A → B) (xs xs' : List B) (ys ys' : List A) (x : A) (z : B) (all : List B) → xs ++ map f (reverse ys) ≡ all → xs ≡ xs' ++ z ∷ [] → z ≡ f x → ys' ≡ ys ++ x ∷ [] → xs' ++ map f (reverse ys') ≡ all
+pub moves_back : {A B : Type 0} (f : A → B) (xs xs' : List B) (ys ys' : List A) (x : A) (z : B) (all : List B) → xs ++ map f (reverse ys) ≡ all → xs ≡ xs' ++ z ∷ [] → z ≡ f x → ys' ≡ ys ++ x ∷ []
+    → xs' ++ map f (reverse ys') ≡ all
 moves_back f xs xs' ys ys' x z all was popped is grown =
-    ap (λ r. xs' ++ map f r) (back_last ys' ys x grown) ∙ ap (λ u. xs' ++ (u ∷ map f (reverse ys))) (sym is) ∙ sym (append_assoc xs' (z ∷ []) (map f (reverse ys))) ∙ ap (λ o. o ++ map f (reverse ys)) (sym popped) ∙ was
+    ap (λ r. xs' ++ map f r) (back_last ys' ys x grown) ∙ ap (λ u. xs' ++ (u ∷ map f (reverse ys))) (sym is) ∙ sym (append_assoc xs' (z ∷ []) (map f (reverse ys)))
+    ∙ ap (λ o. o ++ map f (reverse ys)) (sym popped) ∙ was
 
 -- the last of slots that are all filled
 pub record HasLast {A : Type 0} (xs : List (Option A)) (x : Option A) : Type 0 where
@@ -71,4 +75,5 @@ pub last_of : {A : Type 0} (xs : List (Option A)) (x : Option A) (all : List A) 
 last_of [] x [] e = absurd (cc (e))
 last_of [] x (a ∷ more) e = record { rest = []; last = a; rest_is = refl; last_is = cc (e) }
 last_of (y ∷ ys) x [] e = absurd (cc (e))
-last_of (y ∷ ys) x (a ∷ more) e = let r = last_of ys x more (cc (e)) in let first : y ≡ Some a = cc (e) in record { rest = a ∷ r.rest; last = r.last; rest_is = (λ i. first i ∷ r.rest_is i); last_is = r.last_is }
+last_of (y ∷ ys) x (a ∷ more) e =
+    let r = last_of ys x more (cc (e)) in let first : y ≡ Some a = cc (e) in record { rest = a ∷ r.rest; last = r.last; rest_is = (λ i. first i ∷ r.rest_is i); last_is = r.last_is }

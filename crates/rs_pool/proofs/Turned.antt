@@ -1,11 +1,12 @@
 -- What a turn leaves of a job.
-use Rattle.std.proofs.Common.{◌≡◌, ◌≢◌, ℕ, ◌+◌, ◌<◌, ◌≤◌, true, false, true≢false, List, slice_get, length, [], ◌∷◌, ◌++◌, IfSome, Option, Some, None, refl, sym, ap, ◌∙◌, subst, inl, inr, ⊎_elim, arith}
+use Rattle.std.proofs.Common.{◌≡◌, ◌≢◌, ℕ, ◌+◌, ◌<◌, ◌≤◌, true, false, true≢false, List, slice_get, length, [], ◌∷◌, ◌++◌, IfSome, Option, Some, None, refl, sym, ap, ◌∙◌, subst, inl, inr, ⊎_elim}
+use Rattle.std.proofs.Common.{arith}
 use Rattle.std.proofs.Common.{length-append}
 use Rattle.rs_core.specs.Actors.{Behaviour}
 use Rattle.rs_core.specs.declared.transcripts.Entry.{Entry}
 use Rattle.rs_exec.specs.Data.{Task_data}
 use Rattle.rs_exec.specs.Tasks as task
-use Rattle.rs_exec.specs.Tasks.{IsTaskOf, PlaysTask, TaskTurnTells, HasEnded, TaskGoesOn, TaskStays, TaskIsRefused, AsksInVain, TellsInVain, Gets, Before, Asked, Told}
+use Rattle.rs_exec.specs.Tasks.{IsTaskOf, PlaysTask, TaskTurnTells, HasEnded, TaskIsRefused, Gets, Before, Asked, Told}
 use Rattle.rs_exec.specs.declared.tasks.Turn.{Turn}
 use Rattle.rs_exec.specs.declared.tasks.Turn.TheVariants as turn
 use Rattle.rs_exec.specs.declared.tasks.Why.TheVariants as why
@@ -63,12 +64,14 @@ module _ {A : Type 0} (b : Behaviour A) (start : Start A) (r : ℕ) where
       (λ (k : task.TaskReceives start.session b old new). by_gets old new k.gets tells.0.below tells.0.limit same)
       tells.1
   stays (turn.Waits (why.Full peer sent taken)) old new same few tells = let w = tells.1 in record {
-    role = role_by w.at (sight_of_stage new.stage) old.stage new.stage (ap sight_of_stage w.stands) refl (ap (λ (s : Stage). (sight_of_stage s).role) w.stays ∙ ap (λ (s : Stage_data). s.role) w.full.full.becomes);
+    role = role_by w.at (sight_of_stage new.stage) old.stage new.stage (ap sight_of_stage w.stands) refl
+        (ap (λ (s : Stage). (sight_of_stage s).role) w.stays ∙ ap (λ (s : Stage_data). s.role) w.full.full.becomes);
     limit = tells.0.limit;
     acts = as_many old.transcript new.transcript start.limit w.transcript few;
   }
   stays (turn.Waits (why.Empty peer seen)) old new same few tells = let w = tells.1 in record {
-    role = role_by w.at (sight_of_stage new.stage) old.stage new.stage (ap sight_of_stage w.stands) refl (ap (λ (s : Stage). (sight_of_stage s).role) w.stays ∙ ap (λ (s : Stage_data). s.role) w.empty.empty.becomes);
+    role = role_by w.at (sight_of_stage new.stage) old.stage new.stage (ap sight_of_stage w.stands) refl
+        (ap (λ (s : Stage). (sight_of_stage s).role) w.stays ∙ ap (λ (s : Stage_data). s.role) w.empty.empty.becomes);
     limit = tells.0.limit;
     acts = as_many old.transcript new.transcript start.limit w.transcript few;
   }
@@ -93,7 +96,8 @@ module _ {A : Type 0} (b : Behaviour A) (start : Start A) (r : ℕ) where
   plays_of Refused task well so = absurd (true≢false (sym so ∙ well))
 
   on : (t : Turn) (old new : Task_data A) → t ≢ turn.NoMemory → TaskTurnTells start.session b old new t → PlaysGiven b start r old → PlaysGiven b start r new
-  on t old new ne tells so = if_some_map (slice_get start.given r) (λ (x : A). PlaysTask start.session b x old) (λ (x : A). PlaysTask start.session b x new) (λ x was. plays_on b start.session x old new t ne tells was) so
+  on t old new ne tells so =
+      if_some_map (slice_get start.given r) (λ (x : A). PlaysTask start.session b x old) (λ (x : A). PlaysTask start.session b x new) (λ x was. plays_on b start.session x old new t ne tells was) so
 
   stands_on : (t : Turn) (p : Progress) (old new : Task_data A) → TaskTurnTells start.session b old new t → TaskStands b start r p old → TaskStands b start r (progress_after t) new
   stands_on turn.Moved p old new tells so = on turn.Moved old new (λ e. cc (e)) tells (plays_of p old tells.0.was so)
@@ -112,7 +116,8 @@ module _ {A : Type 0} (b : Behaviour A) (start : Start A) (r : ℕ) where
       refused (Asked was v) = ap (λ (k : Task_data A). k.failed) v.same
       refused (Told was v) = v.failed
 
-  pub turned : (t : Turn) (old new : Job A) → JobFits b start r old → IsTaskOf start.session new.task → TaskTurnTells start.session b old.task new.task t → new.progress ≡ progress_after t → JobFits b start r new
+  pub turned : (t : Turn) (old new : Job A) → JobFits b start r old → IsTaskOf start.session new.task → TaskTurnTells start.session b old.task new.task t → new.progress ≡ progress_after t
+      → JobFits b start r new
   turned t old new fits of tells is = let s = stays t old.task new.task fits.limit fits.acts tells in record {
     of = of;
     role = s.role ∙ fits.role;

@@ -1,4 +1,4 @@
--- Steps: jobs, what a job on the bench is known to be, and what is counted for it.
+-- Steps: jobs, what a job on the table of jobs is known to be, and what is counted for it.
 use Rattle.std.specs.Prelude.{◌≡◌, ◌⊎◌, ℕ, zero, suc, ◌+◌, ◌≤◌, Bool, true, false, if◌then◌else◌, List, [], ◌∷◌, length, map, slice_get, IfSome, Option, Some, None}
 use Rattle.rs_core.specs.Actors.{Behaviour}
 use Rattle.rs_core.specs.Histories.{transcript_of}
@@ -65,11 +65,11 @@ Over (suc (suc k)) job = (job.progress ≡ AtLimit) ⊎ (job.progress ≡ Refuse
 abbrev pub stages_of : {A : Type 0} → List (Job A) → List Stage
 stages_of jobs = map (λ j. j.task.stage) jobs
 
--- .. the actors
+-- the actors of jobs
 abbrev pub actors_of : {A : Type 0} → List (Job A) → List A
 actors_of jobs = map (λ j. j.task.actor) jobs
 
--- .. the transcripts
+-- the transcripts of jobs
 abbrev pub transcripts_of : {A : Type 0} → List (Job A) → List (List Entry)
 transcripts_of jobs = map (λ j. j.task.transcript) jobs
 

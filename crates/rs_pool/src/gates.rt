@@ -1,3 +1,4 @@
+//! A hook round the turns of workers, by which tests hold them up.
 use rs_model::Role;
 
 /// What is called round each turn of a worker, by that worker.

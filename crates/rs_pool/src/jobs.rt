@@ -1,4 +1,4 @@
-// Jobs: the tasks that lie on the bench.
+//! Jobs: the tasks that lie on the table of jobs.
 ghost use Rattle.std.specs.Prelude.{◌≡◌, true};
 ghost use Rattle.rs_exec.specs.Tasks.{IsTaskOf, TaskTurnTells};
 ghost use Rattle.rs_pool.specs.Jobs.{amount_of, is_same, progress_after};
@@ -7,6 +7,12 @@ use rs_core::Actor;
 use rs_exec::{RoleTask, Turn};
 use rs_session::Session;
 use std::alloc::Global;
+
+// What is counted in the word of ends for a role that has ended.
+const FOR_AN_END: u64 = 1;
+
+// What is counted for a role that has stopped: as much as for the most roles that there are, so that all workers leave.
+const FOR_A_STOP: u64 = 16;
 
 /// How far a task had come when it made its last turn.
 #[derive(Clone, Copy)]
@@ -59,9 +65,9 @@ pub(crate) fn amount_of(progress: Progress) -> u64
 {
     match progress {
         Progress::Underway => 0,
-        Progress::Ended => 1,
-        Progress::AtLimit => 16,
-        Progress::Refused => 16,
+        Progress::Ended => FOR_AN_END,
+        Progress::AtLimit => FOR_A_STOP,
+        Progress::Refused => FOR_A_STOP,
     }
 }
 

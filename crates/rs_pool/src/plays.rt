@@ -1,6 +1,6 @@
-// The rule of the bench's table, and its kinds of step.
+//! The rule of the table of jobs, and its kinds of step.
 use crate::jobs::Job;
-use crate::views::{Key, View};
+use crate::views::{JobKey, JobView};
 use atomic_table::{Join, Play, Split, TableRule};
 use rs_core::Actor;
 use std::marker::{Brand, PhantomData};
@@ -15,21 +15,30 @@ pub(crate) trait StartName<A> {
 impl<A> StartName<A> for Brand {
     ghost use Rattle.std.specs.Prelude.{[]};
 
-    ghost start = { record { session = record { table = record { words = 0; slots = 0; views_name = 0; atom = 0; block = 0; offset = 0; slot_names = [] }; roles = 0; capacity = 0; machines = [] }; limit = 0; given = [] } };
+    ghost start = { record {
+      session = record {
+        table = record { words = 0; slots = 0; views_name = 0; atom = 0; block = 0; offset = 0; slot_names = [] };
+        roles = 0;
+        capacity = 0;
+        machines = [];
+      };
+      limit = 0;
+      given = [];
+    } };
 }
 
 /// What holds between any two steps.
-pub(crate) struct BenchRule<A: Actor, N: StartName<A>> {
+pub(crate) struct PoolTableRule<A: Actor, N: StartName<A>> {
     name: PhantomData<(A, N)>,
 }
 
-impl<A: Actor, N: StartName<A>> TableRule<Option<Job<A>>, View, Key> for BenchRule<A, N> {
-    ghost use Rattle.rs_pool.specs.Rule.{PoolShows, first_view};
+impl<A: Actor, N: StartName<A>> TableRule<Option<Job<A>>, JobView, JobKey> for PoolTableRule<A, N> {
+    ghost use Rattle.rs_pool.specs.Rule.{PoolShows, view_at_start};
     ghost use Rattle.rs_pool.specs.Jobs.{JobFits, Over};
 
     ghost holds = { λ key s. PoolShows (JobFits A.behaviour N.start) Over key.roles key.shares s };
 
-    ghost first = { λ key. first_view key.shares };
+    ghost first = { λ key. view_at_start key.shares };
 }
 
 /// A compare_exchange from 0 to 1 on a role's word.
@@ -37,7 +46,7 @@ pub(crate) struct Claim<A: Actor, N: StartName<A>> {
     name: PhantomData<(A, N)>,
 }
 
-impl<A: Actor, N: StartName<A>> Play<Option<Job<A>>, View> for Claim<A, N> {
+impl<A: Actor, N: StartName<A>> Play<Option<Job<A>>, JobView> for Claim<A, N> {
     ghost use Rattle.rs_pool.specs.Plays.{ClaimTells};
     ghost use Rattle.rs_pool.specs.Jobs.{JobFits};
 
@@ -47,7 +56,7 @@ impl<A: Actor, N: StartName<A>> Play<Option<Job<A>>, View> for Claim<A, N> {
 /// A store on a role's word.
 pub(crate) struct GiveHome;
 
-impl<A: Actor> Play<Option<Job<A>>, View> for GiveHome {
+impl<A: Actor> Play<Option<Job<A>>, JobView> for GiveHome {
     ghost use Rattle.rs_pool.specs.Plays.{GiveTells};
 
     ghost then = { GiveTells };
@@ -56,7 +65,7 @@ impl<A: Actor> Play<Option<Job<A>>, View> for GiveHome {
 /// A fetch_add on the word of ends.
 pub(crate) struct CountEnd;
 
-impl<A: Actor> Play<Option<Job<A>>, View> for CountEnd {
+impl<A: Actor> Play<Option<Job<A>>, JobView> for CountEnd {
     ghost use Rattle.rs_pool.specs.Plays.{CountTells};
 
     ghost then = { CountTells };
@@ -65,7 +74,7 @@ impl<A: Actor> Play<Option<Job<A>>, View> for CountEnd {
 /// A load of the word of ends.
 pub(crate) struct ReadEnds;
 
-impl<A: Actor> Play<Option<Job<A>>, View> for ReadEnds {
+impl<A: Actor> Play<Option<Job<A>>, JobView> for ReadEnds {
     ghost use Rattle.rs_pool.specs.Plays.{ReadTells};
 
     ghost then = { ReadTells };
@@ -74,7 +83,7 @@ impl<A: Actor> Play<Option<Job<A>>, View> for ReadEnds {
 /// A view gives a share to a new view.
 pub(crate) struct SplitShare;
 
-impl Split<View> for SplitShare {
+impl Split<JobView> for SplitShare {
     ghost use Rattle.rs_pool.specs.Rule.{view_behind_share, view_with_one_share};
 
     ghost left = { view_behind_share };
@@ -85,10 +94,10 @@ impl Split<View> for SplitShare {
 /// A view takes in another.
 pub(crate) struct JoinShares;
 
-impl Join<View> for JoinShares {
-    ghost use Rattle.rs_pool.specs.Rule.{sum_of_views, spent_view};
+impl Join<JobView> for JoinShares {
+    ghost use Rattle.rs_pool.specs.Rule.{sum_of_views, view_of_nothing};
 
     ghost both = { sum_of_views };
 
-    ghost spent = { spent_view };
+    ghost spent = { view_of_nothing };
 }

@@ -1,26 +1,27 @@
-// The run of a session by workers.
-ghost use Rattle.std.specs.Prelude.{◌≡◌, ◌+◌, ◌≤◌, ℕ, [], IfOk, Some, length, map, replicate, vec_capacity, vec_len};
+//! The run of a session by workers.
+ghost use Rattle.std.specs.Prelude.{◌≡◌, ◌+◌, ◌≤◌, ℕ, [], IfOk, Some, length, map, vec_capacity, vec_len};
 ghost use Rattle.rs_model.specs.declared.limits.TheConstants.{MOST_ROLES, MOST_WORKERS};
 ghost use Rattle.rs_model.specs.Limits.{IsCapacity};
 ghost use Rattle.rs_core.specs.Runs.{IsGiven};
 ghost use Rattle.rs_exec.specs.Runs.{IsSessionOfRun};
 ghost use Rattle.rs_pool.specs.Calls.{AreSeated, AreCollected};
 ghost use Rattle.rs_pool.specs.Jobs.{JobFits, Over, actors_of};
+ghost use Rattle.rs_pool.specs.Lists.{HaveRoom, LeaveRoom};
 ghost use Rattle.rs_pool.specs.Pool.{AgreesWithPlain};
-ghost use Rattle.rs_pool.specs.Rule.{first_view};
+ghost use Rattle.rs_pool.specs.Rule.{view_at_start};
 ghost use Rattle.rs_rings.specs.Closed.{IsOver};
 ghost use Rattle.rs_safety.specs.Room.{room_of};
 ghost use Rattle.rs_session.specs.Ends.{AreAll, AreAllThere, KnowsFrom};
 ghost use Rattle.rs_session.specs.Stages.{AreFirst, IsEnded};
 
-use crate::bench::{Bench, Desk};
 use crate::gates::Gate;
 use crate::jobs::{Job, Progress};
 use crate::plays::StartName;
+use crate::tables::{JobSeat, PoolTable};
 use crate::vectors::{
     Made, Parts, ended_of, first_with, jobs_of, parts_of, seated, stages_back, unseated,
 };
-use crate::workers::{Chair, run_all};
+use crate::workers::{WorkerSeat, run_all};
 use rs_core::{Actor, Outcome, Run, Transcript, Transcripts};
 use rs_exec::Ran;
 use rs_model::{NoMemory, Role};
@@ -32,10 +33,10 @@ use std::marker::Brand;
 use std::sync::Wait;
 use std::thread::Threads;
 
-/// Empty lists with room for what a run needs, and the words of its bench.
+/// Empty lists with room for what a run needs, and the words of its table of jobs.
 struct Lists<A: Actor> {
     words: Vec<u64>,
-    chairs: Vec<Chair<A>>,
+    worker_seats: Vec<WorkerSeat<A>>,
     transcripts: Vec<Transcript>,
     slots: Vec<Option<Job<A>>>,
     ended: Vec<Ended>,
@@ -44,19 +45,16 @@ struct Lists<A: Actor> {
 impl<A: Actor> Lists<A> {
     fn reserve(alloc: Global, roles: usize, workers: usize) -> Result<Lists<A>, NoMemory>
         requires { roles ≤ MOST_ROLES }
-        ensures words { IfOk result (λ l. l.words.items ≡ replicate (roles + 1) 0) }
-        ensures empty { IfOk result (λ l. (l.chairs.items ≡ []) × (l.transcripts.items ≡ []) × (l.slots.items ≡ []) × (l.ended.items ≡ [])) }
-        ensures chairs { IfOk result (λ l. workers ≤ vec_capacity l.chairs) }
-        ensures room { IfOk result (λ l. (roles ≤ vec_capacity l.transcripts) × (roles ≤ vec_capacity l.slots) × (roles ≤ vec_capacity l.ended)) }
+        ensures { IfOk result (HaveRoom roles workers) }
     {
         let words = Vec::from_elem(alloc, 0u64, roles + 1)?;
-        let chairs = Vec::with_capacity(alloc, workers)?;
+        let worker_seats = Vec::with_capacity(alloc, workers)?;
         let transcripts = Vec::with_capacity(alloc, roles)?;
         let slots = Vec::with_capacity(alloc, roles)?;
         match Vec::with_capacity(alloc, roles) {
             Ok(ended) => Ok(Lists {
                 words,
-                chairs,
+                worker_seats,
                 transcripts,
                 slots,
                 ended,
@@ -73,7 +71,7 @@ impl<A: Actor> Lists<A> {
     {
         let Lists {
             words: _,
-            chairs: _,
+            worker_seats: _,
             transcripts: _,
             slots,
             ended,
@@ -83,37 +81,37 @@ impl<A: Actor> Lists<A> {
     }
 }
 
-/// The workers play the jobs of the bench until all have ended, or one has stopped. Only the actors take memory here.
+/// The workers play the jobs of the table of jobs until all have ended, or one has stopped. Only the actors take memory here.
 fn drive<R: Threads + Wait + Sync, A: Actor + Send, N: StartName<A> + Send + Sync, G: Gate + Sync>(
     rt: &R,
-    bench: Bench<A, N>,
-    mut main: Desk<A>,
+    pool_table: PoolTable<A, N>,
+    mut main: JobSeat<A>,
     session: &Session,
     gate: &G,
     alloc: Global,
-    chairs: Vec<Chair<A>>,
+    worker_seats: Vec<WorkerSeat<A>>,
     jobs: Vec<Job<A>>,
     workers: u8,
 ) -> Vec<Job<A>>
     requires session { session.now ≡ N.start.session }
-    requires few { bench.roles ≤ MOST_ROLES }
-    requires table { main.table_id ≡ bench.board.shared.table_id }
-    requires main { (main.me ≡ (first_view (workers + 1), [])) × (bench.board.shared.key.shares ≡ workers + 1) }
+    requires bounded { pool_table.roles ≤ MOST_ROLES }
+    requires table { main.table_id ≡ pool_table.table.shared.table_id }
+    requires main { (main.me ≡ (view_at_start (workers + 1), [])) × (pool_table.table.shared.key.shares ≡ workers + 1) }
     requires workers { 1 ≤ workers }
-    requires chairs { (chairs.items ≡ []) × (workers ≤ vec_capacity chairs) }
-    requires jobs { (jobs.items ≡ []) × (bench.roles ≤ vec_capacity jobs) }
-    ensures collected { AreCollected (JobFits A.behaviour N.start) Over bench.roles result.items }
+    requires worker_seats { (worker_seats.items ≡ []) × (workers ≤ vec_capacity worker_seats) }
+    requires jobs { (jobs.items ≡ []) × (pool_table.roles ≤ vec_capacity jobs) }
+    ensures collected { AreCollected (JobFits A.behaviour N.start) Over pool_table.roles result.items }
 {
-    let chairs = bench.seat_workers(&mut main, chairs, workers);
-    let chairs = run_all(rt, &bench, session, gate, alloc, chairs, workers);
-    bench.gather(&mut main, chairs);
-    bench.collect(main, jobs)
+    let worker_seats = pool_table.seat_workers(&mut main, worker_seats, workers);
+    let worker_seats = run_all(rt, &pool_table, session, gate, alloc, worker_seats, workers);
+    pool_table.gather(&mut main, worker_seats);
+    pool_table.collect(main, jobs)
 }
 
 /// Closes a session whose roles have all ended.
 fn close(session: Session, ended: Vec<Ended>) -> Closed
     requires of { AreAll (IsEnded session) ended.items }
-    requires there { AreAllThere (length session.machines) ended.items }
+    requires present { AreAllThere (length session.machines) ended.items }
     ensures machines { result.machines ≡ session.machines }
     ensures over { IsOver result }
     ensures knows { KnowsFrom ended.items result }
@@ -132,10 +130,11 @@ fn finish<A: Actor, N: StartName<A>>(
     ended: Vec<Ended>,
 ) -> Result<Ran<A>, NoMemory>
     requires session { session ≡ N.start.session }
-    requires few { length session.machines ≤ MOST_ROLES }
+    requires bounded { length session.machines ≤ MOST_ROLES }
     requires collected { AreCollected (JobFits A.behaviour N.start) Over (length session.machines) jobs.items }
     requires empty { (parts.stages.items ≡ []) × (parts.actors.items ≡ []) × (parts.transcripts.items ≡ []) × (ended.items ≡ []) }
-    requires room { (length session.machines ≤ vec_capacity parts.stages) × (length session.machines ≤ vec_capacity parts.actors) × (length session.machines ≤ vec_capacity parts.transcripts) × (length session.machines ≤ vec_capacity ended) }
+    requires room { (length session.machines ≤ vec_capacity parts.stages) × (length session.machines ≤ vec_capacity parts.actors) × (length session.machines ≤ vec_capacity parts.transcripts)
+        × (length session.machines ≤ vec_capacity ended) }
     ensures session { IfOk result (λ ran. IsSessionOfRun N.start.session.machines A.behaviour N.start.given N.start.limit ran.closed ran.run.outcome ran.run.actors.items) }
 {
     let refused = first_with(jobs.as_slice(), Progress::Refused);
@@ -192,7 +191,7 @@ fn give_up<A: Actor, N: StartName<A>>(
     session.abandon(stages);
 }
 
-/// Plays the jobs at a bench. What they began with has the name `N`.
+/// Plays the jobs at a table. What they began with has the name `N`.
 fn run_as<R: Threads + Wait + Sync, A: Actor + Send, N: StartName<A> + Send + Sync, G: Gate + Sync>(
     rt: &R,
     alloc: Global,
@@ -203,21 +202,17 @@ fn run_as<R: Threads + Wait + Sync, A: Actor + Send, N: StartName<A> + Send + Sy
     gate: &G,
 ) -> Result<Ran<A>, NoMemory>
     requires start { N.start ≡ record { session = session; limit = made.limit; given = actors_of made.jobs.items } }
-    requires few { length session.machines ≤ MOST_ROLES }
+    requires bounded { length session.machines ≤ MOST_ROLES }
     requires workers { 1 ≤ workers }
     requires count { length made.jobs.items ≡ length session.machines }
     requires begun { AreSeated (JobFits A.behaviour N.start) (length session.machines) (map Some made.jobs.items) }
-    requires made { (made.stages.items ≡ []) × (made.actors.items ≡ []) }
-    requires words { lists.words.items ≡ replicate (length session.machines + 1) 0 }
-    requires empty { (lists.chairs.items ≡ []) × (lists.transcripts.items ≡ []) × (lists.slots.items ≡ []) × (lists.ended.items ≡ []) }
-    requires chairs { workers ≤ vec_capacity lists.chairs }
-    requires room { (length session.machines ≤ vec_capacity lists.transcripts) × (length session.machines ≤ vec_capacity lists.slots) × (length session.machines ≤ vec_capacity lists.ended) }
-    requires made_room { (length session.machines ≤ vec_capacity made.stages) × (length session.machines ≤ vec_capacity made.actors) × (length session.machines ≤ vec_capacity made.jobs) }
+    requires lists { HaveRoom (length session.machines) workers lists }
+    requires made { LeaveRoom (length session.machines) made }
     ensures session { IfOk result (λ ran. IsSessionOfRun session.machines A.behaviour (actors_of made.jobs.items) made.limit ran.closed ran.run.outcome ran.run.actors.items) }
 {
     let Lists {
         words,
-        chairs,
+        worker_seats,
         transcripts,
         slots,
         ended,
@@ -229,15 +224,23 @@ fn run_as<R: Threads + Wait + Sync, A: Actor + Send, N: StartName<A> + Send + Sy
         limit: _,
     } = made;
     let (slots, jobs) = seated(slots, jobs);
-    match Bench::<A, N>::open(alloc, words.as_slice(), slots, workers) {
+    match PoolTable::<A, N>::open(alloc, words.as_slice(), slots, workers) {
         Err(slots) => {
             ended.destroy_empty();
             give_up::<A, N>(session, slots, jobs, stages);
             Err(NoMemory)
         }
-        Ok((bench, main)) => {
+        Ok((pool_table, main)) => {
             let jobs = drive(
-                rt, bench, main, &session, gate, alloc, chairs, jobs, workers,
+                rt,
+                pool_table,
+                main,
+                &session,
+                gate,
+                alloc,
+                worker_seats,
+                jobs,
+                workers,
             );
             let parts = Parts {
                 stages,
@@ -262,13 +265,10 @@ fn play<R: Threads + Wait + Sync, A: Actor + Send, G: Gate + Sync>(
     gate: &G,
 ) -> Result<Ran<A>, NoMemory>
     requires first { AreFirst session stages.items }
-    requires few { length session.machines ≤ MOST_ROLES }
+    requires bounded { length session.machines ≤ MOST_ROLES }
     requires actors { length actors.items ≡ length session.machines }
     requires workers { 1 ≤ workers }
-    requires words { lists.words.items ≡ replicate (length session.machines + 1) 0 }
-    requires empty { (lists.chairs.items ≡ []) × (lists.transcripts.items ≡ []) × (lists.slots.items ≡ []) × (lists.ended.items ≡ []) }
-    requires chairs { workers ≤ vec_capacity lists.chairs }
-    requires room { (length session.machines ≤ vec_capacity lists.transcripts) × (length session.machines ≤ vec_capacity lists.slots) × (length session.machines ≤ vec_capacity lists.ended) }
+    requires lists { HaveRoom (length session.machines) workers lists }
     ensures session { IfOk result (λ ran. IsSessionOfRun session.machines A.behaviour actors.items limit ran.closed ran.run.outcome ran.run.actors.items) }
 {
     match jobs_of(alloc, stages, actors, limit) {

@@ -1,8 +1,9 @@
-// Lists of stages, jobs and slots. What they hold must be spent.
+//! Lists of stages, jobs and slots. What they hold must be spent.
 ghost use Rattle.std.specs.Prelude.{◌≡◌, ◌+◌, ◌<◌, ◌≤◌, ◌++◌, ◌∷◌, [], All, IfErr, IfOk, Some, length, map, reverse, vec_capacity, vec_len};
 ghost use Rattle.rs_model.specs.declared.limits.TheConstants.{MOST_ROLES};
 ghost use Rattle.rs_exec.specs.Tasks.{HasEnded};
 ghost use Rattle.rs_pool.specs.Jobs.{HasDoneNothing, JobIsNew, actors_of, first_with, HasItsTranscript, stages_of, transcripts_of};
+ghost use Rattle.rs_pool.specs.Lists.{LeaveRoom};
 ghost use Rattle.rs_session.specs.Stages.{sight_of_stage};
 
 use crate::jobs::{Job, Progress, is_same};
@@ -45,8 +46,7 @@ pub(crate) fn jobs_of<A: Actor>(
     ensures actors { IfOk result (λ m. actors_of m.jobs.items ≡ actors.items) }
     ensures jobs { IfOk result (λ m. All (JobIsNew limit) m.jobs.items) }
     ensures limit { IfOk result (λ m. m.limit ≡ limit) }
-    ensures empty { IfOk result (λ m. (m.stages.items ≡ []) × (m.actors.items ≡ [])) }
-    ensures room { IfOk result (λ m. (vec_len stages ≤ vec_capacity m.stages) × (vec_len stages ≤ vec_capacity m.actors) × (vec_len stages ≤ vec_capacity m.jobs)) }
+    ensures made { IfOk result (LeaveRoom (vec_len stages)) }
     ensures back { IfErr result (λ back. back.items ≡ stages.items) }
 {
     let mut jobs = match Vec::with_capacity(alloc, stages.len()) {
@@ -177,7 +177,7 @@ pub(crate) fn ended_of(mut stages: Vec<Stage>, mut ended: Vec<Ended>) -> Vec<End
 
 /// The number of the first job with that progress.
 pub(crate) fn first_with<A: Actor>(jobs: &[Job<A>], progress: Progress) -> Option<u8>
-    requires few { length jobs.now ≤ MOST_ROLES }
+    requires bounded { length jobs.now ≤ MOST_ROLES }
     ensures { result ≡ first_with progress 0 jobs.now }
 {
     let mut number = 0;

@@ -1,4 +1,4 @@
-// What the contracts of the bench's table see. No value of these types is made at run time but the key: a view is a ghost.
+//! What the contracts of the table of jobs see. No value of these types is made at run time but the key: a view is a ghost.
 use std::collections::LinkedList;
 
 /// What a view counted for one role.
@@ -8,19 +8,19 @@ pub(crate) struct Count {
     pub(crate) amount: u64,
 }
 
-/// What a seat of the bench knows: the role whose job it holds, the roles that it has counted, the number that it last read of the
+/// What a seat of the table of jobs knows: the role whose job it holds, the roles that it has counted, the number that it last read of the
 /// word of ends, and its shares.
 #[derive(Drop)]
-pub(crate) struct View {
+pub(crate) struct JobView {
     pub(crate) held: Option<u8>,
     pub(crate) counted: LinkedList<Count>,
     pub(crate) seen: u64,
     pub(crate) shares: u32,
 }
 
-/// What stays the same as long as the bench lives. All its views together have so many shares.
+/// What stays the same as long as the table of jobs lives. All its views together have so many shares.
 #[derive(Drop)]
-pub(crate) struct Key {
+pub(crate) struct JobKey {
     pub(crate) roles: u8,
     pub(crate) shares: u32,
 }

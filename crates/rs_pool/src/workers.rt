@@ -1,12 +1,12 @@
-// The workers at the bench.
+//! The workers at the table of jobs.
 ghost use Rattle.std.specs.Prelude.{◌≡◌, ◌+◌, ◌<◌, ◌≤◌, [], All, vec_len, vec_capacity};
 ghost use Rattle.rs_pool.specs.Calls.{HasFinished, IsSeated, SeatRests};
 ghost use Rattle.rs_pool.specs.Jobs.{JobFits};
 
-use crate::bench::{Bench, Desk};
 use crate::gates::Gate;
 use crate::jobs::{Job, amount_of};
 use crate::plays::StartName;
+use crate::tables::{JobSeat, PoolTable};
 use crossbeam_utils::Backoff;
 use rs_core::Actor;
 use rs_exec::Turn;
@@ -22,12 +22,12 @@ const MOST_TURNS: u32 = 64;
 
 /// A worker's number and its seat.
 #[derive(Drop)]
-pub(crate) struct Chair<A: Actor> {
+pub(crate) struct WorkerSeat<A: Actor> {
     pub(crate) worker: u8,
-    pub(crate) desk: Desk<A>,
+    pub(crate) seat: JobSeat<A>,
 }
 
-impl<A: Actor, N: StartName<A>> Bench<A, N> {
+impl<A: Actor, N: StartName<A>> PoolTable<A, N> {
     /// One turn of the role's task, between the gate's two calls.
     fn turn<G: Gate>(
         &self,
@@ -80,22 +80,22 @@ impl<A: Actor, N: StartName<A>> Bench<A, N> {
         gate: &G,
         alloc: Global,
         worker: u8,
-        desk: &mut Desk<A>,
+        seat: &mut JobSeat<A>,
         role: u8,
     ) -> bool
         requires session { session.now ≡ N.start.session }
-        requires table { desk.old.table_id ≡ self.now.board.shared.table_id }
+        requires table { seat.old.table_id ≡ self.now.table.shared.table_id }
         requires role { role < self.now.roles }
-        requires rests { SeatRests 1 desk.old.me }
-        ensures table { desk.new.table_id ≡ desk.old.table_id }
-        ensures rests { SeatRests 1 desk.new.me }
+        requires rests { SeatRests 1 seat.old.me }
+        ensures table { seat.new.table_id ≡ seat.old.table_id }
+        ensures rests { SeatRests 1 seat.new.me }
     {
-        match self.claim(desk, role) {
+        match self.claim(seat, role) {
             None => false,
             Some(mut job) => {
                 let moved = self.turns(session, gate, alloc, worker, role, &mut job);
                 let amount = amount_of(job.progress);
-                self.settle(desk, role, job, amount);
+                self.settle(seat, role, job, amount);
                 moved
             }
         }
@@ -108,17 +108,17 @@ impl<A: Actor, N: StartName<A>> Bench<A, N> {
         gate: &G,
         alloc: Global,
         worker: u8,
-        desk: &mut Desk<A>,
+        seat: &mut JobSeat<A>,
     ) -> bool
         requires session { session.now ≡ N.start.session }
-        requires table { desk.old.table_id ≡ self.now.board.shared.table_id }
-        requires rests { SeatRests 1 desk.old.me }
-        ensures table { desk.new.table_id ≡ desk.old.table_id }
-        ensures rests { SeatRests 1 desk.new.me }
+        requires table { seat.old.table_id ≡ self.now.table.shared.table_id }
+        requires rests { SeatRests 1 seat.old.me }
+        ensures table { seat.new.table_id ≡ seat.old.table_id }
+        ensures rests { SeatRests 1 seat.new.me }
     {
         let mut moved = false;
         for role in 0..self.roles {
-            if self.serve(session, gate, alloc, worker, desk, role) {
+            if self.serve(session, gate, alloc, worker, seat, role) {
                 moved = true;
             }
         }
@@ -133,21 +133,21 @@ impl<A: Actor, N: StartName<A>> Bench<A, N> {
         gate: &G,
         alloc: Global,
         worker: u8,
-        desk: &mut Desk<A>,
+        seat: &mut JobSeat<A>,
     )
         requires session { session.now ≡ N.start.session }
-        requires table { desk.old.table_id ≡ self.now.board.shared.table_id }
-        requires rests { SeatRests 1 desk.old.me }
-        ensures table { desk.new.table_id ≡ desk.old.table_id }
-        ensures rests { SeatRests 1 desk.new.me }
-        ensures over { self.now.roles ≤ desk.new.me.0.seen }
+        requires table { seat.old.table_id ≡ self.now.table.shared.table_id }
+        requires rests { SeatRests 1 seat.old.me }
+        ensures table { seat.new.table_id ≡ seat.old.table_id }
+        ensures rests { SeatRests 1 seat.new.me }
+        ensures over { self.now.roles ≤ seat.new.me.0.seen }
     {
         let backoff = Backoff::new();
         for _ in rt.forever() {
-            if self.all_counted(desk) {
+            if self.all_counted(seat) {
                 return;
             }
-            if self.round(session, gate, alloc, worker, desk) {
+            if self.round(session, gate, alloc, worker, seat) {
                 backoff.reset();
             } else {
                 backoff.snooze();
@@ -159,38 +159,38 @@ impl<A: Actor, N: StartName<A>> Bench<A, N> {
     /// A seat for each worker, in the empty list, which has room for them.
     pub(crate) fn seat_workers(
         &self,
-        main: &mut Desk<A>,
-        mut chairs: Vec<Chair<A>>,
+        main: &mut JobSeat<A>,
+        mut worker_seats: Vec<WorkerSeat<A>>,
         workers: u8,
-    ) -> Vec<Chair<A>>
-        requires table { main.old.table_id ≡ self.now.board.shared.table_id }
+    ) -> Vec<WorkerSeat<A>>
+        requires table { main.old.table_id ≡ self.now.table.shared.table_id }
         requires main { SeatRests (workers + 1) main.old.me }
-        requires room { (chairs.items ≡ []) × (workers ≤ vec_capacity chairs) }
+        requires room { (worker_seats.items ≡ []) × (workers ≤ vec_capacity worker_seats) }
         ensures table { main.new.table_id ≡ main.old.table_id }
         ensures main { SeatRests 1 main.new.me }
         ensures count { vec_len result ≡ workers }
-        ensures ready { All (IsSeated self.now.board.shared.table_id) result.items }
+        ensures ready { All (IsSeated self.now.table.shared.table_id) result.items }
     {
         for worker in 0..workers {
-            let desk = self.split(main);
-            chairs.push(Chair { worker, desk }).unwrap();
+            let seat = self.split(main);
+            worker_seats.push(WorkerSeat { worker, seat }).unwrap();
         }
-        chairs
+        worker_seats
     }
 
     /// The workers' seats come back.
-    pub(crate) fn gather(&self, main: &mut Desk<A>, mut chairs: Vec<Chair<A>>)
-        requires table { main.old.table_id ≡ self.now.board.shared.table_id }
+    pub(crate) fn gather(&self, main: &mut JobSeat<A>, mut worker_seats: Vec<WorkerSeat<A>>)
+        requires table { main.old.table_id ≡ self.now.table.shared.table_id }
         requires main { SeatRests 1 main.old.me }
-        requires some { 0 < vec_len chairs }
-        requires left { All (HasFinished self.now.board.shared.table_id self.now.roles) chairs.items }
+        requires some { 0 < vec_len worker_seats }
+        requires left { All (HasFinished self.now.table.shared.table_id self.now.roles) worker_seats.items }
         ensures table { main.new.table_id ≡ main.old.table_id }
-        ensures main { SeatRests (vec_len chairs + 1) main.new.me }
+        ensures main { SeatRests (vec_len worker_seats + 1) main.new.me }
         ensures over { self.now.roles ≤ main.new.me.0.seen }
     {
-        while let Some(chair) = chairs.pop() {
-            let Chair { worker: _, desk } = chair;
-            self.join(main, desk);
+        while let Some(worker_seat) = worker_seats.pop() {
+            let WorkerSeat { worker: _, seat } = worker_seat;
+            self.join(main, seat);
         }
     }
 }
@@ -203,27 +203,36 @@ pub(crate) fn run_all<
     G: Gate + Sync,
 >(
     rt: &R,
-    bench: &Bench<A, N>,
+    pool_table: &PoolTable<A, N>,
     session: &Session,
     gate: &G,
     alloc: Global,
-    mut chairs: Vec<Chair<A>>,
+    mut worker_seats: Vec<WorkerSeat<A>>,
     workers: u8,
-) -> Vec<Chair<A>>
+) -> Vec<WorkerSeat<A>>
     requires session { session.now ≡ N.start.session }
     requires workers { 0 < workers }
-    requires ready { All (IsSeated bench.now.board.shared.table_id) chairs.items }
-    ensures count { vec_len result ≡ vec_len chairs }
-    ensures left { All (HasFinished bench.now.board.shared.table_id bench.now.roles) result.items }
+    requires ready { All (IsSeated pool_table.now.table.shared.table_id) worker_seats.items }
+    ensures count { vec_len result ≡ vec_len worker_seats }
+    ensures left { All (HasFinished pool_table.now.table.shared.table_id pool_table.now.roles) result.items }
 {
     thread::for_each_mut(
         rt,
-        chairs.as_mut_slice(),
+        worker_seats.as_mut_slice(),
         workers as usize,
-        &|_: usize, chair: &mut Chair<A>|
-            requires { (session.now ≡ N.start.session) × IsSeated bench.now.board.shared.table_id chair.now }
-            ensures { HasFinished bench.entry.now.board.shared.table_id bench.entry.now.roles chair.exit.now }
-        { bench.work(rt, session, gate, alloc, chair.worker, &mut chair.desk) },
+        &|_: usize, worker_seat: &mut WorkerSeat<A>|
+            requires { (session.now ≡ N.start.session) × IsSeated pool_table.now.table.shared.table_id worker_seat.now }
+            ensures { HasFinished pool_table.entry.now.table.shared.table_id pool_table.entry.now.roles worker_seat.exit.now }
+        {
+            pool_table.work(
+                rt,
+                session,
+                gate,
+                alloc,
+                worker_seat.worker,
+                &mut worker_seat.seat,
+            )
+        },
     );
-    chairs
+    worker_seats
 }

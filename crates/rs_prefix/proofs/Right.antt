@@ -1,5 +1,6 @@
 -- Exactly one answer is right, and the code's search finds it.
-use Rattle.std.proofs.Common.{◌≡◌, ℕ, zero, suc, ◌+◌, ◌<◌, List, [], ◌∷◌, ◌++◌, length, Bool, true, false, not, cond, ◌==◌, Some, slice_get, ⊎_elim, sym, refl, ap, subst, ◌∙◌, arith, append_assoc, length-append}
+use Rattle.std.proofs.Common.{◌≡◌, ℕ, zero, suc, ◌+◌, ◌<◌, List, [], ◌∷◌, ◌++◌, length, Bool, true, false, not, cond, ◌==◌, Some, slice_get, ⊎_elim, sym, refl, ap, subst, ◌∙◌, arith, append_assoc}
+use Rattle.std.proofs.Common.{length-append}
 use Rattle.std.proofs.lemmas.Bool.{cases_order, false≢true}
 use Rattle.std.proofs.lemmas.List.{append-nil}
 use Rattle.std.proofs.lemmas.Option.{none-some, same_Some}
@@ -10,8 +11,8 @@ use Rattle.rs_prefix.specs.Earliest.{has, may_overtake, IsFreeTo, IsFound, IsBlo
 use Rattle.rs_prefix.specs.Search.{earliest, earliest_from}
 use Rattle.rs_prefix.specs.declared.earliest.Found.{Found}
 use Rattle.rs_prefix.specs.declared.earliest.Found.TheVariants.{At, Blocked, Absent}
-use Rattle.rs_prefix.specs.declared.earliest.Kind.{Kind}
-use Rattle.rs_prefix.specs.declared.earliest.Kind.TheVariants.{Send, Receive}
+use Rattle.rs_prefix.specs.declared.earliest.ActKind.{ActKind}
+use Rattle.rs_prefix.specs.declared.earliest.ActKind.TheVariants.{Send, Receive}
 
 get_front : {A : Type 0} (xs ys : List A) (i : ℕ) → i < length xs → slice_get (xs ++ ys) i ≡ slice_get xs i
 get_front [] ys i h = absurd (omega arith)
@@ -27,7 +28,7 @@ not_true true e = absurd (false≢true e)
 not_true false e = refl
 
 -- an act of a kind with a peer may not overtake another such act
-pub others : (kind : Kind) (q : Role) (a : Act) → may_overtake kind q a ≡ true → has kind q a ≡ false
+pub others : (kind : ActKind) (q : Role) (a : Act) → may_overtake kind q a ≡ true → has kind q a ≡ false
 others Send q (Puts p l s) e = not_true (p.0 == q.0) e
 others Send q (Takes p l s) e = refl
 others Receive q (Puts p l s) e = refl
@@ -35,18 +36,18 @@ others Receive q (Takes p l s) e = not_true (p.0 == q.0) e
 
 -- what the search finds is right
 
-free_front : (front : List Act) (kind : Kind) (q : Role) (rest : List Act) → IsAbsent front kind q
+free_front : (front : List Act) (kind : ActKind) (q : Role) (rest : List Act) → IsAbsent front kind q
     → IsFreeTo (front ++ rest) kind q (length front)
 free_front front kind q rest free i a h g = free i a (sym (get_front front rest i h) ∙ g)
 
-free_more : (front : List Act) (kind : Kind) (q : Role) (a : Act) → IsAbsent front kind q → may_overtake kind q a ≡ true
+free_more : (front : List Act) (kind : ActKind) (q : Role) (a : Act) → IsAbsent front kind q → may_overtake kind q a ≡ true
     → IsAbsent (front ++ a ∷ []) kind q
 free_more [] kind q a free e zero b g = ap (λ x. may_overtake kind q x) (sym (same_Some a b g)) ∙ e
 free_more [] kind q a free e (suc i) b g = absurd (none-some b g)
 free_more (x ∷ front) kind q a free e zero b g = free zero b g
 free_more (x ∷ front) kind q a free e (suc i) b g = free_more front kind q a (λ j c h. free (suc j) c h) e i b g
 
-one_step : (front : List Act) (kind : Kind) (q : Role) (a : Act) (rest : List Act) (later : Found) (h m : Bool) → has kind q a ≡ h
+one_step : (front : List Act) (kind : ActKind) (q : Role) (a : Act) (rest : List Act) (later : Found) (h m : Bool) → has kind q a ≡ h
     → may_overtake kind q a ≡ m → IsAbsent front kind q
     → (m ≡ true → Finds (front ++ a ∷ rest) kind q later)
     → Finds (front ++ a ∷ rest) kind q (cond h (At (length front)) (cond m later (Blocked (length front))))
@@ -56,7 +57,7 @@ one_step front kind q a rest later false true eh em free on = on refl
 one_step front kind q a rest later false false eh em free on =
     record { act = a; stands = get_here front a rest; other = eh; blocks = em; free = free_front front kind q (a ∷ rest) free }
 
-sound : (pending : List Act) (kind : Kind) (q : Role) (front : List Act) → IsAbsent front kind q
+sound : (pending : List Act) (kind : ActKind) (q : Role) (front : List Act) → IsAbsent front kind q
     → Finds (front ++ pending) kind q (earliest_from pending kind q (length front))
 sound [] kind q front free = subst (λ xs. IsAbsent xs kind q) (sym (append-nil front)) free
 sound (a ∷ rest) kind q front free =
@@ -66,48 +67,48 @@ sound (a ∷ rest) kind q front free =
     (subst (λ xs. Finds xs kind q (earliest_from rest kind q (length (front ++ a ∷ [])))) (append_assoc front (a ∷ []) rest)
     (sound rest kind q (front ++ a ∷ []) (free_more front kind q a free e))))
 
-pub right : (pending : List Act) (kind : Kind) (q : Role) → Finds pending kind q (earliest pending kind q)
+pub right : (pending : List Act) (kind : ActKind) (q : Role) → Finds pending kind q (earliest pending kind q)
 right pending kind q = sound pending kind q [] (λ i a g. absurd (none-some a g))
 
 -- there is one right answer at most
 
-record Stops (pending : List Act) (kind : Kind) (q : Role) (place : ℕ) : Type 0 where
+record Stops (pending : List Act) (kind : ActKind) (q : Role) (place : ℕ) : Type 0 where
   act : Act
   stands : slice_get pending place ≡ Some act
   blocks : may_overtake kind q act ≡ false
   free : IsFreeTo pending kind q place
 
-no_way : (kind : Kind) (q : Role) (a : Act) (b : Bool) → may_overtake kind q a ≡ b → has kind q a ≡ true → b ≡ false
+no_way : (kind : ActKind) (q : Role) (a : Act) (b : Bool) → may_overtake kind q a ≡ b → has kind q a ≡ true → b ≡ false
 no_way kind q a true e h = absurd (false≢true (sym (others kind q a e) ∙ h))
 no_way kind q a false e h = refl
 
-stops_found : (pending : List Act) (kind : Kind) (q : Role) (n : ℕ) → IsFound pending kind q n → Stops pending kind q n
+stops_found : (pending : List Act) (kind : ActKind) (q : Role) (n : ℕ) → IsFound pending kind q n → Stops pending kind q n
 stops_found pending kind q n f =
     record { act = f.act; stands = f.stands; blocks = no_way kind q f.act (may_overtake kind q f.act) refl f.same; free = f.free }
 
-stops_blocked : (pending : List Act) (kind : Kind) (q : Role) (n : ℕ) → IsBlocked pending kind q n → Stops pending kind q n
+stops_blocked : (pending : List Act) (kind : ActKind) (q : Role) (n : ℕ) → IsBlocked pending kind q n → Stops pending kind q n
 stops_blocked pending kind q n f = record { act = f.act; stands = f.stands; blocks = f.blocks; free = f.free }
 
-not_before : (pending : List Act) (kind : Kind) (q : Role) (n m : ℕ) → Stops pending kind q n → Stops pending kind q m → n < m → ⊥
+not_before : (pending : List Act) (kind : ActKind) (q : Role) (n m : ℕ) → Stops pending kind q n → Stops pending kind q m → n < m → ⊥
 not_before pending kind q n m s t h = false≢true (sym s.blocks ∙ t.free n s.act h s.stands)
 
-same_place : (pending : List Act) (kind : Kind) (q : Role) (n m : ℕ) → Stops pending kind q n → Stops pending kind q m → n ≡ m
+same_place : (pending : List Act) (kind : ActKind) (q : Role) (n m : ℕ) → Stops pending kind q n → Stops pending kind q m → n ≡ m
 same_place pending kind q n m s t =
     ⊎_elim (λ h. h)
     (λ h.
     ⊎_elim (λ k. absurd (not_before pending kind q n m s t k)) (λ k. absurd (not_before pending kind q m n t s k)) h)
     (cases_order n m)
 
-no_stop : (pending : List Act) (kind : Kind) (q : Role) (n : ℕ) → Stops pending kind q n → IsAbsent pending kind q → ⊥
+no_stop : (pending : List Act) (kind : ActKind) (q : Role) (n : ℕ) → Stops pending kind q n → IsAbsent pending kind q → ⊥
 no_stop pending kind q n s free = false≢true (sym s.blocks ∙ free n s.act s.stands)
 
-two_ways : (pending : List Act) (kind : Kind) (q : Role) (n m : ℕ) → IsFound pending kind q n → IsBlocked pending kind q m → ⊥
+two_ways : (pending : List Act) (kind : ActKind) (q : Role) (n m : ℕ) → IsFound pending kind q n → IsBlocked pending kind q m → ⊥
 two_ways pending kind q n m f b =
     let e : n ≡ m = same_place pending kind q n m (stops_found pending kind q n f) (stops_blocked pending kind q m b) in
     let k : f.act ≡ b.act = same_Some f.act b.act (sym f.stands ∙ ap (λ x. slice_get pending x) e ∙ b.stands) in
     false≢true (sym b.other ∙ ap (λ x. has kind q x) (sym k) ∙ f.same)
 
-pub one : (pending : List Act) (kind : Kind) (q : Role) (f g : Found) → Finds pending kind q f → Finds pending kind q g → f ≡ g
+pub one : (pending : List Act) (kind : ActKind) (q : Role) (f g : Found) → Finds pending kind q f → Finds pending kind q g → f ≡ g
 one pending kind q (At n) (At m) a b = ap At (same_place pending kind q n m (stops_found pending kind q n a) (stops_found pending kind q m b))
 one pending kind q (At n) (Blocked m) a b = absurd (two_ways pending kind q n m a b)
 one pending kind q (At n) Absent a b = absurd (no_stop pending kind q n (stops_found pending kind q n a) b)
@@ -118,16 +119,16 @@ one pending kind q Absent (At m) a b = absurd (no_stop pending kind q m (stops_f
 one pending kind q Absent (Blocked m) a b = absurd (no_stop pending kind q m (stops_blocked pending kind q m b) a)
 one pending kind q Absent Absent a b = refl
 
-pub is : (pending : List Act) (kind : Kind) (q : Role) (f : Found) → Finds pending kind q f → earliest pending kind q ≡ f
+pub is : (pending : List Act) (kind : ActKind) (q : Role) (f : Found) → Finds pending kind q f → earliest pending kind q ≡ f
 is pending kind q f a = one pending kind q (earliest pending kind q) f (right pending kind q) a
 
-pub is_right : (pending : List Act) (kind : Kind) (q : Role) (f : Found) → earliest pending kind q ≡ f → Finds pending kind q f
+pub is_right : (pending : List Act) (kind : ActKind) (q : Role) (f : Found) → earliest pending kind q ≡ f → Finds pending kind q f
 is_right pending kind q f e = subst (λ x. Finds pending kind q x) e (right pending kind q)
 
-pub first : (pending : List Act) (kind : Kind) (q : Role) (n : ℕ) → IsFound pending kind q n → (i : ℕ) (a : Act) → i < n
+pub first : (pending : List Act) (kind : ActKind) (q : Role) (n : ℕ) → IsFound pending kind q n → (i : ℕ) (a : Act) → i < n
     → slice_get pending i ≡ Some a → has kind q a ≡ false
 first pending kind q n f i a h g = others kind q a (f.free i a h g)
 
-pub none : (pending : List Act) (kind : Kind) (q : Role) → IsAbsent pending kind q → (i : ℕ) (a : Act)
+pub none : (pending : List Act) (kind : ActKind) (q : Role) → IsAbsent pending kind q → (i : ℕ) (a : Act)
     → slice_get pending i ≡ Some a → has kind q a ≡ false
 none pending kind q free i a g = others kind q a (free i a g)

@@ -1,3 +1,4 @@
+//! Which of the acts that are owed can be made next: the earliest of a kind with a peer that nothing before it blocks.
 ghost use Rattle.std.specs.Prelude.{◌≡◌};
 ghost use Rattle.rs_prefix.specs.Earliest.{has, may_overtake};
 
@@ -5,7 +6,7 @@ use rs_model::{Act, Role};
 
 /// Whether an act puts or takes.
 #[derive(Clone, Copy, Debug, PartialEq, Eq)]
-pub enum Kind {
+pub enum ActKind {
     Send,
     Receive,
 }
@@ -23,25 +24,25 @@ pub enum Found {
 
 // Whether the act is of that kind with that peer.
 #[inline(always)]
-pub fn has(act: Act, kind: Kind, peer: Role) -> bool
+pub fn has(act: Act, kind: ActKind, peer: Role) -> bool
     ensures { result ≡ has kind peer act }
 {
     match (kind, act) {
-        (Kind::Send, Act::Puts { peer: theirs, .. })
-        | (Kind::Receive, Act::Takes { peer: theirs, .. }) => theirs == peer,
+        (ActKind::Send, Act::Puts { peer: theirs, .. })
+        | (ActKind::Receive, Act::Takes { peer: theirs, .. }) => theirs == peer,
         _ => false,
     }
 }
 
 // Whether an act of that kind with that peer may overtake the pending one.
 #[inline(always)]
-pub fn may_overtake(act: Act, kind: Kind, peer: Role) -> bool
+pub fn may_overtake(act: Act, kind: ActKind, peer: Role) -> bool
     ensures { result ≡ may_overtake kind peer act }
 {
     match (kind, act) {
-        (Kind::Send, Act::Takes { .. }) => true,
-        (Kind::Receive, Act::Puts { .. }) => false,
-        (Kind::Send, Act::Puts { peer: theirs, .. })
-        | (Kind::Receive, Act::Takes { peer: theirs, .. }) => theirs != peer,
+        (ActKind::Send, Act::Takes { .. }) => true,
+        (ActKind::Receive, Act::Puts { .. }) => false,
+        (ActKind::Send, Act::Puts { peer: theirs, .. })
+        | (ActKind::Receive, Act::Takes { peer: theirs, .. }) => theirs != peer,
     }
 }

@@ -6,5 +6,5 @@ mod earliest;
 pub mod laws;
 mod owed;
 
-pub use earliest::{Found, Kind};
+pub use earliest::{ActKind, Found};
 pub use owed::Pending;

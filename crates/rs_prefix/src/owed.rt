@@ -1,9 +1,10 @@
+//! What a machine still owes, a list of acts that grows at its end and from which any act may be taken.
 ghost use Rattle.std.specs.Prelude.{◌≡◌, ◌<◌, [], ◌∷◌, ◌++◌, length, slice_get, IfOk, Some, OnOk, OnErr};
 ghost use Rattle.rs_prefix.specs.Earliest.{Finds, without};
 ghost use Rattle.rs_prefix.specs.Search.{earliest};
 
 use crate::earliest::{has, may_overtake};
-use crate::{Found, Kind};
+use crate::{ActKind, Found};
 use rs_model::{Act, NoMemory, Role};
 use smallvec::SmallVec;
 use std::alloc::Global;
@@ -118,15 +119,15 @@ impl Pending {
     /// the place of the first act that it may not overtake. A send may overtake receives, and sends to others; a
     /// receive may overtake receives from others, and no send. Takes no memory.
     #[inline(always)]
-    pub fn find(&self, kind: Kind, peer: Role) -> Found
+    pub fn find(&self, kind: ActKind, peer: Role) -> Found
         ensures means { Finds self.now kind peer result }
-        ensures is { result ≡ earliest self.now kind peer }
+        ensures found { result ≡ earliest self.now kind peer }
     {
         self.scan(kind, peer)
     }
 
     #[inline(always)]
-    fn scan(&self, kind: Kind, peer: Role) -> Found
+    fn scan(&self, kind: ActKind, peer: Role) -> Found
         ensures { result ≡ earliest self.now kind peer }
     {
         for (place, act) in self.acts.as_slice().iter().enumerate() {

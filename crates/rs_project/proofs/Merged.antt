@@ -1,5 +1,6 @@
 -- The choices of several talks.
-use Rattle.std.proofs.Common.{◌≡◌, ℕ, zero, suc, ◌+◌, Bool, true, false, List, [], ◌∷◌, ◌++◌, map, drop, Option, Some, slice_get, refl, sym, ap, ◌∙◌, subst, arith, if◌then◌else◌, ◌==◌, ◌||◌, append_assoc}
+use Rattle.std.proofs.Common.{◌≡◌, ℕ, zero, suc, ◌+◌, Bool, true, false, List, [], ◌∷◌, ◌++◌, map, drop, Option, Some, slice_get, refl, sym, ap, ◌∙◌, subst, arith, if◌then◌else◌, ◌==◌, ◌||◌}
+use Rattle.std.proofs.Common.{append_assoc}
 use Rattle.std.specs.List.{flat_map, list_any}
 use Rattle.rs_model.specs.Data.{Protocol_data}
 use Rattle.rs_model.specs.declared.graph.Arm.{Arm}
@@ -8,13 +9,13 @@ use Rattle.rs_model.specs.declared.graph.Node.{Node}
 use Rattle.rs_project.specs.Marks.{labelled_nexts_of}
 use Rattle.rs_project.specs.Projection.{LabelChoice, choice_of, choices_of, first_choices}
 
-append-nothing : {A : Type 0} (xs : List A) → xs ++ [] ≡ xs
-append-nothing [] = refl
-append-nothing (x ∷ xs) = ap (λ z. x ∷ z) (append-nothing xs)
+append_nothing : {A : Type 0} (xs : List A) → xs ++ [] ≡ xs
+append_nothing [] = refl
+append_nothing (x ∷ xs) = ap (λ z. x ∷ z) (append_nothing xs)
 
-first-append : (xs ys earlier : List LabelChoice) → first_choices (xs ++ ys) earlier ≡ first_choices xs earlier ++ first_choices ys (earlier ++ first_choices xs earlier)
-first-append [] ys earlier = ap (λ z. first_choices ys z) (sym (append-nothing earlier))
-first-append (c ∷ cs) ys earlier = go (list_any (λ b. b.label.0 == c.label.0) earlier) (first-append cs ys earlier) (first-append cs ys (earlier ++ (c ∷ [])))
+first_append : (xs ys earlier : List LabelChoice) → first_choices (xs ++ ys) earlier ≡ first_choices xs earlier ++ first_choices ys (earlier ++ first_choices xs earlier)
+first_append [] ys earlier = ap (λ z. first_choices ys z) (sym (append_nothing earlier))
+first_append (c ∷ cs) ys earlier = go (list_any (λ b. b.label.0 == c.label.0) earlier) (first_append cs ys earlier) (first_append cs ys (earlier ++ (c ∷ [])))
   where
     go : (b : Bool) → first_choices (cs ++ ys) earlier ≡ first_choices cs earlier ++ first_choices ys (earlier ++ first_choices cs earlier)
         → first_choices (cs ++ ys) (earlier ++ (c ∷ [])) ≡ first_choices cs (earlier ++ (c ∷ [])) ++ first_choices ys ((earlier ++ (c ∷ [])) ++ first_choices cs (earlier ++ (c ∷ [])))
@@ -29,91 +30,92 @@ first-append (c ∷ cs) ys earlier = go (list_any (λ b. b.label.0 == c.label.0)
         subst P e (ap (λ z. c ∷ z) keep)
 
 -- what was added is what the first choices add
-pub first-on : (xs ys acc new : List LabelChoice) → new ≡ acc ++ first_choices xs acc → acc ++ first_choices (xs ++ ys) acc ≡ new ++ first_choices ys new
-first-on xs ys acc new e =
+pub first_on : (xs ys acc new : List LabelChoice) → new ≡ acc ++ first_choices xs acc → acc ++ first_choices (xs ++ ys) acc ≡ new ++ first_choices ys new
+first_on xs ys acc new e =
     let P : List LabelChoice → Type 0 = λ z. acc ++ first_choices (xs ++ ys) acc ≡ z ++ first_choices ys z in
-    subst P (sym e) (ap (λ z. acc ++ z) (first-append xs ys acc) ∙ sym (append_assoc acc (first_choices xs acc) (first_choices ys (acc ++ first_choices xs acc))))
+    subst P (sym e) (ap (λ z. acc ++ z) (first_append xs ys acc) ∙ sym (append_assoc acc (first_choices xs acc) (first_choices ys (acc ++ first_choices xs acc))))
 
-pub labels-any : (label : Label) (arms : List Arm) → list_any (λ b. b.label.0 == label.0) (map choice_of arms) ≡ list_any (λ a. a.label.0 == label.0) arms
-labels-any label [] = refl
-labels-any label (a ∷ arms) = ap (λ z. (a.label.0 == label.0) || z) (labels-any label arms)
+pub labels_any : (label : Label) (arms : List Arm) → list_any (λ b. b.label.0 == label.0) (map choice_of arms) ≡ list_any (λ a. a.label.0 == label.0) arms
+labels_any label [] = refl
+labels_any label (a ∷ arms) = ap (λ z. (a.label.0 == label.0) || z) (labels_any label arms)
 
-arms-suc : (arms : List Arm) (i : ℕ) (a : Arm) (acc new total : List LabelChoice) → slice_get arms i ≡ Some a → new ≡ acc ++ first_choices (choice_of a ∷ []) acc
+arms_suc : (arms : List Arm) (i : ℕ) (a : Arm) (acc new total : List LabelChoice) → slice_get arms i ≡ Some a → new ≡ acc ++ first_choices (choice_of a ∷ []) acc
     → acc ++ first_choices (map choice_of (drop i arms)) acc ≡ total → new ++ first_choices (map choice_of (drop (suc i) arms)) new ≡ total
-arms-suc [] i a acc new total is e h = absurd (cc (is))
-arms-suc (x ∷ arms) zero a acc new total is e h =
+arms_suc [] i a acc new total is e h = absurd (cc (is))
+arms_suc (x ∷ arms) zero a acc new total is e h =
     let s : x ≡ a = cc (is) in
     let P : Arm → Type 0 = λ z. new ≡ acc ++ first_choices (choice_of z ∷ []) acc in
-    sym (first-on (choice_of x ∷ []) (map choice_of arms) acc new (subst P (sym s) e)) ∙ h
-arms-suc (x ∷ arms) (suc i) a acc new total is e h = arms-suc arms i a acc new total is e h
+    sym (first_on (choice_of x ∷ []) (map choice_of arms) acc new (subst P (sym s) e)) ∙ h
+arms_suc (x ∷ arms) (suc i) a acc new total is e h = arms_suc arms i a acc new total is e h
 
-pub arms-on : (arms : List Arm) (i : ℕ) (a : Arm) (acc new total : List LabelChoice) → slice_get arms i ≡ Some a → new ≡ acc ++ first_choices (choice_of a ∷ []) acc
+pub arms_on : (arms : List Arm) (i : ℕ) (a : Arm) (acc new total : List LabelChoice) → slice_get arms i ≡ Some a → new ≡ acc ++ first_choices (choice_of a ∷ []) acc
     → acc ++ first_choices (map choice_of (drop i arms)) acc ≡ total → new ++ first_choices (map choice_of (drop (i + 1) arms)) new ≡ total
-arms-on arms i a acc new total is e h =
+arms_on arms i a acc new total is e h =
     let q : suc i ≡ i + 1 = omega arith in
     let P : ℕ → Type 0 = λ z. new ++ first_choices (map choice_of (drop z arms)) new ≡ total in
-    subst P q (arms-suc arms i a acc new total is e h)
+    subst P q (arms_suc arms i a acc new total is e h)
 
-choices-suc : (pr : Protocol_data) (talks : List ℕ) (i n : ℕ) (node : Node) (acc new total : List LabelChoice) → slice_get talks i ≡ Some n → slice_get pr.nodes n ≡ Some node
+choices_suc : (pr : Protocol_data) (talks : List ℕ) (i n : ℕ) (node : Node) (acc new total : List LabelChoice) → slice_get talks i ≡ Some n → slice_get pr.nodes n ≡ Some node
     → new ≡ acc ++ first_choices (choices_of (Some node)) acc
     → acc ++ first_choices (flat_map (λ k. choices_of (slice_get pr.nodes k)) (drop i talks)) acc ≡ total
     → new ++ first_choices (flat_map (λ k. choices_of (slice_get pr.nodes k)) (drop (suc i) talks)) new ≡ total
-choices-suc pr [] i n node acc new total is at e h = absurd (cc (is))
-choices-suc pr (x ∷ talks) zero n node acc new total is at e h =
+choices_suc pr [] i n node acc new total is at e h = absurd (cc (is))
+choices_suc pr (x ∷ talks) zero n node acc new total is at e h =
     let s : x ≡ n = cc (is) in
     let P : Option Node → Type 0 = λ z. new ≡ acc ++ first_choices (choices_of z) acc in
     let Q : ℕ → Type 0 = λ z. new ≡ acc ++ first_choices (choices_of (slice_get pr.nodes z)) acc in
-    sym (first-on (choices_of (slice_get pr.nodes x)) (flat_map (λ k. choices_of (slice_get pr.nodes k)) talks) acc new (subst Q (sym s) (subst P (sym at) e))) ∙ h
-choices-suc pr (x ∷ talks) (suc i) n node acc new total is at e h = choices-suc pr talks i n node acc new total is at e h
+    sym (first_on (choices_of (slice_get pr.nodes x)) (flat_map (λ k. choices_of (slice_get pr.nodes k)) talks) acc new (subst Q (sym s) (subst P (sym at) e))) ∙ h
+choices_suc pr (x ∷ talks) (suc i) n node acc new total is at e h = choices_suc pr talks i n node acc new total is at e h
 
-pub choices-on : (pr : Protocol_data) (talks : List ℕ) (i n : ℕ) (node : Node) (acc new total : List LabelChoice) → slice_get talks i ≡ Some n → slice_get pr.nodes n ≡ Some node
+pub choices_on : (pr : Protocol_data) (talks : List ℕ) (i n : ℕ) (node : Node) (acc new total : List LabelChoice) → slice_get talks i ≡ Some n → slice_get pr.nodes n ≡ Some node
     → new ≡ acc ++ first_choices (choices_of (Some node)) acc
     → acc ++ first_choices (flat_map (λ k. choices_of (slice_get pr.nodes k)) (drop i talks)) acc ≡ total
     → new ++ first_choices (flat_map (λ k. choices_of (slice_get pr.nodes k)) (drop (i + 1) talks)) new ≡ total
-choices-on pr talks i n node acc new total is at e h =
+choices_on pr talks i n node acc new total is at e h =
     let q : suc i ≡ i + 1 = omega arith in
     let P : ℕ → Type 0 = λ z. new ++ first_choices (flat_map (λ k. choices_of (slice_get pr.nodes k)) (drop z talks)) new ≡ total in
-    subst P q (choices-suc pr talks i n node acc new total is at e h)
+    subst P q (choices_suc pr talks i n node acc new total is at e h)
 
-starts-suc : (pr : Protocol_data) (label : Label) (talks : List ℕ) (i n : ℕ) (node : Node) (acc new total : List ℕ) → slice_get talks i ≡ Some n → slice_get pr.nodes n ≡ Some node
+starts_suc : (pr : Protocol_data) (label : Label) (talks : List ℕ) (i n : ℕ) (node : Node) (acc new total : List ℕ) → slice_get talks i ≡ Some n → slice_get pr.nodes n ≡ Some node
     → new ≡ acc ++ labelled_nexts_of label (Some node)
     → acc ++ flat_map (λ k. labelled_nexts_of label (slice_get pr.nodes k)) (drop i talks) ≡ total
     → new ++ flat_map (λ k. labelled_nexts_of label (slice_get pr.nodes k)) (drop (suc i) talks) ≡ total
-starts-suc pr label [] i n node acc new total is at e h = absurd (cc (is))
-starts-suc pr label (x ∷ talks) zero n node acc new total is at e h =
+starts_suc pr label [] i n node acc new total is at e h = absurd (cc (is))
+starts_suc pr label (x ∷ talks) zero n node acc new total is at e h =
     let s : x ≡ n = cc (is) in
     let rest = flat_map (λ k. labelled_nexts_of label (slice_get pr.nodes k)) talks in
     let P : Option Node → Type 0 = λ z. new ≡ acc ++ labelled_nexts_of label z in
     let Q : ℕ → Type 0 = λ z. new ≡ acc ++ labelled_nexts_of label (slice_get pr.nodes z) in
     let e' = subst Q (sym s) (subst P (sym at) e) in
     ap (λ z. z ++ rest) e' ∙ append_assoc acc (labelled_nexts_of label (slice_get pr.nodes x)) rest ∙ h
-starts-suc pr label (x ∷ talks) (suc i) n node acc new total is at e h = starts-suc pr label talks i n node acc new total is at e h
+starts_suc pr label (x ∷ talks) (suc i) n node acc new total is at e h = starts_suc pr label talks i n node acc new total is at e h
 
-pub starts-on : (pr : Protocol_data) (label : Label) (talks : List ℕ) (i n : ℕ) (node : Node) (acc new total : List ℕ) → slice_get talks i ≡ Some n → slice_get pr.nodes n ≡ Some node
+pub starts_on : (pr : Protocol_data) (label : Label) (talks : List ℕ) (i n : ℕ) (node : Node) (acc new total : List ℕ) → slice_get talks i ≡ Some n → slice_get pr.nodes n ≡ Some node
     → new ≡ acc ++ labelled_nexts_of label (Some node)
     → acc ++ flat_map (λ k. labelled_nexts_of label (slice_get pr.nodes k)) (drop i talks) ≡ total
     → new ++ flat_map (λ k. labelled_nexts_of label (slice_get pr.nodes k)) (drop (i + 1) talks) ≡ total
-starts-on pr label talks i n node acc new total is at e h =
+starts_on pr label talks i n node acc new total is at e h =
     let q : suc i ≡ i + 1 = omega arith in
     let P : ℕ → Type 0 = λ z. new ++ flat_map (λ k. labelled_nexts_of label (slice_get pr.nodes k)) (drop z talks) ≡ total in
-    subst P q (starts-suc pr label talks i n node acc new total is at e h)
+    subst P q (starts_suc pr label talks i n node acc new total is at e h)
 
 -- the label stands at no choice, or at one
-pub any-labelled : (label : Label) (arms seen : List Arm) (b c : Bool) → seen ≡ arms → b ≡ list_any (λ a. a.label.0 == label.0) seen → b ≡ c → list_any (λ a. a.label.0 == label.0) (map choice_of arms) ≡ c
-any-labelled label arms seen b c s e k =
+pub any_labelled : (label : Label) (arms seen : List Arm) (b c : Bool) → seen ≡ arms → b ≡ list_any (λ a. a.label.0 == label.0) seen → b ≡ c
+    → list_any (λ a. a.label.0 == label.0) (map choice_of arms) ≡ c
+any_labelled label arms seen b c s e k =
     let P : List Arm → Type 0 = λ z. b ≡ list_any (λ a. a.label.0 == label.0) z in
-    labels-any label arms ∙ sym (subst P s e) ∙ k
+    labels_any label arms ∙ sym (subst P s e) ∙ k
 
-pub add-known : (a : Arm) (acc : List LabelChoice) → list_any (λ b. b.label.0 == a.label.0) acc ≡ true → acc ≡ acc ++ first_choices (choice_of a ∷ []) acc
-add-known a acc e =
+pub add_known : (a : Arm) (acc : List LabelChoice) → list_any (λ b. b.label.0 == a.label.0) acc ≡ true → acc ≡ acc ++ first_choices (choice_of a ∷ []) acc
+add_known a acc e =
     let P : Bool → Type 0 = λ z. acc ≡ acc ++ (if z then [] else choice_of a ∷ []) in
-    subst P (sym e) (sym (append-nothing acc))
+    subst P (sym e) (sym (append_nothing acc))
 
-pub add-new : (a : Arm) (acc new : List LabelChoice) → list_any (λ b. b.label.0 == a.label.0) acc ≡ false → new ≡ acc ++ (choice_of a ∷ []) → new ≡ acc ++ first_choices (choice_of a ∷ []) acc
-add-new a acc new e n =
+pub add_new : (a : Arm) (acc new : List LabelChoice) → list_any (λ b. b.label.0 == a.label.0) acc ≡ false → new ≡ acc ++ (choice_of a ∷ []) → new ≡ acc ++ first_choices (choice_of a ∷ []) acc
+add_new a acc new e n =
     let P : Bool → Type 0 = λ z. new ≡ acc ++ (if z then [] else choice_of a ∷ []) in
     subst P (sym e) n
 
-pub map-last : (arms : List Arm) (a : Arm) → map choice_of (arms ++ (a ∷ [])) ≡ map choice_of arms ++ (choice_of a ∷ [])
-map-last [] a = refl
-map-last (x ∷ arms) a = ap (λ z. choice_of x ∷ z) (map-last arms a)
+pub map_last : (arms : List Arm) (a : Arm) → map choice_of (arms ++ (a ∷ [])) ≡ map choice_of arms ++ (choice_of a ∷ [])
+map_last [] a = refl
+map_last (x ∷ arms) a = ap (λ z. choice_of x ∷ z) (map_last arms a)

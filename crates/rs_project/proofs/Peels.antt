@@ -8,17 +8,17 @@ use Rattle.rs_model.specs.declared.graph.Node.{Node}
 use Rattle.rs_model.specs.declared.graph.Role.{Role}
 use Rattle.rs_project.specs.Graph.{PathStep, LeadsTo, IsPath, PassesBy, AllPassBy, IsUnreached}
 use Rattle.rs_project.specs.Marks.{IsOn, HasUnreached, IsSurvey, Survey_data, leads_on}
-use Rattle.rs_project.proofs.Cycles.{passes-unreached}
-use Rattle.rs_project.proofs.Spread.{step_of, path-snoc}
-use Rattle.rs_project.proofs.Surveys.{leads-on-by}
+use Rattle.rs_project.proofs.Cycles.{passes_unreached}
+use Rattle.rs_project.proofs.Spread.{step_of, path_snoc}
+use Rattle.rs_project.proofs.Surveys.{leads_on_by}
 
-around-snoc : (pr : Protocol_data) (role : Role) (ss : List PathStep) (h a : ℕ) → AllPassBy pr role ss → PassesBy pr role h → AllPassBy pr role (ss ++ (step_of h a ∷ []))
-around-snoc pr role [] h a all one = (one, tt)
-around-snoc pr role (s ∷ ss) h a all one = (all.0, around-snoc pr role ss h a all.1 one)
+around_snoc : (pr : Protocol_data) (role : Role) (ss : List PathStep) (h a : ℕ) → AllPassBy pr role ss → PassesBy pr role h → AllPassBy pr role (ss ++ (step_of h a ∷ []))
+around_snoc pr role [] h a all one = (one, tt)
+around_snoc pr role (s ∷ ss) h a all one = (all.0, around_snoc pr role ss h a all.1 one)
 
-snoc-some : (ss : List PathStep) (s : PathStep) → (ss ++ (s ∷ [])) ≢ []
-snoc-some [] s e = cc (e)
-snoc-some (t ∷ ss) s e = cc (e)
+snoc_some : (ss : List PathStep) (s : PathStep) → (ss ++ (s ∷ [])) ≢ []
+snoc_some [] s e = cc (e)
+snoc_some (t ∷ ss) s e = cc (e)
 
 -- an unreached node leads to another one
 onward : (pr : Protocol_data) (role : Role) (n : ℕ) → IsUnreached pr role n → (place : ℕ) × (next : ℕ) × LeadsTo pr n place next × IsUnreached pr role next
@@ -32,45 +32,46 @@ onward pr role n u = go u.steps u.some u.cycle u.around
           path.0,
           path.2,
           record {
-            reached = (u.reached.0 ++ (step_of n s.place ∷ []), path-snoc pr u.reached.0 pr.root n s.place path.0 u.reached.1 path.2);
+            reached = (u.reached.0 ++ (step_of n s.place ∷ []), path_snoc pr u.reached.0 pr.root n s.place path.0 u.reached.1 path.2);
             steps = ss ++ (step_of n s.place ∷ []);
-            some = snoc-some ss (step_of n s.place);
-            cycle = path-snoc pr ss path.0 n s.place path.0 path.3 path.2;
-            around = around-snoc pr role ss n s.place around.1 (subst P path.1 around.0);
+            some = snoc_some ss (step_of n s.place);
+            cycle = path_snoc pr ss path.0 n s.place path.0 path.3 path.2;
+            around = around_snoc pr role ss n s.place around.1 (subst P path.1 around.0);
           },
         )
 
-pub off-before : (flags : List Bool) (x n : ℕ) → IsOn (set flags x false) n → IsOn flags n
-off-before [] x n h = absurd (cc (h))
-off-before (b ∷ bs) zero zero h = absurd (cc (h))
-off-before (b ∷ bs) zero (suc n) h = h
-off-before (b ∷ bs) (suc x) zero h = h
-off-before (b ∷ bs) (suc x) (suc n) h = off-before bs x n h
+pub off_before : (flags : List Bool) (x n : ℕ) → IsOn (set flags x false) n → IsOn flags n
+off_before [] x n h = absurd (cc (h))
+off_before (b ∷ bs) zero zero h = absurd (cc (h))
+off_before (b ∷ bs) zero (suc n) h = h
+off_before (b ∷ bs) (suc x) zero h = h
+off_before (b ∷ bs) (suc x) (suc n) h = off_before bs x n h
 
-pub unreached-less : (pr : Protocol_data) (role : Role) (flags : List Bool) (n : ℕ) (node : Node) → slice_get pr.nodes n ≡ Some node → leads_on flags node ≡ false → HasUnreached pr role flags
+pub unreached_less : (pr : Protocol_data) (role : Role) (flags : List Bool) (n : ℕ) (node : Node) → slice_get pr.nodes n ≡ Some node → leads_on flags node ≡ false → HasUnreached pr role flags
     → HasUnreached pr role (set flags n false)
-unreached-less pr role flags n node is ends has = record {
+unreached_less pr role flags n node is ends has = record {
   size = length-set flags n false ∙ has.size;
   whole = λ m u. elim (eqb_tells m n) [
     | inl p ↦ (let o = onward pr role m u in
         let P : ℕ → Type 0 = λ z. LeadsTo pr z o.0 o.1 in
-        let on = leads-on-by pr flags n o.0 o.1 node is (subst P p.1 o.2) (has.whole o.1 o.3) in
+        let on = leads_on_by pr flags n o.0 o.1 node is (subst P p.1 o.2) (has.whole o.1 o.3) in
         absurd (cc (on, ends)))
     | inr p ↦ get_or-set_other flags n m false false p.1 ∙ has.whole m u
   ];
 }
 
 -- the passing nodes have all unreached ones among them
-pub unreached-pass : (pr : Protocol_data) (role : Role) (survey : Survey_data) (flags : List Bool) → IsSurvey pr role survey → flags ≡ survey.passing → HasUnreached pr role flags
-unreached-pass pr role survey flags is e = subst (λ (z : List Bool). HasUnreached pr role z) (sym e) (record {
+pub unreached_pass : (pr : Protocol_data) (role : Role) (survey : Survey_data) (flags : List Bool) → IsSurvey pr role survey → flags ≡ survey.passing → HasUnreached pr role flags
+unreached_pass pr role survey flags is e = subst (λ (z : List Bool). HasUnreached pr role z) (sym e) (record {
   size = is.passing_size;
-  whole = λ n u. (is.passing n).1 (passes-unreached pr role n u);
+  whole = λ n u. (is.passing n).1 (passes_unreached pr role n u);
 })
 
 -- no node from `number` on is flagged, where none behind it was and it isn't
-pub none-from : (flags less : List Bool) (number : ℕ) (b : Bool) → 0 < number → number ≤ length less → b ≡ get_or less (number - 1) b → b ≡ false → ((n : ℕ) → IsOn less n → IsOn flags n) → ((n : ℕ) → number ≤ n → IsOn flags n → ⊥)
+pub none_from : (flags less : List Bool) (number : ℕ) (b : Bool) → 0 < number → number ≤ length less → b ≡ get_or less (number - 1) b → b ≡ false → ((n : ℕ) → IsOn less n → IsOn flags n)
+    → ((n : ℕ) → number ≤ n → IsOn flags n → ⊥)
     → (n : ℕ) → number - 1 ≤ n → IsOn less n → ⊥
-none-from flags less number b some within is off fewer none n le on = elim (cases_lt (number - 1) n) [
+none_from flags less number b some within is off fewer none n le on = elim (cases_lt (number - 1) n) [
   | inl below ↦ none n (omega (arith, below, some)) (fewer n on)
   | inr above ↦ (let q : n ≡ number - 1 = omega (arith, above, le) in
       let P : ℕ → Type 0 = λ z. IsOn less z in

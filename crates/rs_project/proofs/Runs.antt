@@ -9,76 +9,77 @@ use Rattle.rs_model.specs.declared.graph.Node.TheVariants.{Finished, Talk}
 use Rattle.rs_model.specs.declared.graph.Role.{Role}
 use Rattle.rs_wellformed.specs.WellFormed.{IsWellFormed}
 use Rattle.rs_project.specs.Graph.{PathStep, LeadsTo, IsPath, Involves, PassesBy, AllPassBy, MeetsFirst, MeetsTheEnd}
-use Rattle.rs_project.specs.Marks.{Among, AreRunEnds, HasEnd, StandsFor, have_end, nexts_of_node}
+use Rattle.rs_graph.specs.Lists.{Among}
+use Rattle.rs_project.specs.Marks.{AreRunEnds, HasEnd, StandsFor, have_end, nexts_of_node}
 use Rattle.rs_project.specs.Numbered.{nexts_of}
-use Rattle.rs_project.proofs.Cycles.{next-within}
-use Rattle.rs_project.proofs.Spread.{among-leads, leads-among, step_of}
+use Rattle.rs_project.proofs.Cycles.{next_within}
+use Rattle.rs_project.proofs.Spread.{among_leads, leads_among, step_of}
 
-pub stands-itself : (pr : Protocol_data) (role : Role) (n : ℕ) → StandsFor pr role n n
-stands-itself pr role n = record { meets = λ t. ((λ m. m), (λ m. m)); ends = ((λ e. e), (λ e. e)) }
+pub stands_itself : (pr : Protocol_data) (role : Role) (n : ℕ) → StandsFor pr role n n
+stands_itself pr role n = record { meets = λ t. ((λ m. m), (λ m. m)); ends = ((λ e. e), (λ e. e)) }
 
-pub stands-via : (pr : Protocol_data) (role : Role) (n mid end : ℕ) → StandsFor pr role n mid → StandsFor pr role mid end → StandsFor pr role n end
-stands-via pr role n mid end a b = record {
+pub stands_via : (pr : Protocol_data) (role : Role) (n mid end : ℕ) → StandsFor pr role n mid → StandsFor pr role mid end → StandsFor pr role n end
+stands_via pr role n mid end a b = record {
   meets = λ t. ((λ m. (b.meets t).0 ((a.meets t).0 m)), (λ m. (a.meets t).1 ((b.meets t).1 m)));
   ends = ((λ e. b.ends.0 (a.ends.0 e)), (λ e. a.ends.1 (b.ends.1 e)));
 }
 
 -- where the role meets the same behind all arms of a node that passes by it, it meets that from the node
-pub stands-behind : (pr : Protocol_data) (role : Role) (n first end : ℕ) (node : Node) → PassesBy pr role n → slice_get pr.nodes n ≡ Some node → Among (nexts_of_node node) first
+pub stands_behind : (pr : Protocol_data) (role : Role) (n first end : ℕ) (node : Node) → PassesBy pr role n → slice_get pr.nodes n ≡ Some node → Among (nexts_of_node node) first
     → ((next : ℕ) → Among (nexts_of_node node) next → StandsFor pr role next end) → StandsFor pr role n end
-stands-behind pr role n first end node passes is some all = record {
+stands_behind pr role n first end node passes is some all = record {
   meets = λ t. ((λ m. on t m), (λ m. back t m));
-  ends = ((λ e. end-on e), (λ e. end-back e));
+  ends = ((λ e. end_on e), (λ e. end_back e));
 }
   where
     goes : (place : ℕ) × LeadsTo pr n place first
-    goes = among-leads pr n first node is some
+    goes = among_leads pr n first node is some
 
     on : (t : ℕ) → MeetsFirst pr role n t → MeetsFirst pr role end t
     on t m = go m.steps m.path m.earlier
       where
         go : (ss : List PathStep) → IsPath pr n ss t → AllPassBy pr role ss → MeetsFirst pr role end t
         go [] path earlier = let P : ℕ → Type 0 = λ z. Involves pr role z in absurd (passes.uninvolved (subst P (sym path) m.involved))
-        go (a ∷ ss) path earlier = ((all path.0 (leads-among pr n a.place path.0 node is path.2)).meets t).0 (record { steps = ss; path = path.3; earlier = earlier.1; involved = m.involved })
+        go (a ∷ ss) path earlier = ((all path.0 (leads_among pr n a.place path.0 node is path.2)).meets t).0 (record { steps = ss; path = path.3; earlier = earlier.1; involved = m.involved })
 
     back : (t : ℕ) → MeetsFirst pr role end t → MeetsFirst pr role n t
     back t m = let k = ((all first some).meets t).1 m in record { steps = step_of n goes.0 ∷ k.steps; path = (first, refl, goes.1, k.path); earlier = (passes, k.earlier); involved = k.involved }
 
-    end-on : MeetsTheEnd pr role n → MeetsTheEnd pr role end
-    end-on m = go m.steps m.path m.earlier
+    end_on : MeetsTheEnd pr role n → MeetsTheEnd pr role end
+    end_on m = go m.steps m.path m.earlier
       where
         go : (ss : List PathStep) → IsPath pr n ss m.last → AllPassBy pr role ss → MeetsTheEnd pr role end
         go [] path earlier = absurd (passes.awaited (λ talk reached i. (let P : ℕ → Type 0 = λ z. (ss : List PathStep) × IsPath pr z ss talk in m.idle talk (subst P path reached) i)))
-        go (a ∷ ss) path earlier = (all path.0 (leads-among pr n a.place path.0 node is path.2)).ends.0 (record { steps = ss; last = m.last; path = path.3; earlier = earlier.1; idle = m.idle })
+        go (a ∷ ss) path earlier = (all path.0 (leads_among pr n a.place path.0 node is path.2)).ends.0 (record { steps = ss; last = m.last; path = path.3; earlier = earlier.1; idle = m.idle })
 
-    end-back : MeetsTheEnd pr role end → MeetsTheEnd pr role n
-    end-back m = let k = (all first some).ends.1 m in record { steps = step_of n goes.0 ∷ k.steps; last = k.last; path = (first, refl, goes.1, k.path); earlier = (passes, k.earlier); idle = k.idle }
+    end_back : MeetsTheEnd pr role end → MeetsTheEnd pr role n
+    end_back m = let k = (all first some).ends.1 m in record { steps = step_of n goes.0 ∷ k.steps; last = k.last; path = (first, refl, goes.1, k.path); earlier = (passes, k.earlier); idle = k.idle }
 
-same-end : (ends : List ℕ) (end : ℕ) (arms : List Arm) → have_end ends end arms ≡ true → (next : ℕ) → Among (nexts_of arms) next → get_or ends next 0 ≡ end
-same-end ends end [] h next m = absurd m
-same-end ends end (a ∷ arms) h next m =
+same_end : (ends : List ℕ) (end : ℕ) (arms : List Arm) → have_end ends end arms ≡ true → (next : ℕ) → Among (nexts_of arms) next → get_or ends next 0 ≡ end
+same_end ends end [] h next m = absurd m
+same_end ends end (a ∷ arms) h next m =
     let P : Bool → Type 0 = λ b. (if b then have_end ends end arms else false) ≡ true in
     elim (eqb_tells (get_or ends a.next 0) end) [
       | inl p ↦ elim m [
         | inl e ↦ ap (λ (z : ℕ). get_or ends z 0) (sym e) ∙ p.1
-        | inr k ↦ same-end ends end arms (subst P p.0 h) next k
+        | inr k ↦ same_end ends end arms (subst P p.0 h) next k
       ]
       | inr p ↦ (let bad : false ≡ true = subst P p.0 h in absurd (cc (bad)))
     ]
 
-first-next : (arms : List Arm) → arms ≢ [] → (next : ℕ) × Among (nexts_of arms) next
-first-next [] some = absurd (some refl)
-first-next (a ∷ arms) some = (a.next, inl refl)
+first_next : (arms : List Arm) → arms ≢ [] → (next : ℕ) × Among (nexts_of arms) next
+first_next [] some = absurd (some refl)
+first_next (a ∷ arms) some = (a.next, inl refl)
 
-pub own-ends : (pr : Protocol_data) (role : Role) (ends : List ℕ) → length ends ≡ length pr.nodes → ((n : ℕ) → n < length pr.nodes → get_or ends n 0 ≡ n) → AreRunEnds pr role ends
-own-ends pr role ends size each = record {
+pub own_ends : (pr : Protocol_data) (role : Role) (ends : List ℕ) → length ends ≡ length pr.nodes → ((n : ℕ) → n < length pr.nodes → get_or ends n 0 ≡ n) → AreRunEnds pr role ends
+own_ends pr role ends size each = record {
   size = size;
   within = λ n h. (let e = each n h in omega (arith, e, h));
-  stands = λ n h. (let P : ℕ → Type 0 = λ z. StandsFor pr role n z in subst P (sym (each n h)) (stands-itself pr role n));
+  stands = λ n h. (let P : ℕ → Type 0 = λ z. StandsFor pr role n z in subst P (sym (each n h)) (stands_itself pr role n));
 }
 
-set-end : (pr : Protocol_data) (role : Role) (ends : List ℕ) (n end : ℕ) → end < length pr.nodes → StandsFor pr role n end → AreRunEnds pr role ends → AreRunEnds pr role (set ends n end)
-set-end pr role ends n end within stands runs = record {
+set_end : (pr : Protocol_data) (role : Role) (ends : List ℕ) (n end : ℕ) → end < length pr.nodes → StandsFor pr role n end → AreRunEnds pr role ends → AreRunEnds pr role (set ends n end)
+set_end pr role ends n end within stands runs = record {
   size = length-set ends n end ∙ runs.size;
   within = λ m h. elim (eqb_tells m n) [
     | inl p ↦ (let e = here m p.1 h in omega (arith, e, within))
@@ -94,16 +95,16 @@ set-end pr role ends n end within stands runs = record {
     here m e h = let s = runs.size in ap (λ (z : ℕ). get_or (set ends n end) z 0) e ∙ get_or-set_same ends n end 0 (omega (arith, e, h, s))
 
 -- the run goes on behind the node
-pub run-on : (pr : Protocol_data) (role : Role) (ends : List ℕ) (n end : ℕ) (node : Node) → IsWellFormed pr → PassesBy pr role n → slice_get pr.nodes n ≡ Some node → HasEnd ends end node
+pub run_on : (pr : Protocol_data) (role : Role) (ends : List ℕ) (n end : ℕ) (node : Node) → IsWellFormed pr → PassesBy pr role n → slice_get pr.nodes n ≡ Some node → HasEnd ends end node
     → AreRunEnds pr role ends → AreRunEnds pr role (set ends n end)
-run-on pr role ends n end Finished wf passes is has runs = absurd has
-run-on pr role ends n end (Talk sender receiver arms) wf passes is has runs =
+run_on pr role ends n end Finished wf passes is has runs = absurd has
+run_on pr role ends n end (Talk sender receiver arms) wf passes is has runs =
     let node : Node = Talk sender receiver arms in
-    let first = first-next arms has.0 in
-    let fits : (next : ℕ) → Among (nexts_of arms) next → next < length pr.nodes = λ next m. (let g = among-leads pr n next node is m in next-within pr n g.0 next wf g.1) in
+    let first = first_next arms has.0 in
+    let fits : (next : ℕ) → Among (nexts_of arms) next → next < length pr.nodes = λ next m. (let g = among_leads pr n next node is m in next_within pr n g.0 next wf g.1) in
     let w = runs.within first.0 (fits first.0 first.1) in
-    let e = same-end ends end arms has.1 first.0 first.1 in
-    set-end pr role ends n end (omega (arith, w, e))
-    (stands-behind pr role n first.0 end node passes is first.1
-    (λ next m. (let P : ℕ → Type 0 = λ z. StandsFor pr role next z in subst P (same-end ends end arms has.1 next m) (runs.stands next (fits next m)))))
+    let e = same_end ends end arms has.1 first.0 first.1 in
+    set_end pr role ends n end (omega (arith, w, e))
+    (stands_behind pr role n first.0 end node passes is first.1
+    (λ next m. (let P : ℕ → Type 0 = λ z. StandsFor pr role next z in subst P (same_end ends end arms has.1 next m) (runs.stands next (fits next m)))))
     runs

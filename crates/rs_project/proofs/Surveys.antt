@@ -1,5 +1,6 @@
 -- What is known of the nodes of a protocol for one role.
-use Rattle.std.proofs.Common.{◌≡◌, ◌⊎◌, ◌↔◌, inl, inr, ℕ, zero, suc, ◌<◌, Bool, true, false, not, ◌&&◌, ◌||◌, ◌==◌, List, [], ◌∷◌, length, set, get_or, map, Some, slice_get, replicate, refl, sym, ap, ◌∙◌, subst, arith, if◌then◌else◌}
+use Rattle.std.proofs.Common.{◌≡◌, ◌⊎◌, ◌↔◌, inl, inr, ℕ, zero, suc, ◌<◌, Bool, true, false, not, ◌&&◌, ◌||◌, ◌==◌, List, [], ◌∷◌, length, set, get_or, map, Some, slice_get, replicate, refl, sym, ap}
+use Rattle.std.proofs.Common.{◌∙◌, subst, arith, if◌then◌else◌}
 use Rattle.std.proofs.lemmas.Bool.Decides.{eqb_tells}
 use Rattle.std.proofs.lemmas.List.{get_or-set_same, get_or-set_other}
 use Rattle.rs_model.specs.Data.{Protocol_data}
@@ -8,184 +9,188 @@ use Rattle.rs_model.specs.declared.graph.Node.{Node}
 use Rattle.rs_model.specs.declared.graph.Node.TheVariants.{Finished, Talk}
 use Rattle.rs_model.specs.declared.graph.Role.{Role}
 use Rattle.rs_project.specs.Graph.{PathStep, LeadsTo, IsPath, Involves, IsIdle, PassesBy}
-use Rattle.rs_project.specs.Marks.{Among, IsOn, IsAwaited, AllAwaited, AreMarked, AreRunEnds, HasFlags, IsSettled, IsSurvey, any_on, leads_on, involves_role}
+use Rattle.rs_graph.specs.Lists.{Among}
+use Rattle.rs_project.specs.Marks.{IsOn, IsAwaited, AllAwaited, AreMarked, AreRunEnds, HasFlags, IsSettled, IsSurvey, any_on, leads_on, involves_role}
 use Rattle.rs_project.specs.Numbered.{nexts_of}
-use Rattle.rs_project.proofs.Flags.{on-within, on-decide, off-flag, none-on, set-itself, set-on, set-only}
-use Rattle.rs_project.proofs.Spread.{step_of, among-leads, leads-among}
+use Rattle.rs_project.proofs.Flags.{on_within, on_decide, off_flag, none_on, set_itself, set_on, set_only}
+use Rattle.rs_project.proofs.Spread.{step_of, among_leads, leads_among}
 
-any-some : (flags : List Bool) (arms : List Arm) → any_on flags arms ≡ true → (next : ℕ) × Among (nexts_of arms) next × IsOn flags next
-any-some flags [] h = absurd (cc (h))
-any-some flags (a ∷ arms) h = go (get_or flags a.next false) refl h (λ k. any-some flags arms k)
+any_some : (flags : List Bool) (arms : List Arm) → any_on flags arms ≡ true → (next : ℕ) × Among (nexts_of arms) next × IsOn flags next
+any_some flags [] h = absurd (cc (h))
+any_some flags (a ∷ arms) h = go (get_or flags a.next false) refl h (λ k. any_some flags arms k)
   where
     go : (b : Bool) → get_or flags a.next false ≡ b → (if b then true else any_on flags arms) ≡ true
         → (any_on flags arms ≡ true → (next : ℕ) × Among (nexts_of arms) next × IsOn flags next) → (next : ℕ) × Among (nexts_of (a ∷ arms)) next × IsOn flags next
     go true e k rest = (a.next, inl refl, e)
     go false e k rest = let r = rest k in (r.0, inr r.1, r.2)
 
-any-all : (flags : List Bool) (arms : List Arm) (next : ℕ) → Among (nexts_of arms) next → IsOn flags next → any_on flags arms ≡ true
-any-all flags [] next h on = absurd h
-any-all flags (a ∷ arms) next h on = go (get_or flags a.next false) refl h (λ k. any-all flags arms next k on)
+any_all : (flags : List Bool) (arms : List Arm) (next : ℕ) → Among (nexts_of arms) next → IsOn flags next → any_on flags arms ≡ true
+any_all flags [] next h on = absurd h
+any_all flags (a ∷ arms) next h on = go (get_or flags a.next false) refl h (λ k. any_all flags arms next k on)
   where
     go : (b : Bool) → get_or flags a.next false ≡ b → Among (nexts_of (a ∷ arms)) next → (Among (nexts_of arms) next → any_on flags arms ≡ true) → (if b then true else any_on flags arms) ≡ true
     go true e k rest = refl
     go false e (inl k) rest = (let P : ℕ → Type 0 = λ z. IsOn flags z in let o : IsOn flags a.next = subst P (sym k) on in absurd (cc (o, e)))
     go false e (inr k) rest = rest k
 
-awaited-step : (pr : Protocol_data) (role : Role) (n place next : ℕ) → LeadsTo pr n place next → IsAwaited pr role next → IsAwaited pr role n
-awaited-step pr role n place next goes w = record {
+awaited_step : (pr : Protocol_data) (role : Role) (n place next : ℕ) → LeadsTo pr n place next → IsAwaited pr role next → IsAwaited pr role n
+awaited_step pr role n place next goes w = record {
   talk = w.talk;
   reached = (step_of n place ∷ w.reached.0, (next, refl, goes, w.reached.1));
   involved = w.involved;
 }
 
 -- a node that leads to one from which a talk of the role can be reached
-pub awaited-by : (pr : Protocol_data) (role : Role) (flags : List Bool) (n : ℕ) (node : Node) → AllAwaited pr role flags → slice_get pr.nodes n ≡ Some node → leads_on flags node ≡ true → IsAwaited pr role n
-awaited-by pr role flags n Finished all is h = absurd (cc (h))
-awaited-by pr role flags n (Talk sender receiver arms) all is h =
-    let r = any-some flags arms h in
-    let g = among-leads pr n r.0 (Talk sender receiver arms) is r.1 in
-    awaited-step pr role n g.0 r.0 g.1 (all r.0 r.2)
+pub awaited_by : (pr : Protocol_data) (role : Role) (flags : List Bool) (n : ℕ) (node : Node) → AllAwaited pr role flags → slice_get pr.nodes n ≡ Some node → leads_on flags node ≡ true
+    → IsAwaited pr role n
+awaited_by pr role flags n Finished all is h = absurd (cc (h))
+awaited_by pr role flags n (Talk sender receiver arms) all is h =
+    let r = any_some flags arms h in
+    let g = among_leads pr n r.0 (Talk sender receiver arms) is r.1 in
+    awaited_step pr role n g.0 r.0 g.1 (all r.0 r.2)
 
-pub awaited-set : (pr : Protocol_data) (role : Role) (flags : List Bool) (n : ℕ) (node : Node) → slice_get pr.nodes n ≡ Some node → leads_on flags node ≡ true → AllAwaited pr role flags
+pub awaited_set : (pr : Protocol_data) (role : Role) (flags : List Bool) (n : ℕ) (node : Node) → slice_get pr.nodes n ≡ Some node → leads_on flags node ≡ true → AllAwaited pr role flags
     → AllAwaited pr role (set flags n true)
-awaited-set pr role flags n node is h all = λ m on. elim (set-only flags n m on) [
+awaited_set pr role flags n node is h all = λ m on. elim (set_only flags n m on) [
   | inl k ↦ all m k
-  | inr e ↦ (let P : ℕ → Type 0 = λ z. IsAwaited pr role z in subst P e (awaited-by pr role flags n node all is h))
+  | inr e ↦ (let P : ℕ → Type 0 = λ z. IsAwaited pr role z in subst P e (awaited_by pr role flags n node all is h))
 ]
 
-pub leads-on-by : (pr : Protocol_data) (flags : List Bool) (n place next : ℕ) (node : Node) → slice_get pr.nodes n ≡ Some node → LeadsTo pr n place next → IsOn flags next → leads_on flags node ≡ true
-leads-on-by pr flags n place next Finished is goes on = absurd (leads-among pr n place next Finished is goes)
-leads-on-by pr flags n place next (Talk sender receiver arms) is goes on = any-all flags arms next (leads-among pr n place next (Talk sender receiver arms) is goes) on
+pub leads_on_by : (pr : Protocol_data) (flags : List Bool) (n place next : ℕ) (node : Node) → slice_get pr.nodes n ≡ Some node → LeadsTo pr n place next → IsOn flags next → leads_on flags node ≡ true
+leads_on_by pr flags n place next Finished is goes on = absurd (leads_among pr n place next Finished is goes)
+leads_on_by pr flags n place next (Talk sender receiver arms) is goes on = any_all flags arms next (leads_among pr n place next (Talk sender receiver arms) is goes) on
 
-on-back : (pr : Protocol_data) (flags : List Bool) → IsSettled pr flags → (ss : List PathStep) (n m : ℕ) → IsPath pr n ss m → IsOn flags m → IsOn flags n
-on-back pr flags settled [] n m path on = let P : ℕ → Type 0 = λ z. IsOn flags z in subst P (sym path) on
-on-back pr flags settled (s ∷ ss) n m path on =
-    let h = on-back pr flags settled ss path.0 m path.3 on in
+on_back : (pr : Protocol_data) (flags : List Bool) → IsSettled pr flags → (ss : List PathStep) (n m : ℕ) → IsPath pr n ss m → IsOn flags m → IsOn flags n
+on_back pr flags settled [] n m path on = let P : ℕ → Type 0 = λ z. IsOn flags z in subst P (sym path) on
+on_back pr flags settled (s ∷ ss) n m path on =
+    let h = on_back pr flags settled ss path.0 m path.3 on in
     let node : Node = Talk path.2.sender path.2.receiver path.2.arms in
     let P : ℕ → Type 0 = λ z. IsOn flags z in
     subst P path.1 (settled s.node node (let Q : ℕ → Type 0 = λ z. slice_get pr.nodes z ≡ Some node in subst Q (sym path.1) path.2.talks)
-    (leads-on-by pr flags n s.place path.0 node path.2.talks path.2 h))
+    (leads_on_by pr flags n s.place path.0 node path.2.talks path.2 h))
 
-on-map : (f : Node → Bool) (nodes : List Node) (n : ℕ) → IsOn (map f nodes) n → (node : Node) × (slice_get nodes n ≡ Some node) × (f node ≡ true)
-on-map f [] n h = absurd (cc (h))
-on-map f (x ∷ xs) zero h = (x, refl, h)
-on-map f (x ∷ xs) (suc n) h = on-map f xs n h
+on_map : (f : Node → Bool) (nodes : List Node) (n : ℕ) → IsOn (map f nodes) n → (node : Node) × (slice_get nodes n ≡ Some node) × (f node ≡ true)
+on_map f [] n h = absurd (cc (h))
+on_map f (x ∷ xs) zero h = (x, refl, h)
+on_map f (x ∷ xs) (suc n) h = on_map f xs n h
 
-map-on : (f : Node → Bool) (nodes : List Node) (n : ℕ) (node : Node) → slice_get nodes n ≡ Some node → f node ≡ true → IsOn (map f nodes) n
-map-on f [] n node is h = absurd (cc (is))
-map-on f (x ∷ xs) zero node is h = (let e : x ≡ node = cc (is) in ap f e ∙ h)
-map-on f (x ∷ xs) (suc n) node is h = map-on f xs n node is h
+map_on : (f : Node → Bool) (nodes : List Node) (n : ℕ) (node : Node) → slice_get nodes n ≡ Some node → f node ≡ true → IsOn (map f nodes) n
+map_on f [] n node is h = absurd (cc (is))
+map_on f (x ∷ xs) zero node is h = (let e : x ≡ node = cc (is) in ap f e ∙ h)
+map_on f (x ∷ xs) (suc n) node is h = map_on f xs n node is h
 
-pub same-role : (x y : Role) → x.0 ≡ y.0 → x ≡ y
-same-role x y e = let mk : ℕ → Role = λ p. record { 0 = p } in ap mk e
+pub same_role : (x y : Role) → x.0 ≡ y.0 → x ≡ y
+same_role x y e = let mk : ℕ → Role = λ p. record { 0 = p } in ap mk e
 
-pub or-split : (a b : Bool) → (a || b) ≡ true → (a ≡ true) ⊎ (b ≡ true)
-or-split true b h = inl refl
-or-split false b h = inr h
+pub or_split : (a b : Bool) → (a || b) ≡ true → (a ≡ true) ⊎ (b ≡ true)
+or_split true b h = inl refl
+or_split false b h = inr h
 
-pub or-right : (a b : Bool) → b ≡ true → (a || b) ≡ true
-or-right true b h = refl
-or-right false b h = h
+pub or_right : (a b : Bool) → b ≡ true → (a || b) ≡ true
+or_right true b h = refl
+or_right false b h = h
 
-pub or-left : (a b : Bool) → a ≡ true → (a || b) ≡ true
-or-left true b h = refl
-or-left false b h = absurd (cc (h))
+pub or_left : (a b : Bool) → a ≡ true → (a || b) ≡ true
+or_left true b h = refl
+or_left false b h = absurd (cc (h))
 
-pub role-by : (x y : Role) → (x.0 == y.0) ≡ true → x ≡ y
-role-by x y h = elim (eqb_tells x.0 y.0) [ inl t ↦ same-role x y t.1 | inr t ↦ absurd (cc (h, t.0)) ]
+pub role_by : (x y : Role) → (x.0 == y.0) ≡ true → x ≡ y
+role_by x y h = elim (eqb_tells x.0 y.0) [ inl t ↦ same_role x y t.1 | inr t ↦ absurd (cc (h, t.0)) ]
 
-pub role-eq : (x y : Role) → x ≡ y → (x.0 == y.0) ≡ true
-role-eq x y e = elim (eqb_tells x.0 y.0) [ inl t ↦ t.0 | inr t ↦ absurd (t.1 (ap (λ (z : Role). z.0) e)) ]
+pub role_eq : (x y : Role) → x ≡ y → (x.0 == y.0) ≡ true
+role_eq x y e = elim (eqb_tells x.0 y.0) [ inl t ↦ t.0 | inr t ↦ absurd (t.1 (ap (λ (z : Role). z.0) e)) ]
 
-pub involves-by : (pr : Protocol_data) (role : Role) (n : ℕ) (node : Node) → slice_get pr.nodes n ≡ Some node → involves_role role node ≡ true → Involves pr role n
-involves-by pr role n Finished is h = absurd (cc (h))
-involves-by pr role n (Talk sender receiver arms) is h = record {
+pub involves_by : (pr : Protocol_data) (role : Role) (n : ℕ) (node : Node) → slice_get pr.nodes n ≡ Some node → involves_role role node ≡ true → Involves pr role n
+involves_by pr role n Finished is h = absurd (cc (h))
+involves_by pr role n (Talk sender receiver arms) is h = record {
   sender = sender;
   receiver = receiver;
   arms = arms;
   talks = is;
-  part = elim (or-split (sender.0 == role.0) (receiver.0 == role.0) h) [ inl k ↦ inl (role-by sender role k) | inr k ↦ inr (role-by receiver role k) ];
+  part = elim (or_split (sender.0 == role.0) (receiver.0 == role.0) h) [ inl k ↦ inl (role_by sender role k) | inr k ↦ inr (role_by receiver role k) ];
 }
 
-involved-flags : (pr : Protocol_data) (role : Role) (n : ℕ) → IsOn (map (λ k. involves_role role k) pr.nodes) n ↔ Involves pr role n
-involved-flags pr role n = (
-  (λ h. (let r = on-map (λ k. involves_role role k) pr.nodes n h in involves-by pr role n r.0 r.1 r.2)),
-  (λ i. map-on (λ k. involves_role role k) pr.nodes n (Talk i.sender i.receiver i.arms) i.talks (elim i.part [
-    | inl e ↦ or-left (i.sender.0 == role.0) (i.receiver.0 == role.0) (role-eq i.sender role e)
-    | inr e ↦ or-right (i.sender.0 == role.0) (i.receiver.0 == role.0) (role-eq i.receiver role e)
+involved_flags : (pr : Protocol_data) (role : Role) (n : ℕ) → IsOn (map (λ k. involves_role role k) pr.nodes) n ↔ Involves pr role n
+involved_flags pr role n = (
+  (λ h. (let r = on_map (λ k. involves_role role k) pr.nodes n h in involves_by pr role n r.0 r.1 r.2)),
+  (λ i. map_on (λ k. involves_role role k) pr.nodes n (Talk i.sender i.receiver i.arms) i.talks (elim i.part [
+    | inl e ↦ or_left (i.sender.0 == role.0) (i.receiver.0 == role.0) (role_eq i.sender role e)
+    | inr e ↦ or_right (i.sender.0 == role.0) (i.receiver.0 == role.0) (role_eq i.receiver role e)
   ])),
 )
 
-involved-awaited : (pr : Protocol_data) (role : Role) (n : ℕ) → Involves pr role n → IsAwaited pr role n
-involved-awaited pr role n i = record { talk = n; reached = ([], refl); involved = i }
+involved_awaited : (pr : Protocol_data) (role : Role) (n : ℕ) → Involves pr role n → IsAwaited pr role n
+involved_awaited pr role n i = record { talk = n; reached = ([], refl); involved = i }
 
-and-both : (a b : Bool) → (a && not b) ≡ true → (a ≡ true) × (b ≡ false)
-and-both true false h = (refl, refl)
-and-both true true h = absurd (cc (h))
-and-both false b h = absurd (cc (h))
+and_both : (a b : Bool) → (a && not b) ≡ true → (a ≡ true) × (b ≡ false)
+and_both true false h = (refl, refl)
+and_both true true h = absurd (cc (h))
+and_both false b h = absurd (cc (h))
 
-both-and : (a b : Bool) → a ≡ true → (b ≡ true → ⊥) → (a && not b) ≡ true
-both-and true false h k = refl
-both-and true true h k = absurd (k refl)
-both-and false b h k = absurd (cc (h))
+both_and : (a b : Bool) → a ≡ true → (b ≡ true → ⊥) → (a && not b) ≡ true
+both_and true false h k = refl
+both_and true true h k = absurd (k refl)
+both_and false b h k = absurd (cc (h))
 
-map-length : (f : Node → Bool) (nodes : List Node) → length (map f nodes) ≡ length nodes
-map-length f [] = refl
-map-length f (x ∷ xs) = ap suc (map-length f xs)
+map_length : (f : Node → Bool) (nodes : List Node) → length (map f nodes) ≡ length nodes
+map_length f [] = refl
+map_length f (x ∷ xs) = ap suc (map_length f xs)
 
 -- ---- nodes are marked as awaited, and those that don't involve the role as passing
 
-passing-set : (involved awaited passing : List Bool) (x : ℕ) → x < length awaited → x < length passing → get_or awaited x false ≡ false → HasFlags involved awaited
+passing_set : (involved awaited passing : List Bool) (x : ℕ) → x < length awaited → x < length passing → get_or awaited x false ≡ false → HasFlags involved awaited
     → ((n : ℕ) → n < length involved → get_or passing n false ≡ (get_or awaited n false && not (get_or involved n false)))
     → (n : ℕ) → n < length involved → get_or (set passing x true) n false ≡ (get_or (set awaited x true) n false && not (get_or involved n false))
-passing-set involved awaited passing x wa wp off has are n h = elim (eqb_tells n x) [
-  | inl p ↦ (let own : get_or involved n false ≡ false = off-flag involved n (λ o. (let k = has n o in let q = ap (λ (z : ℕ). get_or awaited z false) p.1 ∙ off in absurd (cc (k, q)))) in
+passing_set involved awaited passing x wa wp off has are n h = elim (eqb_tells n x) [
+  | inl p ↦ (let own : get_or involved n false ≡ false = off_flag involved n (λ o. (let k = has n o in let q = ap (λ (z : ℕ). get_or awaited z false) p.1 ∙ off in absurd (cc (k, q)))) in
       let a : get_or (set awaited x true) n false ≡ true = ap (λ (z : ℕ). get_or (set awaited x true) z false) p.1 ∙ get_or-set_same awaited x true false wa in
       let b : get_or (set passing x true) n false ≡ true = ap (λ (z : ℕ). get_or (set passing x true) z false) p.1 ∙ get_or-set_same passing x true false wp in
       b ∙ sym (ap (λ (z : Bool). z && not (get_or involved n false)) a ∙ ap (λ (z : Bool). not z) own))
   | inr p ↦ get_or-set_other passing x n true false p.1 ∙ are n h ∙ ap (λ (z : Bool). z && not (get_or involved n false)) (sym (get_or-set_other awaited x n true false p.1))
 ]
 
-pub marked-none : (pr : Protocol_data) (role : Role) (involved passing : List Bool) (ends : List ℕ) (k : ℕ) → involved ≡ map (λ n. involves_role role n) pr.nodes → passing ≡ replicate k false → AreRunEnds pr role ends
+pub marked_none : (pr : Protocol_data) (role : Role) (involved passing : List Bool) (ends : List ℕ) (k : ℕ) → involved ≡ map (λ n. involves_role role n) pr.nodes → passing ≡ replicate k false
+    → AreRunEnds pr role ends
     → AreMarked pr role involved involved passing ends
-marked-none pr role involved passing ends k ei ep runs = record {
+marked_none pr role involved passing ends k ei ep runs = record {
   talks = inv;
   has = λ n h. h;
-  reaches = λ n o. involved-awaited pr role n ((inv n).0 o);
-  passes = λ n h. (let P : List Bool → Type 0 = λ z. get_or z n false ≡ false in subst P (sym ep) (off-flag (replicate k false) n (none-on k n)) ∙ never (get_or involved n false));
+  reaches = λ n o. involved_awaited pr role n ((inv n).0 o);
+  passes = λ n h. (let P : List Bool → Type 0 = λ z. get_or z n false ≡ false in subst P (sym ep) (off_flag (replicate k false) n (none_on k n)) ∙ never (get_or involved n false));
   runs = runs;
 }
   where
     inv : (n : ℕ) → IsOn involved n ↔ Involves pr role n
-    inv n = let P : List Bool → Type 0 = λ z. IsOn z n ↔ Involves pr role n in subst P (sym ei) (involved-flags pr role n)
+    inv n = let P : List Bool → Type 0 = λ z. IsOn z n ↔ Involves pr role n in subst P (sym ei) (involved_flags pr role n)
 
     never : (b : Bool) → false ≡ (b && not b)
     never true = refl
     never false = refl
 
-pub marked-more : (pr : Protocol_data) (role : Role) (involved awaited passing : List Bool) (ends ends' : List ℕ) (x : ℕ) (node : Node) → x < length awaited → x < length passing → get_or awaited x false ≡ false
+pub marked_more : (pr : Protocol_data) (role : Role) (involved awaited passing : List Bool) (ends ends' : List ℕ) (x : ℕ) (node : Node) → x < length awaited → x < length passing
+    → get_or awaited x false ≡ false
     → slice_get pr.nodes x ≡ Some node → leads_on awaited node ≡ true → (PassesBy pr role x → AreRunEnds pr role ends → AreRunEnds pr role ends')
     → AreMarked pr role involved awaited passing ends → AreMarked pr role involved (set awaited x true) (set passing x true) ends'
-marked-more pr role involved awaited passing ends ends' x node wa wp off is leads on m =
-    let all = awaited-set pr role awaited x node is leads m.reaches in
-    let here = all x (set-itself awaited x wa) in
+marked_more pr role involved awaited passing ends ends' x node wa wp off is leads on m =
+    let all = awaited_set pr role awaited x node is leads m.reaches in
+    let here = all x (set_itself awaited x wa) in
     record {
       talks = m.talks;
-      has = λ n h. set-on awaited x n (m.has n h);
+      has = λ n h. set_on awaited x n (m.has n h);
       reaches = all;
-      passes = passing-set involved awaited passing x wa wp off m.has m.passes;
+      passes = passing_set involved awaited passing x wa wp off m.has m.passes;
       runs = on record {
         uninvolved = λ i. (let k = m.has x ((m.talks x).1 i) in absurd (cc (k, off)));
         awaited = λ idle. idle here.talk here.reached here.involved;
       } m.runs;
     }
 
-pub is-survey : (pr : Protocol_data) (role : Role) (involved awaited passing : List Bool) (ends : List ℕ) → involved ≡ map (λ k. involves_role role k) pr.nodes
+pub is_survey : (pr : Protocol_data) (role : Role) (involved awaited passing : List Bool) (ends : List ℕ) → involved ≡ map (λ k. involves_role role k) pr.nodes
     → length awaited ≡ length pr.nodes → length passing ≡ length involved
     → (AllAwaited pr role involved → AllAwaited pr role awaited) → HasFlags involved awaited → IsSettled pr awaited
     → ((n : ℕ) → n < length involved → get_or passing n false ≡ (get_or awaited n false && not (get_or involved n false)))
     → IsSurvey pr role record { protocol = pr; role = role; involved = involved; awaited = awaited; passing = passing; run_ends = ends }
-is-survey pr role involved awaited passing ends e asize psize sound has settled each = record {
+is_survey pr role involved awaited passing ends e asize psize sound has settled each = record {
   involved_size = isize;
   awaited_size = asize;
   passing_size = psize ∙ isize;
@@ -193,34 +198,34 @@ is-survey pr role involved awaited passing ends e asize psize sound has settled 
   awaited = aw;
   idle = idle;
   passing = λ n. (
-    (λ h. (let w = on-within passing n h in
-        let b = and-both (get_or awaited n false) (get_or involved n false) (sym (each n (omega (arith, w, psize))) ∙ h) in
+    (λ h. (let w = on_within passing n h in
+        let b = and_both (get_or awaited n false) (get_or involved n false) (sym (each n (omega (arith, w, psize))) ∙ h) in
         record {
           uninvolved = λ i. (let o = (inv n).1 i in absurd (cc (o, b.1)));
           awaited = λ k. (let a = aw n b.0 in k a.talk a.reached a.involved);
         })),
-    (λ p. (elim (on-decide awaited n) [
-      | inl o ↦ (let w = on-within awaited n o in each n (omega (arith, w, asize, isize)) ∙ both-and (get_or awaited n false) (get_or involved n false) o (λ k. p.uninvolved ((inv n).0 k)))
+    (λ p. (elim (on_decide awaited n) [
+      | inl o ↦ (let w = on_within awaited n o in each n (omega (arith, w, asize, isize)) ∙ both_and (get_or awaited n false) (get_or involved n false) o (λ k. p.uninvolved ((inv n).0 k)))
       | inr none ↦ absurd (p.awaited (idle n none))
     ])),
   );
 }
   where
     isize : length involved ≡ length pr.nodes
-    isize = ap (λ (z : List Bool). length z) e ∙ map-length (λ k. involves_role role k) pr.nodes
+    isize = ap (λ (z : List Bool). length z) e ∙ map_length (λ k. involves_role role k) pr.nodes
 
     inv : (n : ℕ) → IsOn involved n ↔ Involves pr role n
-    inv n = let P : List Bool → Type 0 = λ z. IsOn z n ↔ Involves pr role n in subst P (sym e) (involved-flags pr role n)
+    inv n = let P : List Bool → Type 0 = λ z. IsOn z n ↔ Involves pr role n in subst P (sym e) (involved_flags pr role n)
 
     aw : (n : ℕ) → IsOn awaited n → IsAwaited pr role n
-    aw n h = sound (λ m o. involved-awaited pr role m ((inv m).0 o)) n h
+    aw n h = sound (λ m o. involved_awaited pr role m ((inv m).0 o)) n h
 
     idle : (n : ℕ) → (IsOn awaited n → ⊥) → IsIdle pr role n
-    idle n none = λ talk path i. none (on-back pr awaited settled path.0 n talk path.1 (has talk ((inv talk).1 i)))
+    idle n none = λ talk path i. none (on_back pr awaited settled path.0 n talk path.1 (has talk ((inv talk).1 i)))
 
-pub marked-survey : (pr : Protocol_data) (role : Role) (involved awaited passing : List Bool) (ends : List ℕ) → involved ≡ map (λ k. involves_role role k) pr.nodes
+pub marked_survey : (pr : Protocol_data) (role : Role) (involved awaited passing : List Bool) (ends : List ℕ) → involved ≡ map (λ k. involves_role role k) pr.nodes
     → length awaited ≡ length pr.nodes → length passing ≡ length pr.nodes → IsSettled pr awaited → AreMarked pr role involved awaited passing ends
     → IsSurvey pr role record { protocol = pr; role = role; involved = involved; awaited = awaited; passing = passing; run_ends = ends }
-marked-survey pr role involved awaited passing ends e asize psize settled m =
-    let isize : length involved ≡ length pr.nodes = ap (λ (z : List Bool). length z) e ∙ map-length (λ k. involves_role role k) pr.nodes in
-    is-survey pr role involved awaited passing ends e asize (psize ∙ sym isize) (λ all. m.reaches) m.has settled m.passes
+marked_survey pr role involved awaited passing ends e asize psize settled m =
+    let isize : length involved ≡ length pr.nodes = ap (λ (z : List Bool). length z) e ∙ map_length (λ k. involves_role role k) pr.nodes in
+    is_survey pr role involved awaited passing ends e asize (psize ∙ sym isize) (λ all. m.reaches) m.has settled m.passes

@@ -47,9 +47,9 @@ abbrev pub agree_nodes : Role → Node → Node → Bool
 agree_nodes role one other = both_send role one other || both_receive role one other
 
 -- the node is a talk in which the role sends
-abbrev pub sends : Role → Node → Bool
-sends role Finished = false
-sends role (Talk s r arms) = s.0 == role.0
+abbrev pub is_sender_in : Role → Node → Bool
+is_sender_in role Finished = false
+is_sender_in role (Talk s r arms) = s.0 == role.0
 
 -- the talks at the two places agree
 abbrev pub AgreeAt : Protocol_data → Role → List ℕ → ℕ → ℕ → Type 0
@@ -81,5 +81,5 @@ pub record TalksClash (protocol : Protocol_data) (role : Role) (talks : List ℕ
   pub earlier : AllAgree protocol role talks k
 
 -- where there is the end there is no talk
-abbrev pub EndsAlone : Front_data → Type 0
-EndsAlone front = front.ends ≡ true → front.talks ≡ []
+abbrev pub HasEndAlone : Front_data → Type 0
+HasEndAlone front = front.ends ≡ true → front.talks ≡ []

@@ -1,17 +1,13 @@
--- Steps: how the number of a front is found again: along a chain of numbers. Each stands in it as one more than it is; 0 ends a chain.
-use Rattle.std.specs.Prelude.{◌≡◌, ℕ, suc, ◌≤◌, ◌+◌, ◌*◌, ◌%◌, false, List, [], ◌∷◌, length, Option, None, Some, slice_get, slice_index_or, slice_set}
+-- Steps: how the number of a front is found again: along the chain of numbers that begins at the head of the front's bucket.
+use Rattle.std.specs.Prelude.{◌≡◌, ℕ, suc, ◌≤◌, false, List, [], ◌∷◌, length, Option, None, Some, slice_get, slice_index_or, slice_set}
 use Rattle.rs_model.specs.declared.limits.TheConstants.{MOST_STATES}
+use Rattle.rs_model.specs.Chains.{AreChained, bucket_on}
 use Rattle.rs_project.specs.Data.{Front_data}
+use Rattle.rs_project.specs.declared.filing.TheConstants.{BUCKETS}
 
--- the bucket of a front with these talks, where those before lead to bucket `seen`
-abbrev pub bucket_on : ℕ → List ℕ → ℕ
-bucket_on seen [] = seen
-bucket_on seen (t ∷ ts) = bucket_on ((seen * 31 + t) % 251) ts
-
--- the number stands in the chain that begins there
-pub data IsChained (links : List ℕ) : ℕ → ℕ → Type 0 where
-  First : (n : ℕ) → IsChained links (suc n) n
-  Later : (m next n : ℕ) → slice_get links m ≡ Some next → IsChained links next n → IsChained links (suc m) n
+-- the bucket of a front: that of its talks
+abbrev pub bucket_of_front : Front_data → ℕ
+bucket_of_front front = bucket_on BUCKETS 0 front.talks
 
 -- what a role may meet first where it is this talk alone
 abbrev pub lone_front : ℕ → Front_data
@@ -21,13 +17,10 @@ lone_front talk = record { talks = talk ∷ []; ends = false }
 abbrev pub IsShared : Front_data → Type 0
 IsShared front = (talk : ℕ) → front ≡ lone_front talk → ⊥
 
--- there are 251 buckets; the number of each front that isn't that of one talk alone stands in the chain that begins at the head of the bucket of its talks, and chains fall
+-- there are so many buckets, and each front that isn't that of one talk alone is chained by its bucket
 pub record FrontsAreFiled (fronts : List Front_data) (heads links : List ℕ) : Type 0 where
-  pub buckets : length heads ≡ 251
-  pub size : length links ≡ length fronts
-  pub within : (b : ℕ) → slice_index_or heads b 0 ≤ length fronts
-  pub falls : (m next : ℕ) → slice_get links m ≡ Some next → next ≤ m
-  pub filed : (n : ℕ) (f : Front_data) → slice_get fronts n ≡ Some f → IsShared f → IsChained links (slice_index_or heads (bucket_on 0 f.talks) 0) n
+  pub buckets : length heads ≡ BUCKETS
+  pub chained : AreChained bucket_of_front IsShared fronts heads links
 
 -- the number of the front of each talk alone stands at the talk, as one more than it is; 0 where there is none
 pub record AreLone (fronts : List Front_data) (numbers : List ℕ) : Type 0 where
@@ -39,8 +32,8 @@ abbrev pub with_number : Option ℕ → ℕ → List ℕ → List ℕ
 with_number None number numbers = numbers
 with_number (Some talk) number numbers = slice_set numbers talk number
 
--- .. and there are at most 1,024
+-- the fronts are filed, and there are at most 1,024
 pub record FrontsAreKept (fronts : List Front_data) (heads links numbers : List ℕ) : Type 0 where
   pub filed : FrontsAreFiled fronts heads links
   pub lone : AreLone fronts numbers
-  pub few : length fronts ≤ MOST_STATES
+  pub bounded : length fronts ≤ MOST_STATES

@@ -30,7 +30,7 @@ IsPath protocol from (s ∷ ss) to =
 abbrev pub IsReachedFrom : Protocol_data → ℕ → ℕ → Type 0
 IsReachedFrom protocol from to = (steps : List PathStep) × IsPath protocol from steps to
 
--- .. from the root to node n
+-- some path leads from the root to node n
 abbrev pub IsReached : Protocol_data → ℕ → Type 0
 IsReached protocol n = IsReachedFrom protocol protocol.root n
 

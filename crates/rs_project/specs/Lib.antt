@@ -1,7 +1,6 @@
 pub mod Data
 pub mod Graph
 pub mod Projection
-pub mod Order
 pub mod Numbered
 pub mod Reached
 pub mod Refusals

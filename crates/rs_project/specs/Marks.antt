@@ -1,6 +1,7 @@
 -- Steps: what the search over the graph keeps: flags of nodes.
-use Rattle.std.specs.Prelude.{◌≡◌, ◌≢◌, ◌⊎◌, ◌↔◌, ℕ, ◌<◌, ◌≤◌, ◌^◌, Bool, true, false, suc, List, [], ◌∷◌, ◌++◌, length, drop, slice_index_or, slice_set, if◌then◌else◌, ◌==◌, ◌||◌, ◌&&◌, not, Option, None, Some, slice_get}
-use Rattle.std.specs.List.{All, AllPairs}
+use Rattle.std.specs.Prelude.{◌≡◌, ◌≢◌, ◌⊎◌, ◌↔◌, ℕ, ◌<◌, ◌≤◌, ◌^◌, Bool, true, false, suc, List, [], ◌∷◌, ◌++◌, length, drop, slice_index_or, slice_set, if◌then◌else◌, ◌==◌, ◌||◌, ◌&&◌, not, Option}
+use Rattle.std.specs.Prelude.{None, Some, slice_get}
+use Rattle.std.specs.List.{All}
 use Rattle.rs_model.specs.Data.{Protocol_data}
 use Rattle.rs_model.specs.declared.graph.Arm.{Arm}
 use Rattle.rs_model.specs.declared.graph.Label.{Label}
@@ -8,13 +9,9 @@ use Rattle.rs_model.specs.declared.graph.Node.{Node}
 use Rattle.rs_model.specs.declared.graph.Node.TheVariants.{Finished, Talk}
 use Rattle.rs_model.specs.declared.graph.Role.{Role}
 use Rattle.rs_wellformed.specs.WellFormed.{IsWellFormed}
+use Rattle.rs_graph.specs.Lists.{Among}
 use Rattle.rs_project.specs.Numbered.{nexts_of}
-use Rattle.rs_project.specs.Graph.{PathStep, LeadsTo, IsPath, IsReached, IsReachedFrom, Involves, IsIdle, PassesBy, AllPassBy, MeetsFirst, MeetsTheEnd, IsUnreached}
-
--- the list has x
-abbrev pub Among : {X : Type 0} → List X → X → Type 0
-Among [] x = ⊥
-Among (y ∷ ys) x = (y ≡ x) ⊎ Among ys x
+use Rattle.rs_project.specs.Graph.{PathStep, LeadsTo, IsPath, IsReached, IsReachedFrom, Involves, IsIdle, PassesBy, MeetsFirst, MeetsTheEnd, IsUnreached}
 
 -- the flag of node n stands
 abbrev pub IsOn : List Bool → ℕ → Type 0
@@ -66,7 +63,7 @@ pub record Marks_data : Type 0 where
 abbrev pub AreListed : List Bool → List ℕ → Type 0
 AreListed flags numbers = (n : ℕ) → IsOn flags n ↔ Among numbers n
 
--- .. with the mark of one more node
+-- the marks with that of one more node
 abbrev pub with_mark : Marks_data → ℕ → Marks_data
 with_mark marks n = record { flags = slice_set marks.flags n true; numbers = marks.numbers ++ (n ∷ []) }
 
@@ -98,7 +95,7 @@ abbrev pub any_on : List Bool → List Arm → Bool
 any_on flags [] = false
 any_on flags (a ∷ arms) = if slice_index_or flags a.next false then true else any_on flags arms
 
--- .. of a node
+-- whether an arm of the node leads to a flagged one
 abbrev pub leads_on : List Bool → Node → Bool
 leads_on flags Finished = false
 leads_on flags (Talk sender receiver arms) = any_on flags arms
@@ -119,13 +116,6 @@ IsSettled protocol flags = (n : ℕ) (node : Node) → slice_get protocol.nodes 
 -- the second list has all flags of the first
 abbrev pub HasFlags : List Bool → List Bool → Type 0
 HasFlags old new = (n : ℕ) → IsOn old n → IsOn new n
-
--- one can come from node n back to it through nodes that pass by the role
-pub record GoesRound (protocol : Protocol_data) (role : Role) (n : ℕ) : Type 0 where
-  pub steps : List PathStep
-  pub some : steps ≢ []
-  pub cycle : IsPath protocol n steps n
-  pub around : AllPassBy protocol role steps
 
 -- the flags are those of the nodes that are reached from the root and pass by the role
 pub record IsLive (protocol : Protocol_data) (role : Role) (flags : List Bool) : Type 0 where
@@ -170,10 +160,16 @@ abbrev pub have_end : List ℕ → ℕ → List Arm → Bool
 have_end ends end [] = true
 have_end ends end (a ∷ arms) = if slice_index_or ends a.next 0 == end then have_end ends end arms else false
 
--- .. of a node that has arms
+-- the node has arms, and the runs behind all of them end at that one
 abbrev pub HasEnd : List ℕ → ℕ → Node → Type 0
 HasEnd ends end Finished = ⊥
 HasEnd ends end (Talk sender receiver arms) = (arms ≢ []) × (have_end ends end arms ≡ true)
+
+-- two flags and an end for each node
+pub record HaveNodeSizes (protocol : Protocol_data) (awaited passing : List Bool) (ends : List ℕ) : Type 0 where
+  pub awaited_size : length awaited ≡ length protocol.nodes
+  pub passing_size : length passing ≡ length protocol.nodes
+  pub ends_size : length ends ≡ length protocol.nodes
 
 -- what is known of the nodes for the role: which involve the role, from which a talk of it can be reached, which pass by
 -- it, and where the runs of these end
@@ -198,7 +194,7 @@ pub record IsSurvey (protocol : Protocol_data) (role : Role) (survey : Survey_da
 -- the protocol is well formed, its nodes have numbers below 2^32, and the survey tells the truth of each
 pub record IsTrueSurvey (known : Survey_data) : Type 0 where
   pub well_formed : IsWellFormed known.protocol
-  pub few : length known.protocol.nodes < 2 ^ 32
+  pub bounded : length known.protocol.nodes < 2 ^ 32
   pub survey : IsSurvey known.protocol known.role known
   pub runs : AreRunEnds known.protocol known.role known.run_ends
 
@@ -220,26 +216,18 @@ pub record StartEnds (protocol : Protocol_data) (role : Role) (starts : List ℕ
   pub among : Among starts start
   pub ends : MeetsTheEnd protocol role start
 
--- the numbers are those of the flags that stand in both lists among the first so many, in order
-pub record AreCommon (one other : List Bool) (count : ℕ) (numbers : List ℕ) : Type 0 where
-  pub rising : AllPairs (λ (n m : ℕ). n < m) numbers
-  pub below : (n : ℕ) → Among numbers n → n < count
-  pub in_one : (n : ℕ) → Among numbers n → IsOn one n
-  pub in_other : (n : ℕ) → Among numbers n → IsOn other n
-  pub whole : (n : ℕ) → n < count → IsOn one n → IsOn other n → Among numbers n
-
 -- the numbers behind the arms with the label
 abbrev pub labelled_nexts : Label → List Arm → List ℕ
 labelled_nexts label [] = []
 labelled_nexts label (a ∷ arms) = if a.label.0 == label.0 then a.next ∷ labelled_nexts label arms else labelled_nexts label arms
 
--- .. behind those of a node
+-- the nodes behind the arms of a node with the label
 abbrev pub labelled_nexts_of : Label → Option Node → List ℕ
 labelled_nexts_of label None = []
 labelled_nexts_of label (Some Finished) = []
 labelled_nexts_of label (Some (Talk sender receiver arms)) = labelled_nexts label arms
 
 -- the arms of a node
-abbrev pub arms_in : Node → List Arm
-arms_in Finished = []
-arms_in (Talk sender receiver arms) = arms
+abbrev pub arms_of_node : Node → List Arm
+arms_of_node Finished = []
+arms_of_node (Talk sender receiver arms) = arms

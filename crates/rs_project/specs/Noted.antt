@@ -20,10 +20,10 @@ abbrev pub KeepsNotes : List (Option Sort) → List (Option Sort) → Type 0
 KeepsNotes old new = (label : ℕ) (s : Sort) → slice_get old label ≡ Some (Some s) → slice_get new label ≡ Some (Some s)
 
 -- the role receives in the node, from this sender, and its labels are noted
-abbrev pub IsNoted : Role → Role → List (Option Sort) → Node → Type 0
-IsNoted role sender sorts Finished = ⊥
-IsNoted role sender sorts (Talk s r arms) = (s.0 == sender.0 ≡ true) × (r.0 == role.0 ≡ true) × AllNoted sorts arms
+abbrev pub IsNotedTalk : Role → Role → List (Option Sort) → Node → Type 0
+IsNotedTalk role sender sorts Finished = ⊥
+IsNotedTalk role sender sorts (Talk s r arms) = (s.0 == sender.0 ≡ true) × (r.0 == role.0 ≡ true) × AllNoted sorts arms
 
--- .. and so in the first so many of the talks
-abbrev pub AreNoted : Protocol_data → Role → Role → List (Option Sort) → List ℕ → ℕ → Type 0
-AreNoted protocol role sender sorts talks count = (k t : ℕ) (node : Node) → k < count → slice_get talks k ≡ Some t → slice_get protocol.nodes t ≡ Some node → IsNoted role sender sorts node
+-- the labels of the first so many talks are noted with their sorts
+abbrev pub AreNotedTalks : Protocol_data → Role → Role → List (Option Sort) → List ℕ → ℕ → Type 0
+AreNotedTalks protocol role sender sorts talks count = (k t : ℕ) (node : Node) → k < count → slice_get talks k ≡ Some t → slice_get protocol.nodes t ≡ Some node → IsNotedTalk role sender sorts node

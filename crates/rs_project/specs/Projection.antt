@@ -19,7 +19,7 @@ use Rattle.rs_project.specs.Graph.{LeadsTo, MeetsFirst, MeetsTheEnd, IsUnreached
 -- meet the end. So a set with a talk and the end isn't there.
 pub record IsSet (sets : List (List ℕ)) (number : ℕ) (Meets : ℕ → Type 0) (Ends : Type 0) : Type 0 where
   pub members : List ℕ
-  pub is : slice_get sets number ≡ Some members
+  pub stands : slice_get sets number ≡ Some members
   pub rising : AllPairs (λ (n m : ℕ). n < m) members
   pub talks : (talk : ℕ) → Contains members talk ↔ Meets talk
   pub ends : (members ≡ []) ↔ Ends

@@ -18,7 +18,7 @@ arms_behind (Takes peer arms) = arms
 -- an arm with the label leads from one state to the other
 pub record StateLeads (projection : Projection_data) (from : ℕ) (label : Label) (to : ℕ) : Type 0 where
   pub state : State
-  pub is : slice_get projection.machine.states from ≡ Some state
+  pub present : slice_get projection.machine.states from ≡ Some state
   pub place : ℕ
   pub arm : Arm
   pub stands : slice_get (arms_behind state) place ≡ Some arm

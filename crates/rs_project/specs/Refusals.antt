@@ -6,7 +6,7 @@ use Rattle.rs_model.specs.Data.{Protocol_data}
 use Rattle.rs_model.specs.declared.graph.Role.{Role}
 use Rattle.rs_project.specs.Data.{Front_data}
 use Rattle.rs_project.specs.Graph.{MeetsFirst, MeetsTheEnd, IsUnreached}
-use Rattle.rs_project.specs.Order.{IsOnce, Worked}
+use Rattle.rs_graph.specs.Order.{Once, Worked}
 use Rattle.rs_project.specs.Projection.{LabelChoice, Agree, merged_choices, MeetsBehind, EndsBehind}
 use Rattle.rs_project.specs.declared.projecting.ProjFault.{ProjFault}
 use Rattle.rs_project.specs.declared.projecting.ProjFault.TheVariants.{Unmergeable, Unreached, TooManyStates, NoMemory}
@@ -21,7 +21,7 @@ pub record IsFront (front : Front_data) (Meets : ℕ → Type 0) (Ends : Type 0)
 pub record IsFrontAt (fronts : List Front_data) (number : ℕ) (Meets : ℕ → Type 0) (Ends : Type 0) : Type 0 where
   pub front : Front_data
   pub stands : slice_get fronts number ≡ Some front
-  pub is : IsFront front Meets Ends
+  pub is_front : IsFront front Meets Ends
 
 -- no two members of the front clash: all talks agree, and where there is a talk there isn't the end
 pub record Merges (protocol : Protocol_data) (role : Role) (front : Front_data) : Type 0 where
@@ -42,8 +42,8 @@ AreBehind protocol role fronts talks (c ∷ cs) (n ∷ ns) =
 -- the numbers of the fronts behind the choices. It goes on with this front, where `row` is done.
 pub record ComesTo (protocol : Protocol_data) (role : Role) (fronts : List Front_data) (rows : List (List ℕ)) (row : List ℕ) (front : Front_data) : Type 0 where
   pub first : IsFrontAt fronts 0 (MeetsFirst protocol role protocol.root) (MeetsTheEnd protocol role protocol.root)
-  pub once : IsOnce fronts
-  pub few : length fronts ≤ MOST_STATES
+  pub once : Once fronts
+  pub bounded : length fronts ≤ MOST_STATES
   pub order : Worked 0 1 (rows ++ (row ∷ [])) (length fronts)
   pub merged : (k : ℕ) (f : Front_data) (r : List ℕ) → slice_get fronts k ≡ Some f → slice_get rows k ≡ Some r → Merges protocol role f
   pub behind : (k : ℕ) (f : Front_data) (r : List ℕ) → slice_get fronts k ≡ Some f → slice_get rows k ≡ Some r

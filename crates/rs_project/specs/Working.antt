@@ -1,6 +1,6 @@
 -- Steps: what the work on the states keeps, and what it comes to.
 use Rattle.std.specs.Prelude.{◌≡◌, ◌≢◌, ◌⊎◌, ℕ, ◌<◌, ◌≤◌, true, List, [], ◌∷◌, ◌++◌, map, length, Option, Some, slice_get, slice_index_or, suc}
-use Rattle.std.specs.List.{Contains}
+use Rattle.std.specs.List.{Contains, flat_map}
 use Rattle.rs_model.specs.declared.limits.TheConstants.{MOST_STATES}
 use Rattle.rs_model.specs.Data.{Protocol_data}
 use Rattle.rs_model.specs.declared.graph.Arm.{Arm}
@@ -11,8 +11,9 @@ use Rattle.rs_model.specs.declared.machines.State.TheVariants.{Done, Puts, Takes
 use Rattle.rs_model.specs.Talks.{Talks}
 use Rattle.rs_project.specs.Data.{Front_data}
 use Rattle.rs_project.specs.Graph.{Involves, MeetsFirst, MeetsTheEnd}
-use Rattle.rs_project.specs.Marks.{Among, IsTrueSurvey, StartEnds, StartMeets, Survey_data}
-use Rattle.rs_project.specs.Order.{IsOnce, Numbered, Worked}
+use Rattle.rs_graph.specs.Lists.{Among}
+use Rattle.rs_project.specs.Marks.{IsTrueSurvey, StartEnds, StartMeets, Survey_data, labelled_nexts_of}
+use Rattle.rs_graph.specs.Order.{Once, Numbered, Worked}
 use Rattle.rs_project.specs.Numbered.{nexts_behind}
 use Rattle.rs_project.specs.Projection.{LabelChoice, choice_of, merged_choices, MeetsBehind, EndsBehind}
 use Rattle.rs_project.specs.Refusals.{IsFront, IsFrontAt, Merges, AreBehind, FirstClash}
@@ -41,7 +42,7 @@ AddsFront old front new n =
     ((slice_get old n ≡ Some front) × (new ≡ old))
     ⊎ ((n ≡ length old) × (new ≡ old ++ (front ∷ [])) × (length old < MOST_STATES) × FrontIsNew old front)
 
--- .. and where there is no room
+-- the fault where there is no room for one more front
 abbrev pub NumberFault : Role → List Front_data → Front_data → ProjFault → Type 0
 NumberFault role old front (TooManyStates r) = (r ≡ role) × (length old ≡ MOST_STATES) × FrontIsNew old front
 NumberFault role old front (Unmergeable r a b) = ⊥
@@ -51,13 +52,13 @@ NumberFault role old front NoMemory = Unit {0}
 -- the number of the front from the starts
 pub record FindsFrom (protocol : Protocol_data) (role : Role) (old : List Front_data) (starts : List ℕ) (new : List Front_data) (n : ℕ) : Type 0 where
   pub front : Front_data
-  pub is : IsFrontFrom protocol role starts front
+  pub is_front : IsFrontFrom protocol role starts front
   pub adds : AddsFront old front new n
 
 -- there are 1,024 fronts, and the one from the starts is another one
 pub record FindsNoneFrom (protocol : Protocol_data) (role : Role) (old : List Front_data) (starts : List ℕ) : Type 0 where
   pub front : Front_data
-  pub is : IsFrontFrom protocol role starts front
+  pub is_front : IsFrontFrom protocol role starts front
   pub many : length old ≡ MOST_STATES
   pub new : FrontIsNew old front
 
@@ -68,31 +69,18 @@ FaultFrom protocol role old starts (Unmergeable r a b) = ⊥
 FaultFrom protocol role old starts (Unreached r n) = ⊥
 FaultFrom protocol role old starts NoMemory = Unit {0}
 
--- the number of the front behind a label
-pub record FindsFront (protocol : Protocol_data) (role : Role) (old : List Front_data) (talks : List ℕ) (label : Label) (new : List Front_data) (n : ℕ) : Type 0 where
-  pub front : Front_data
-  pub is : IsFrontBehind protocol role talks label front
-  pub adds : AddsFront old front new n
-
 -- there are 1,024 fronts, and the one behind the label is another one
 pub record FindsNone (protocol : Protocol_data) (role : Role) (old : List Front_data) (talks : List ℕ) (label : Label) : Type 0 where
   pub front : Front_data
-  pub is : IsFrontBehind protocol role talks label front
+  pub is_front : IsFrontBehind protocol role talks label front
   pub many : length old ≡ MOST_STATES
   pub new : FrontIsNew old front
 
--- what a fault of finding the front behind the label tells
-abbrev pub FindFault : Protocol_data → Role → List Front_data → List ℕ → Label → ProjFault → Type 0
-FindFault protocol role old talks label (TooManyStates r) = (r ≡ role) × FindsNone protocol role old talks label
-FindFault protocol role old talks label (Unmergeable r a b) = ⊥
-FindFault protocol role old talks label (Unreached r n) = ⊥
-FindFault protocol role old talks label NoMemory = Unit {0}
-
 -- what is known of the fronts that were found: none stands twice, there are at most 1,024, they have only talks of the
 -- role, and one without talks has the end
-pub record AreFound (protocol : Protocol_data) (role : Role) (fronts : List Front_data) : Type 0 where
-  pub once : IsOnce fronts
-  pub few : length fronts ≤ MOST_STATES
+pub record AreFoundFronts (protocol : Protocol_data) (role : Role) (fronts : List Front_data) : Type 0 where
+  pub once : Once fronts
+  pub bounded : length fronts ≤ MOST_STATES
   pub right : (k : ℕ) (f : Front_data) (t : ℕ) → slice_get fronts k ≡ Some f → Among f.talks t → Involves protocol role t
   pub told : (k : ℕ) (f : Front_data) → slice_get fronts k ≡ Some f → f.talks ≡ [] → f.ends ≡ true
 
@@ -109,12 +97,12 @@ AreFrom protocol role fronts numbers = (n k : ℕ) → slice_index_or numbers n 
 -- what holds of the search
 pub record IsSearch (search : Search_data) (numbers : List ℕ) : Type 0 where
   pub known : IsTrueSurvey search.survey
-  pub found : AreFound search.survey.protocol search.survey.role search.fronts
+  pub found : AreFoundFronts search.survey.protocol search.survey.role search.fronts
   pub from : AreFrom search.survey.protocol search.survey.role search.fronts numbers
 
 -- behind these choices stand the fronts with the numbers of the row, and those that weren't found before were added
 pub record Discovers (protocol : Protocol_data) (role : Role) (old : List Front_data) (talks : List ℕ) (choices : List LabelChoice) (new : List Front_data) (row : List ℕ) : Type 0 where
-  pub found : AreFound protocol role new
+  pub found : AreFoundFronts protocol role new
   pub kept : KeepsFronts old new
   pub numbered : Numbered (length old) row (length new)
   pub behind : AreBehind protocol role new talks choices row
@@ -136,6 +124,11 @@ ArmsFault protocol role old talks choices (TooManyStates r) = (r ≡ role) × To
 ArmsFault protocol role old talks choices (Unmergeable r a b) = ⊥
 ArmsFault protocol role old talks choices (Unreached r n) = ⊥
 ArmsFault protocol role old talks choices NoMemory = Unit {0}
+
+-- the talk has this choice alone
+pub record IsOnlyChoice (protocol : Protocol_data) (talk : ℕ) (choice : Arm) : Type 0 where
+  pub starts : choice.next ∷ [] ≡ flat_map (λ t. labelled_nexts_of choice.label (slice_get protocol.nodes t)) (talk ∷ [])
+  pub alone : choice_of choice ∷ [] ≡ merged_choices protocol (talk ∷ [])
 
 -- the role does in the state what it does in all these talks
 abbrev pub HasShape : Protocol_data → Role → List ℕ → State → Type 0
@@ -183,7 +176,7 @@ pub record IsDoneWith (protocol : Protocol_data) (role : Role) (fronts : List Fr
 
 -- as far as the work has come
 pub record Working (protocol : Protocol_data) (role : Role) (fronts : List Front_data) (states : List State) : Type 0 where
-  pub found : AreFound protocol role fronts
+  pub found : AreFoundFronts protocol role fronts
   pub first : IsFrontAt fronts 0 (MeetsFirst protocol role protocol.root) (MeetsTheEnd protocol role protocol.root)
   pub order : Worked 0 1 (map nexts_behind states) (length fronts)
   pub ahead : length states ≤ length fronts

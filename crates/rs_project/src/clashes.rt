@@ -1,7 +1,9 @@
+//! Which two of the talks that a role may meet first don't go together.
 ghost use Rattle.std.specs.Prelude.{◌≡◌, ◌<◌, ◌≤◌, ◌+◌, ℕ, [], true, false, length, slice_get, Some, None, IfOk, MatchOption};
 ghost use Rattle.std.specs.List.{All, list_any};
-ghost use Rattle.rs_project.specs.Clashes.{AgreeBefore, AllAgree, ClashesWith, EndsAlone, TalksClash, agree_nodes, both_receive, both_send, has_all, is_choice, is_other_sort, same_sorts, sends};
-ghost use Rattle.rs_project.specs.Noted.{AreNoted};
+ghost use Rattle.rs_project.specs.Clashes.{AgreeBefore, AllAgree, ClashesWith, HasEndAlone, TalksClash, agree_nodes, both_receive};
+ghost use Rattle.rs_project.specs.Clashes.{both_send, has_all, is_choice, is_other_sort, same_sorts, is_sender_in};
+ghost use Rattle.rs_project.specs.Noted.{AreNotedTalks};
 ghost use Rattle.rs_project.specs.Projection.{Agree};
 ghost use Rattle.rs_project.specs.Refusals.{FirstClash};
 ghost use Rattle.rs_wellformed.specs.WellFormed.{IsWellFormed};
@@ -27,7 +29,8 @@ pub fn first_clash(
 ) -> Result<Option<Clash>, NoMemory>
     requires well_formed { IsWellFormed protocol.now }
     requires talks { All (λ t. t < length protocol.now.nodes) front.now.talks }
-    ensures { IfOk result (λ found. MatchOption found (AllAgree protocol.now role front.now.talks (length front.now.talks) × EndsAlone front.now) (λ clash. FirstClash protocol.now role front.now clash.a clash.b)) }
+    ensures { IfOk result (λ found. MatchOption found (AllAgree protocol.now role front.now.talks (length front.now.talks) × HasEndAlone front.now)
+        (λ clash. FirstClash protocol.now role front.now clash.a clash.b)) }
 {
     let found = talk_clash(alloc, protocol, role, &front.talks)?;
     if let Some(clash) = found {
@@ -41,7 +44,7 @@ pub fn first_clash(
 
 // The end and the first talk, where both are there.
 fn end_clash(front: &Front) -> Option<Clash>
-    ensures { MatchOption result (EndsAlone front.now) (λ clash. (front.now.ends ≡ true) × (slice_get front.now.talks 0 ≡ Some clash.a) × (clash.b ≡ None)) }
+    ensures { MatchOption result (HasEndAlone front.now) (λ clash. (front.now.ends ≡ true) × (slice_get front.now.talks 0 ≡ Some clash.a) × (clash.b ≡ None)) }
 {
     if !front.ends {
         return None;
@@ -92,9 +95,9 @@ fn clash_at(
     requires earlier { AllAgree protocol.now role talks.now later }
     requires talks { All (λ t. t < length protocol.now.nodes) talks.now }
     requires later { later < length talks.now }
-    requires noted { notes.old.tell ≡ true → AreNoted protocol.now role sender notes.old.sorts.items talks.now later }
+    requires noted { notes.old.tell ≡ true → AreNotedTalks protocol.now role sender notes.old.sorts.items talks.now later }
     ensures clash { MatchOption result (AgreeBefore protocol.now role talks.now later later) (λ i. ClashesWith protocol.now role talks.now i later) }
-    ensures noted { notes.new.tell ≡ true → AreNoted protocol.now role sender notes.new.sorts.items talks.now (later + 1) }
+    ensures noted { notes.new.tell ≡ true → AreNotedTalks protocol.now role sender notes.new.sorts.items talks.now (later + 1) }
 {
     let talk = &protocol.nodes[talks[later] as usize];
     if notes.tell && joins(&mut notes.sorts, role, sender, talk) {
@@ -138,7 +141,7 @@ fn enough_before(protocol: &Protocol, role: Role, talks: &[u32], later: usize) -
 }
 
 fn sends(role: Role, node: &Node) -> bool
-    ensures { result ≡ sends role node.now }
+    ensures { result ≡ is_sender_in role node.now }
 {
     match node {
         Node::Finished => false,

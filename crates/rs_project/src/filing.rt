@@ -1,6 +1,9 @@
+//! Fronts by their numbers, and their numbers by what they hold.
 ghost use Rattle.std.specs.Prelude.{◌≡◌, ◌==◌, ◌<◌, ◌≤◌, ◌++◌, ◌∷◌, [], ℕ, true, false, length, slice_get, slice_index_or, Some, IfOk, IfSome, OnOk, OnErr, MatchOption};
 ghost use Rattle.rs_model.specs.declared.limits.TheConstants.{MOST_STATES};
-ghost use Rattle.rs_project.specs.Filing.{IsChained, IsShared, bucket_on, lone_front, with_number};
+ghost use Rattle.rs_model.specs.Chains.{IsChained, bucket_on};
+ghost use Rattle.rs_project.specs.Filing.{IsShared, lone_front, with_number};
+ghost use Rattle.rs_project.specs.declared.filing.TheConstants.{BUCKETS};
 ghost use Rattle.rs_project.specs.Working.{FrontIsNew};
 
 use crate::fronts::Front;
@@ -64,8 +67,8 @@ impl Fronts {
 
     /// How many there are.
     pub fn len(&self) -> usize
-        ensures is { result ≡ length self.now }
-        ensures few { result ≤ MOST_STATES }
+        ensures count { result ≡ length self.now }
+        ensures bounded { result ≤ MOST_STATES }
     {
         self.items.len()
     }
@@ -190,8 +193,8 @@ pub fn set_number(numbers: &mut Vec<u32>, talk: Option<u32>, number: u32)
 }
 
 fn bucket_of(talks: &[u32]) -> usize
-    ensures is { result ≡ bucket_on 0 talks.now }
-    ensures within { result < 251 }
+    ensures bucket { result ≡ bucket_on BUCKETS 0 talks.now }
+    ensures within { result < BUCKETS }
 {
     let mut bucket = 0;
     for talk in talks {

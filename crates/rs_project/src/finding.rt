@@ -1,9 +1,10 @@
-ghost use Rattle.std.specs.Prelude.{◌≡◌, ◌<◌, ◌∷◌, [], map, length, slice_get, IfOk, IfErr};
-ghost use Rattle.std.specs.List.{All, flat_map};
-ghost use Rattle.rs_project.specs.Marks.{IsSurvey, arms_in, labelled_nexts_of};
+//! The arms of a state, and the fronts to which they lead.
+ghost use Rattle.std.specs.Prelude.{◌≡◌, ◌<◌, ◌∷◌, [], map, length, IfOk, IfErr};
+ghost use Rattle.std.specs.List.{All};
+ghost use Rattle.rs_project.specs.Marks.{IsSurvey, arms_of_node};
 ghost use Rattle.rs_project.specs.Numbered.{nexts_of};
 ghost use Rattle.rs_project.specs.Projection.{choice_of, merged_choices};
-ghost use Rattle.rs_project.specs.Working.{AreFound, ArmsFault, Discovers};
+ghost use Rattle.rs_project.specs.Working.{AreFoundFronts, ArmsFault, Discovers, IsOnlyChoice};
 
 use crate::ProjFault;
 use crate::merging::{merged_arms, starts_behind};
@@ -15,7 +16,8 @@ use std::alloc::Global;
 pub fn lone_arms(alloc: Global, search: &mut Search, talk: u32) -> Result<Arms, ProjFault>
     requires talk { talk < length search.old.survey.protocol.nodes }
     ensures survey { search.new.survey ≡ search.old.survey }
-    ensures ok { IfOk result (λ arms. Discovers search.old.survey.protocol search.old.survey.role search.old.fronts (talk ∷ []) (merged_choices search.old.survey.protocol (talk ∷ [])) search.new.fronts (nexts_of arms)) }
+    ensures ok { IfOk result (λ arms. Discovers search.old.survey.protocol search.old.survey.role search.old.fronts (talk ∷ [])
+        (merged_choices search.old.survey.protocol (talk ∷ [])) search.new.fronts (nexts_of arms)) }
     ensures choices { IfOk result (λ arms. map choice_of arms ≡ merged_choices search.old.survey.protocol (talk ∷ [])) }
     ensures err { IfErr result (λ e. ArmsFault search.old.survey.protocol search.old.survey.role search.old.fronts (talk ∷ []) (merged_choices search.old.survey.protocol (talk ∷ [])) e) }
 {
@@ -27,15 +29,15 @@ pub fn lone_arms(alloc: Global, search: &mut Search, talk: u32) -> Result<Arms, 
     }
 }
 
-// .. where the talk has this choice alone.
+// The arms of a talk that has this choice alone.
 fn only_arm(alloc: Global, search: &mut Search, talk: u32, choice: Arm) -> Result<Arms, ProjFault>
     requires next { choice.next < length search.old.survey.protocol.nodes }
-    requires starts { choice.next ∷ [] ≡ flat_map (λ t. labelled_nexts_of choice.label (slice_get search.old.survey.protocol.nodes t)) (talk ∷ []) }
-    requires choice { choice_of choice ∷ [] ≡ merged_choices search.old.survey.protocol (talk ∷ []) }
+    requires only { IsOnlyChoice search.old.survey.protocol talk choice }
     requires survey { IsSurvey search.old.survey.protocol search.old.survey.role search.old.survey }
-    requires found { AreFound search.old.survey.protocol search.old.survey.role search.old.fronts }
+    requires found { AreFoundFronts search.old.survey.protocol search.old.survey.role search.old.fronts }
     ensures survey { search.new.survey ≡ search.old.survey }
-    ensures ok { IfOk result (λ arms. Discovers search.old.survey.protocol search.old.survey.role search.old.fronts (talk ∷ []) (merged_choices search.old.survey.protocol (talk ∷ [])) search.new.fronts (nexts_of arms)) }
+    ensures ok { IfOk result (λ arms. Discovers search.old.survey.protocol search.old.survey.role search.old.fronts (talk ∷ [])
+        (merged_choices search.old.survey.protocol (talk ∷ [])) search.new.fronts (nexts_of arms)) }
     ensures choices { IfOk result (λ arms. map choice_of arms ≡ merged_choices search.old.survey.protocol (talk ∷ [])) }
     ensures err { IfErr result (λ e. ArmsFault search.old.survey.protocol search.old.survey.role search.old.fronts (talk ∷ []) (merged_choices search.old.survey.protocol (talk ∷ [])) e) }
 {
@@ -50,11 +52,12 @@ fn only_arm(alloc: Global, search: &mut Search, talk: u32, choice: Arm) -> Resul
     ))
 }
 
-// .. where it has any choices.
+// The arms of a talk that has any choices.
 fn several_arms(alloc: Global, search: &mut Search, talk: u32) -> Result<Arms, ProjFault>
     requires talk { talk < length search.old.survey.protocol.nodes }
     ensures survey { search.new.survey ≡ search.old.survey }
-    ensures ok { IfOk result (λ arms. Discovers search.old.survey.protocol search.old.survey.role search.old.fronts (talk ∷ []) (merged_choices search.old.survey.protocol (talk ∷ [])) search.new.fronts (nexts_of arms)) }
+    ensures ok { IfOk result (λ arms. Discovers search.old.survey.protocol search.old.survey.role search.old.fronts (talk ∷ [])
+        (merged_choices search.old.survey.protocol (talk ∷ [])) search.new.fronts (nexts_of arms)) }
     ensures choices { IfOk result (λ arms. map choice_of arms ≡ merged_choices search.old.survey.protocol (talk ∷ [])) }
     ensures err { IfErr result (λ e. ArmsFault search.old.survey.protocol search.old.survey.role search.old.fronts (talk ∷ []) (merged_choices search.old.survey.protocol (talk ∷ [])) e) }
 {
@@ -74,7 +77,7 @@ fn several_arms(alloc: Global, search: &mut Search, talk: u32) -> Result<Arms, P
 }
 
 fn arms_in(node: &Node) -> &[Arm]
-    ensures { result.now ≡ arms_in node.now }
+    ensures { result.now ≡ arms_of_node node.now }
 {
     match node {
         Node::Finished => &[],
@@ -86,7 +89,8 @@ fn arms_in(node: &Node) -> &[Arm]
 pub fn joint_arms(alloc: Global, search: &mut Search, talks: &[u32]) -> Result<Arms, ProjFault>
     requires talks { All (λ t. t < length search.old.survey.protocol.nodes) talks.now }
     ensures survey { search.new.survey ≡ search.old.survey }
-    ensures ok { IfOk result (λ arms. Discovers search.old.survey.protocol search.old.survey.role search.old.fronts talks.now (merged_choices search.old.survey.protocol talks.now) search.new.fronts (nexts_of arms)) }
+    ensures ok { IfOk result (λ arms. Discovers search.old.survey.protocol search.old.survey.role search.old.fronts talks.now
+        (merged_choices search.old.survey.protocol talks.now) search.new.fronts (nexts_of arms)) }
     ensures choices { IfOk result (λ arms. map choice_of arms ≡ merged_choices search.old.survey.protocol talks.now) }
     ensures err { IfErr result (λ e. ArmsFault search.old.survey.protocol search.old.survey.role search.old.fronts talks.now (merged_choices search.old.survey.protocol talks.now) e) }
 {

@@ -1,3 +1,4 @@
+//! What a role may meet first, found by marks.
 ghost use Rattle.std.specs.Prelude.{◌≡◌, ◌↔◌, ◌<◌, ◌∷◌, [], ℕ, false, not, length, slice_index_or, IfOk, MatchOption};
 ghost use Rattle.std.specs.List.{All, AllPairs, Contains, filter, list_any};
 ghost use Rattle.rs_project.specs.Filing.{lone_front};

@@ -21,7 +21,8 @@ pub fn one_refusal_at_most()
 
 /// A well-formed protocol has one projection onto a role at most, numbers of states included.
 pub fn one_projection_at_most()
-    ensures { (protocol : Protocol_data) (role : Role) (one other : Projection_data) → IsWellFormed protocol → IsNumberedProjection protocol role one → IsNumberedProjection protocol role other → one ≡ other }
+    ensures { (protocol : Protocol_data) (role : Role) (one other : Projection_data) → IsWellFormed protocol → IsNumberedProjection protocol role one
+        → IsNumberedProjection protocol role other → one ≡ other }
 {}
 
 /// Where there is a projection nothing is refused.
@@ -31,23 +32,27 @@ pub fn not_both()
 
 /// The machine of a projection of a well-formed protocol is well formed.
 pub fn projections_are_well_formed()
-    ensures { (protocol : Protocol_data) (role : Role) (projection : Projection_data) → IsWellFormed protocol → role.0 < protocol.roles → IsProjection protocol role projection → IsWellFormedMachine projection.machine protocol.roles }
+    ensures { (protocol : Protocol_data) (role : Role) (projection : Projection_data) → IsWellFormed protocol → role.0 < protocol.roles → IsProjection protocol role projection
+        → IsWellFormedMachine projection.machine protocol.roles }
 {}
 
 /// Each state of a projection is reached: labels lead to it from state 0.
 pub fn states_are_reached()
-    ensures { (protocol : Protocol_data) (role : Role) (projection : Projection_data) (number : ℕ) → IsNumberedProjection protocol role projection → number < length projection.machine.states → (labels : List Label) × LeadToState projection labels number }
+    ensures { (protocol : Protocol_data) (role : Role) (projection : Projection_data) (number : ℕ) → IsNumberedProjection protocol role projection → number < length projection.machine.states
+        → (labels : List Label) × LeadToState projection labels number }
 {}
 
 /// The members of a state are exactly the talks that the role may meet after the labels that lead to the state, on some
 /// path of the protocol.
 pub fn members_are_the_talks_met()
-    ensures { (protocol : Protocol_data) (role : Role) (projection : Projection_data) (labels : List Label) (number : ℕ) (members : List ℕ) → IsProjection protocol role projection → LeadToState projection labels number → slice_get projection.sets number ≡ Some members → (talk : ℕ) → Contains members talk ↔ MeetsAfter protocol role labels talk }
+    ensures { (protocol : Protocol_data) (role : Role) (projection : Projection_data) (labels : List Label) (number : ℕ) (members : List ℕ) → IsProjection protocol role projection
+        → LeadToState projection labels number → slice_get projection.sets number ≡ Some members → (talk : ℕ) → Contains members talk ↔ MeetsAfter protocol role labels talk }
 {}
 
 /// A state has no members exactly where the role may meet the end after the labels that lead to it.
 pub fn no_members_are_the_end()
-    ensures { (protocol : Protocol_data) (role : Role) (projection : Projection_data) (labels : List Label) (number : ℕ) (members : List ℕ) → IsProjection protocol role projection → LeadToState projection labels number → slice_get projection.sets number ≡ Some members → (members ≡ []) ↔ EndsAfter protocol role labels }
+    ensures { (protocol : Protocol_data) (role : Role) (projection : Projection_data) (labels : List Label) (number : ℕ) (members : List ℕ) → IsProjection protocol role projection
+        → LeadToState projection labels number → slice_get projection.sets number ≡ Some members → (members ≡ []) ↔ EndsAfter protocol role labels }
 {}
 
 /// A well-formed protocol has, for each role, a projection or a first refusal.

@@ -1,3 +1,4 @@
+//! Choices of several talks as one state's arms.
 ghost use Rattle.std.specs.Prelude.{◌≡◌, ◌<◌, ◌++◌, ◌∷◌, [], ◌==◌, map, length, slice_get, Some, IfOk, OnOk};
 ghost use Rattle.std.specs.List.{All, flat_map, list_any};
 ghost use Rattle.rs_project.specs.Marks.{labelled_nexts, labelled_nexts_of};

@@ -1,6 +1,7 @@
+//! Labels with their sorts, so that a receive is compared with all before it at once.
 ghost use Rattle.std.specs.Prelude.{◌≡◌, ◌<◌, true, length};
 ghost use Rattle.std.specs.List.{All};
-ghost use Rattle.rs_project.specs.Noted.{AllNoted, IsNoted, IsNotedWith, KeepsNotes};
+ghost use Rattle.rs_project.specs.Noted.{AllNoted, IsNotedTalk, IsNotedWith, KeepsNotes};
 
 use rs_model::{Arm, MOST_LABELS, NoMemory, Node, Protocol, Role, Sort};
 use std::alloc::Global;
@@ -46,7 +47,7 @@ pub fn first_sender(protocol: &Protocol, talks: &[u32]) -> Role
 
 /// Notes a receive of the role from the sender, where no label was noted with another sort; whether it did.
 pub fn joins(sorts: &mut Vec<Option<Sort>>, role: Role, sender: Role, node: &Node) -> bool
-    ensures noted { result ≡ true → IsNoted role sender sorts.new.items node.now }
+    ensures noted { result ≡ true → IsNotedTalk role sender sorts.new.items node.now }
     ensures keeps { KeepsNotes sorts.old.items sorts.new.items }
 {
     match node {

@@ -1,3 +1,4 @@
+//! One sweep over flagged nodes, which finds those that can't go round.
 ghost use Rattle.std.specs.Prelude.{◌≡◌, ℕ, false, length};
 ghost use Rattle.rs_model.specs.declared.graph.Role.{Role};
 ghost use Rattle.rs_project.specs.Marks.{HasUnreached, IsOn};

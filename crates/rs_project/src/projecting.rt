@@ -1,9 +1,10 @@
+//! The projection onto a role, state by state, or the first reason why there is none.
 ghost use Rattle.std.specs.Prelude.{◌≡◌, ◌⊎◌, ◌<◌, ◌≤◌, ◌^◌, ◌∷◌, [], ℕ, map, length, IfOk, IfErr};
 ghost use Rattle.std.specs.List.{Contains};
 ghost use Rattle.rs_model.specs.declared.limits.TheConstants.{MOST_STATES};
 ghost use Rattle.rs_model.specs.WellFormed.{IsWellFormedMachine};
 ghost use Rattle.rs_project.specs.Graph.{Involves};
-ghost use Rattle.rs_project.specs.Marks.{Among};
+ghost use Rattle.rs_graph.specs.Lists.{Among};
 ghost use Rattle.rs_project.specs.Numbered.{IsNumberedProjection, nexts_behind, nexts_of};
 ghost use Rattle.rs_project.specs.Projection.{Agree, choice_of, merged_choices};
 ghost use Rattle.rs_project.specs.Refusals.{FirstRefusal, NoneUnreached};
@@ -93,10 +94,10 @@ impl<T: Drop> From<AllocFailed<T>> for ProjFault {
 pub fn project(alloc: Global, protocol: &Protocol, role: Role) -> Result<Projection, ProjFault>
     requires well_formed { IsWellFormed protocol.now }
     requires role { role.0 < protocol.now.roles }
-    requires few { length protocol.now.nodes < 2 ^ 32 }
+    requires bounded { length protocol.now.nodes < 2 ^ 32 }
     ensures ok { IfOk result (λ p. IsNumberedProjection protocol.now role p) }
     ensures machine { IfOk result (λ p. IsWellFormedMachine p.machine protocol.now.roles) }
-    ensures few { IfOk result (λ p. length p.machine.states ≤ MOST_STATES) }
+    ensures bounded { IfOk result (λ p. length p.machine.states ≤ MOST_STATES) }
     ensures err { IfErr result (λ e. (e ≡ ProjFault.NoMemory) ⊎ FirstRefusal protocol.now role e) }
 {
     let survey = survey_of(alloc, protocol, role)?;

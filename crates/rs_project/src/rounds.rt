@@ -1,3 +1,4 @@
+//! Where a session could go round without a role, told by two sweeps or by the cycles of rows.
 ghost use Rattle.std.specs.Prelude.{◌≡◌, ◌<◌, ◌≤◌, ◌&&◌, ℕ, [], false, length, slice_index_or, if◌then◌else◌, IfOk, MatchOption};
 ghost use Rattle.rs_project.specs.Graph.{IsUnreached};
 ghost use Rattle.rs_project.specs.Marks.{AreRows, IsLive, nexts_of_node};
@@ -7,13 +8,14 @@ ghost use Rattle.rs_project.specs.Refusals.{NoneUnreached};
 use crate::peeling::sweep;
 use crate::spreading::spread;
 use crate::surveying::Survey;
-use rs_graph::{Row, least_on_cycle};
+use rs_graph::{NodeRow, least_on_cycle};
 use rs_model::{Arm, NoMemory, Node, Protocol};
 use std::alloc::Global;
 
 /// The least node that the session may reach and then go round for ever, with the role left waiting.
 pub fn first_unreached(alloc: Global, survey: &Survey) -> Result<Option<u32>, NoMemory>
-    ensures { IfOk result (λ o. MatchOption o (NoneUnreached survey.now.protocol survey.now.role) (λ node. IsUnreached survey.now.protocol survey.now.role node × ((n : ℕ) → IsUnreached survey.now.protocol survey.now.role n → node ≤ n))) }
+    ensures { IfOk result (λ o. MatchOption o (NoneUnreached survey.now.protocol survey.now.role) (λ node. IsUnreached survey.now.protocol survey.now.role node × ((n : ℕ)
+        → IsUnreached survey.now.protocol survey.now.role n → node ≤ n))) }
 {
     if !may_go_round(alloc, survey)? {
         return Ok(None);
@@ -59,7 +61,7 @@ fn common(alloc: Global, ours: &[bool], theirs: &[bool]) -> Result<Vec<bool>, No
 }
 
 // A row for each node, with the numbers behind its arms where it is flagged.
-fn rows_of(alloc: Global, protocol: &Protocol, flags: &[bool]) -> Result<Vec<Row>, NoMemory>
+fn rows_of(alloc: Global, protocol: &Protocol, flags: &[bool]) -> Result<Vec<NodeRow>, NoMemory>
     requires { length flags.now ≡ length protocol.now.nodes }
     ensures { IfOk result (λ v. AreRows protocol.now flags.now (length protocol.now.nodes) v.items) }
 {
@@ -70,22 +72,22 @@ fn rows_of(alloc: Global, protocol: &Protocol, flags: &[bool]) -> Result<Vec<Row
     Ok(rows)
 }
 
-fn row_of(alloc: Global, node: &Node, flagged: bool) -> Result<Row, NoMemory>
+fn row_of(alloc: Global, node: &Node, flagged: bool) -> Result<NodeRow, NoMemory>
     ensures { IfOk result (λ r. r ≡ if flagged then nexts_of_node node.now else []) }
 {
     if !flagged {
-        return Ok(Row::new(alloc));
+        return Ok(NodeRow::new(alloc));
     }
     match node {
-        Node::Finished => Ok(Row::new(alloc)),
+        Node::Finished => Ok(NodeRow::new(alloc)),
         Node::Talk { arms, .. } => nexts(alloc, arms.as_slice()),
     }
 }
 
-fn nexts(alloc: Global, arms: &[Arm]) -> Result<Row, NoMemory>
+fn nexts(alloc: Global, arms: &[Arm]) -> Result<NodeRow, NoMemory>
     ensures { IfOk result (λ r. r ≡ nexts_of arms.now) }
 {
-    let mut row = Row::new(alloc);
+    let mut row = NodeRow::new(alloc);
     for arm in arms {
         row.push(arm.next)?;
     }

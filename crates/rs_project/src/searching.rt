@@ -1,9 +1,10 @@
+//! Fronts that are numbered as they are found, along runs or by marks.
 ghost use Rattle.std.specs.Prelude.{◌≡◌, ◌≢◌, ◌<◌, ◌≤◌, ◌∷◌, [], length, IfOk, IfErr, IfSome, OnErr};
 ghost use Rattle.std.specs.List.{All};
 ghost use Rattle.rs_model.specs.declared.limits.TheConstants.{MOST_STATES};
 ghost use Rattle.rs_project.specs.Filing.{lone_front};
 ghost use Rattle.rs_project.specs.Marks.{StandsFor};
-ghost use Rattle.rs_project.specs.Working.{AddsFront, AreFound, FaultFrom, FindsFrom, IsFrontFrom, FrontIsNew, NumberFault};
+ghost use Rattle.rs_project.specs.Working.{AddsFront, AreFoundFronts, FaultFrom, FindsFrom, IsFrontFrom, FrontIsNew, NumberFault};
 
 use crate::ProjFault;
 use crate::filing::{Fronts, make_room, number_at, set_number};
@@ -52,8 +53,8 @@ impl<'a> Search<'a> {
 
     /// What is known of the protocol for the role.
     pub fn survey(&self) -> &'a Survey<'a>
-        ensures is { result.now ≡ self.now.survey }
-        ensures found { AreFound self.now.survey.protocol self.now.survey.role self.now.fronts }
+        ensures survey { result.now ≡ self.now.survey }
+        ensures found { AreFoundFronts self.now.survey.protocol self.now.survey.role self.now.fronts }
     {
         self.survey
     }
@@ -67,8 +68,8 @@ impl<'a> Search<'a> {
 
     /// How many there are.
     pub fn len(&self) -> usize
-        ensures is { result ≡ length self.now.fronts }
-        ensures few { result ≤ MOST_STATES }
+        ensures count { result ≡ length self.now.fronts }
+        ensures bounded { result ≤ MOST_STATES }
     {
         self.fronts.len()
     }

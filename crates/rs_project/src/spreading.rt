@@ -1,3 +1,4 @@
+//! Marks on nodes, which spread along arms.
 ghost use Rattle.std.specs.Prelude.{◌≡◌, ◌+◌, ◌<◌, ◌≤◌, ◌∷◌, [], ℕ, Bool, List, length, replicate, false, slice_index_or, IfOk, OnOk};
 ghost use Rattle.std.specs.List.{All};
 ghost use Rattle.rs_model.specs.Data.{Protocol_data};
@@ -40,7 +41,7 @@ impl Marks {
 
     /// The nodes that are marked, in the order in which they were marked.
     pub fn as_slice(&self) -> &[u32]
-        ensures is { result.now ≡ self.now.numbers }
+        ensures numbers { result.now ≡ self.now.numbers }
         ensures listed { AreListed self.now.flags self.now.numbers }
     {
         self.numbers.as_slice()
@@ -83,7 +84,8 @@ impl Marks {
         requires { LeadsWithin (length self.old.flags) node.now }
         ensures size { OnOk result (length self.new.flags ≡ length self.old.flags) }
         ensures owed { OnOk result (count_of_lowered self.new.flags + length self.new.numbers ≡ count_of_lowered self.old.flags + length self.old.numbers) }
-        ensures keeps { OnOk result ((protocol : Protocol_data) (through : List Bool) (starts : List ℕ) (done : ℕ) → Walking protocol through starts self.old done (nexts_of_node node.now) → Walking protocol through starts self.new done []) }
+        ensures keeps { OnOk result ((protocol : Protocol_data) (through : List Bool) (starts : List ℕ) (done : ℕ) → Walking protocol through starts self.old done (nexts_of_node node.now)
+            → Walking protocol through starts self.new done []) }
     {
         match node {
             Node::Finished => Ok(()),
@@ -95,7 +97,8 @@ impl Marks {
         requires { All (λ a. a.next < length self.old.flags) arms.now }
         ensures size { OnOk result (length self.new.flags ≡ length self.old.flags) }
         ensures owed { OnOk result (count_of_lowered self.new.flags + length self.new.numbers ≡ count_of_lowered self.old.flags + length self.old.numbers) }
-        ensures keeps { OnOk result ((protocol : Protocol_data) (through : List Bool) (starts : List ℕ) (done : ℕ) → Walking protocol through starts self.old done (nexts_of arms.now) → Walking protocol through starts self.new done []) }
+        ensures keeps { OnOk result ((protocol : Protocol_data) (through : List Bool) (starts : List ℕ) (done : ℕ) → Walking protocol through starts self.old done (nexts_of arms.now)
+            → Walking protocol through starts self.new done []) }
     {
         for arm in arms {
             self.mark(arm.next)?;
@@ -106,7 +109,8 @@ impl Marks {
     fn mark_starts(&mut self, starts: &[u32]) -> Result<(), NoMemory>
         requires { All (λ s. s < length self.old.flags) starts.now }
         ensures size { OnOk result (length self.new.flags ≡ length self.old.flags) }
-        ensures keeps { OnOk result ((protocol : Protocol_data) (through : List Bool) (all : List ℕ) (done : ℕ) → Walking protocol through all self.old done starts.now → Walking protocol through all self.new done []) }
+        ensures keeps { OnOk result ((protocol : Protocol_data) (through : List Bool) (all : List ℕ) (done : ℕ) → Walking protocol through all self.old done starts.now
+            → Walking protocol through all self.new done []) }
     {
         for start in starts {
             self.mark(*start)?;
@@ -118,7 +122,8 @@ impl Marks {
         requires { number < length self.old.flags }
         ensures size { OnOk result (length self.new.flags ≡ length self.old.flags) }
         ensures owed { OnOk result (count_of_lowered self.new.flags + length self.new.numbers ≡ count_of_lowered self.old.flags + length self.old.numbers) }
-        ensures keeps { OnOk result ((protocol : Protocol_data) (through : List Bool) (starts soon : List ℕ) (done : ℕ) → Walking protocol through starts self.old done (number ∷ soon) → Walking protocol through starts self.new done soon) }
+        ensures keeps { OnOk result ((protocol : Protocol_data) (through : List Bool) (starts soon : List ℕ) (done : ℕ) → Walking protocol through starts self.old done (number ∷ soon)
+            → Walking protocol through starts self.new done soon) }
     {
         if !self.has(number) {
             self.add(number)?;

@@ -1,8 +1,9 @@
+//! What each node is for a role, worked out once before the search.
 ghost use Rattle.std.specs.Prelude.{◌≡◌, ◌≢◌, ◌↔◌, ◌≤◌, ◌<◌, ◌^◌, ℕ, Bool, List, true, false, map, length, slice_index_or, slice_get, [], Some, IfOk, IfSome};
 ghost use Rattle.rs_model.specs.declared.graph.Node.{Node};
 ghost use Rattle.rs_model.specs.declared.graph.Role.{Role};
 ghost use Rattle.rs_project.specs.Graph.{Involves, IsIdle, PassesBy};
-ghost use Rattle.rs_project.specs.Marks.{AreMarked, AreRunEnds, HasEnd, IsOn, IsSettled, LeadsWithin, any_on, have_end, involves_role, leads_on, count_of_lowered};
+ghost use Rattle.rs_project.specs.Marks.{AreMarked, AreRunEnds, HasEnd, HaveNodeSizes, IsOn, IsSettled, LeadsWithin, any_on, count_of_lowered, have_end, involves_role, leads_on};
 ghost use Rattle.rs_wellformed.specs.WellFormed.{IsWellFormed};
 ghost use Rattle.std.specs.List.{All};
 
@@ -30,7 +31,14 @@ impl<'a> Model for Survey<'a> {
 
     ghost view = { λ s. record { protocol = s.protocol.now; role = s.role; involved = s.involved.items; awaited = s.awaited.items; passing = s.passing.items; run_ends = s.run_ends.items } };
 
-    ghost invariant = { λ s. IsTrueSurvey (record { protocol = s.protocol.now; role = s.role; involved = s.involved.items; awaited = s.awaited.items; passing = s.passing.items; run_ends = s.run_ends.items }) };
+    ghost invariant = { λ s. IsTrueSurvey (record {
+      protocol = s.protocol.now;
+      role = s.role;
+      involved = s.involved.items;
+      awaited = s.awaited.items;
+      passing = s.passing.items;
+      run_ends = s.run_ends.items;
+    }) };
 }
 
 /// What is known of the protocol's nodes for the role.
@@ -40,7 +48,7 @@ pub fn survey_of<'a>(
     role: Role,
 ) -> Result<Survey<'a>, NoMemory>
     requires well_formed { IsWellFormed protocol.now }
-    requires few { length protocol.now.nodes < 2 ^ 32 }
+    requires bounded { length protocol.now.nodes < 2 ^ 32 }
     ensures protocol { IfOk result (λ s. s.protocol ≡ protocol.now) }
     ensures role { IfOk result (λ s. s.role ≡ role) }
 {
@@ -91,12 +99,11 @@ fn awaited_nodes(
     ends: &mut Vec<u32>,
 ) -> Result<Vec<bool>, NoMemory>
     requires well_formed { IsWellFormed protocol.now }
-    requires size { length involved.now ≡ length protocol.now.nodes }
-    requires passing_size { length passing.old.items ≡ length protocol.now.nodes }
-    requires ends_size { length ends.old.items ≡ length protocol.now.nodes }
+    requires sizes { HaveNodeSizes protocol.now involved.now passing.old.items ends.old.items }
     ensures size { IfOk result (λ v. length v.items ≡ length protocol.now.nodes) }
     ensures passing_size { length passing.new.items ≡ length protocol.now.nodes }
-    ensures marked { IfOk result (λ v. (role : Role) → AreMarked protocol.now role involved.now involved.now passing.old.items ends.old.items → AreMarked protocol.now role involved.now v.items passing.new.items ends.new.items) }
+    ensures marked { IfOk result (λ v. (role : Role) → AreMarked protocol.now role involved.now involved.now passing.old.items ends.old.items
+        → AreMarked protocol.now role involved.now v.items passing.new.items ends.new.items) }
     ensures settled { IfOk result (λ v. IsSettled protocol.now v.items) }
 {
     let mut awaited = Vec::from_slice(alloc, involved)?;
@@ -112,13 +119,10 @@ fn await_more(
     ends: &mut Vec<u32>,
 ) -> bool
     requires well_formed { IsWellFormed protocol.now }
-    requires size { length awaited.old.items ≡ length protocol.now.nodes }
-    requires passing_size { length passing.old.items ≡ length protocol.now.nodes }
-    requires ends_size { length ends.old.items ≡ length protocol.now.nodes }
-    ensures size { length awaited.new.items ≡ length protocol.now.nodes }
-    ensures passing_size { length passing.new.items ≡ length protocol.now.nodes }
-    ensures ends_size { length ends.new.items ≡ length protocol.now.nodes }
-    ensures marked { (role : Role) (involved : List Bool) → AreMarked protocol.now role involved awaited.old.items passing.old.items ends.old.items → AreMarked protocol.now role involved awaited.new.items passing.new.items ends.new.items }
+    requires sizes { HaveNodeSizes protocol.now awaited.old.items passing.old.items ends.old.items }
+    ensures sizes { HaveNodeSizes protocol.now awaited.new.items passing.new.items ends.new.items }
+    ensures marked { (role : Role) (involved : List Bool) → AreMarked protocol.now role involved awaited.old.items passing.old.items ends.old.items
+        → AreMarked protocol.now role involved awaited.new.items passing.new.items ends.new.items }
     ensures less { result ≡ true → count_of_lowered awaited.new.items < count_of_lowered awaited.old.items }
     ensures settled { result ≡ false → IsSettled protocol.now awaited.new.items }
 {
@@ -142,17 +146,15 @@ fn await_one(
     number: usize,
 ) -> bool
     requires well_formed { IsWellFormed protocol.now }
-    requires size { length awaited.old.items ≡ length protocol.now.nodes }
-    requires passing_size { length passing.old.items ≡ length protocol.now.nodes }
-    requires ends_size { length ends.old.items ≡ length protocol.now.nodes }
+    requires sizes { HaveNodeSizes protocol.now awaited.old.items passing.old.items ends.old.items }
     requires node { number < length protocol.now.nodes }
-    ensures size { length awaited.new.items ≡ length protocol.now.nodes }
-    ensures passing_size { length passing.new.items ≡ length protocol.now.nodes }
-    ensures ends_size { length ends.new.items ≡ length protocol.now.nodes }
-    ensures marked { (role : Role) (involved : List Bool) → AreMarked protocol.now role involved awaited.old.items passing.old.items ends.old.items → AreMarked protocol.now role involved awaited.new.items passing.new.items ends.new.items }
+    ensures sizes { HaveNodeSizes protocol.now awaited.new.items passing.new.items ends.new.items }
+    ensures marked { (role : Role) (involved : List Bool) → AreMarked protocol.now role involved awaited.old.items passing.old.items ends.old.items
+        → AreMarked protocol.now role involved awaited.new.items passing.new.items ends.new.items }
     ensures less { result ≡ true → count_of_lowered awaited.new.items < count_of_lowered awaited.old.items }
     ensures same { result ≡ false → awaited.new.items ≡ awaited.old.items }
-    ensures settled { result ≡ false → (node : Node) → slice_get protocol.now.nodes number ≡ Some node → leads_on awaited.old.items node ≡ true → IsOn awaited.old.items number }
+    ensures settled { result ≡ false → (node : Node) → slice_get protocol.now.nodes number ≡ Some node
+        → leads_on awaited.old.items node ≡ true → IsOn awaited.old.items number }
 {
     if awaited[number] {
         return false;

@@ -7,7 +7,7 @@ use Rattle.rs_model.specs.declared.graph.Label.{Label}
 use Rattle.rs_model.specs.declared.machines.State.TheVariants.{Puts, Takes}
 use Rattle.rs_core.specs.Choices.{AreWellFormed}
 use Rattle.rs_core.specs.Core.{arm_with}
-use Rattle.rs_core.proofs.Stands.{here-is}
+use Rattle.rs_core.proofs.Stands.{here_is}
 use Rattle.rs_slots.specs.declared.parcels.Parcel.{Parcel}
 use Rattle.rs_rings.specs.Acts.{role_of_number, MayPut, MayTake}
 
@@ -45,7 +45,7 @@ same_next arms x once i j a b p q u v =
 
 pub put_once : (ms : List Machine_data) (p q s : ℕ) (x : Parcel) (n m : ℕ) → AreWellFormed ms → MayPut ms p q s x n → MayPut ms p q s x m → n ≡ m
 put_once ms p q s x n m well_formed a b =
-    let at = here-is (slice_get ms p) s (Puts (role_of_number q) a.arms) a.puts in
+    let at = here_is (slice_get ms p) s (Puts (role_of_number q) a.arms) a.puts in
     let fit = (well_formed.fits p at.0 at.1).puts s (role_of_number q) a.arms at.2 in
     let one : Some (Puts (role_of_number q) b.arms) ≡ Some (Puts (role_of_number q) a.arms) = sym b.puts ∙ a.puts in
     let arms : b.arms ≡ a.arms = cc (one) in
@@ -53,7 +53,7 @@ put_once ms p q s x n m well_formed a b =
 
 pub take_once : (ms : List Machine_data) (q p s : ℕ) (x : Parcel) (n m : ℕ) → AreWellFormed ms → MayTake ms q p s x n → MayTake ms q p s x m → n ≡ m
 take_once ms q p s x n m well_formed a b =
-    let at = here-is (slice_get ms q) s (Takes (role_of_number p) a.arms) a.takes in
+    let at = here_is (slice_get ms q) s (Takes (role_of_number p) a.arms) a.takes in
     let fit = (well_formed.fits q at.0 at.1).takes s (role_of_number p) a.arms at.2 in
     let one : Some (Takes (role_of_number p) b.arms) ≡ Some (Takes (role_of_number p) a.arms) = sym b.takes ∙ a.takes in
     let arms : b.arms ≡ a.arms = cc (one) in

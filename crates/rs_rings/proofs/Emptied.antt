@@ -1,5 +1,6 @@
 -- Slots that are emptied one by one.
-use Rattle.std.proofs.Common.{◌≡◌, ℕ, zero, suc, ◌+◌, ◌*◌, ◌-◌, ◌/◌, ◌%◌, ◌<◌, ◌≤◌, List, [], ◌∷◌, ◌++◌, length, take, drop, map, Bool, true, false, refl, sym, ap, ◌∙◌, subst, inl, inr, ⊎_elim, arith, Option, slice_get, slice_set, slice_index_or, mul-le-mul_right, suc-mul}
+use Rattle.std.proofs.Common.{◌≡◌, ℕ, zero, suc, ◌+◌, ◌*◌, ◌-◌, ◌/◌, ◌%◌, ◌<◌, ◌≤◌, List, [], ◌∷◌, ◌++◌, length, take, drop, map, Bool, true, false, refl, sym, ap, ◌∙◌, subst, inl, inr, ⊎_elim}
+use Rattle.std.proofs.Common.{arith, Option, slice_get, slice_set, slice_index_or, mul-le-mul_right, suc-mul}
 use Rattle.std.proofs.lemmas.List.{get_or-set_same, get_or-set_other}
 use mathlib.Core.Option.{some}
 use native.Mathlib.Decide.{ℕ_discrete, dec_le}
@@ -27,11 +28,13 @@ pub emptied_more : (old new : List Bool) (low i : ℕ) → low ≤ i → Emptied
 emptied_more old new low i le e full = record {
   inside = λ k lo hi. dite (ℕ_discrete k i) (λ is. ap (λ (j : ℕ). slice_index_or (slice_set new i false) j false) is ∙ get_or-set_same new i false false (inside new i full))
       (λ ne. get_or-set_other new i k false false ne ∙ e.inside k lo (omega arith));
-  outside = λ k or. ⊎_elim (λ (l : k < low). get_or-set_other new i k false false (λ is. omega arith) ∙ e.outside k (inl l)) (λ (h : i + 1 ≤ k). get_or-set_other new i k false false (λ is. omega arith) ∙ e.outside k (inr (omega arith))) or;
+  outside = λ k or. ⊎_elim (λ (l : k < low). get_or-set_other new i k false false (λ is. omega arith) ∙ e.outside k (inl l))
+      (λ (h : i + 1 ≤ k). get_or-set_other new i k false false (λ is. omega arith) ∙ e.outside k (inr (omega arith))) or;
 }
 
 -- what is found in one slot more
-pub found_more : (xs : List (Option Parcel)) (p q from i : ℕ) (o : Option Parcel) → from ≤ i → get_elem? xs i ≡ some o → loose_in_slots xs p q from (i + 1 - from) ≡ loose_in_slots xs p q from (i - from) ++ content_of p q o
+pub found_more : (xs : List (Option Parcel)) (p q from i : ℕ) (o : Option Parcel) → from ≤ i → get_elem? xs i ≡ some o
+    → loose_in_slots xs p q from (i + 1 - from) ≡ loose_in_slots xs p q from (i - from) ++ content_of p q o
 found_more xs p q from i o le e = let m : ℕ = i - from in let a : i + 1 - from ≡ suc m = omega arith in let b : from + m ≡ i = omega arith in
     ap (loose_in_slots xs p q from) a ∙ ap (λ (z : ℕ). loose_in_slots xs p q from m ++ loose_in_slot p q (get_elem? xs z)) b ∙ ap (λ z. loose_in_slots xs p q from m ++ loose_in_slot p q z) e
 
@@ -46,7 +49,8 @@ get_drop ys zero m = let z : m ≡ zero + m = omega arith in ap (slice_get ys) z
 get_drop [] (suc o) m = refl
 get_drop (y ∷ ys) (suc o) m = let z : suc (o + m) ≡ suc o + m = omega arith in get_drop ys o m ∙ ap (slice_get (y ∷ ys)) z
 
-found_is : (xs : List (Option Parcel)) (p q from m : ℕ) (ys : List Parcel) (o : ℕ) → ((i : ℕ) → i < m → get_elem? xs (from + i) ≡ some (slice_get ys (o + i))) → loose_in_slots xs p q from m ≡ map (loose_from p q) (take m (drop o ys))
+found_is : (xs : List (Option Parcel)) (p q from m : ℕ) (ys : List Parcel) (o : ℕ) → ((i : ℕ) → i < m → get_elem? xs (from + i) ≡ some (slice_get ys (o + i)))
+    → loose_in_slots xs p q from m ≡ map (loose_from p q) (take m (drop o ys))
 found_is xs p q from zero ys o at = refl
 found_is xs p q from (suc m) ys o at =
     ap (λ (l : List Loose). l ++ loose_in_slot p q (get_elem? xs (from + m))) (found_is xs p q from m ys o (λ i l. at i (omega arith)))
@@ -128,7 +132,9 @@ pair_at n i two there = elim (leb_tells (suc c) s) [
     higher lt = elim (leb_tells (suc (c + 1)) s) [ inl h ↦ (let no' = h.1 in absurd (omega arith)) | inr h ↦ rw h.0 (let z : c + 1 - 1 ≡ c = omega arith in z) ]
 
 pub base_within : (i n cap : ℕ) → i < n → i * cap + cap ≤ n * cap
-base_within i n cap l = let a : suc i * cap ≤ n * cap = mul-le-mul_right cap l in let m : ℕ = n * cap in let b : ℕ = i * cap in let e : suc i * cap ≡ b + cap = suc-mul i cap in let a' : b + cap ≤ m = subst (λ (z : ℕ). z ≤ m) e a in a'
+base_within i n cap l =
+    let a : suc i * cap ≤ n * cap = mul-le-mul_right cap l in let m : ℕ = n * cap in let b : ℕ = i * cap in let e : suc i * cap ≡ b + cap = suc-mul i cap in let a' : b + cap ≤ m = subst
+    (λ (z : ℕ). z ≤ m) e a in a'
 
 pub base_next : (i cap : ℕ) → (i + 1) * cap ≡ i * cap + cap
 base_next i cap = let e : i + 1 ≡ suc i = omega arith in ap (λ (z : ℕ). z * cap) e ∙ suc-mul i cap
@@ -137,7 +143,9 @@ pub rings_small : (n : ℕ) → n ≤ 16 → ring_count n ≤ 240
 rings_small n l = let a : n * (n - 1) ≤ 16 * (n - 1) = mul-le-mul_right (n - 1) l in let m : ℕ = n * (n - 1) in let a' : m ≤ 16 * (n - 1) = a in let g : m ≤ 240 = omega arith in g
 
 pub base_small : (i n cap : ℕ) → i < ring_count n → n ≤ 16 → cap ≤ MOST_CAPACITY → i * cap < 4294967296
-base_small i n cap l s c = let r = rings_small n s in let i' : i ≤ 240 = omega arith in let a : i * cap ≤ 240 * cap = mul-le-mul_right cap i' in let b : ℕ = i * cap in let a' : b ≤ 240 * cap = a in let g : b < 4294967296 = omega arith in g
+base_small i n cap l s c =
+    let r = rings_small n s in let i' : i ≤ 240 = omega arith in let a : i * cap ≤ 240 * cap = mul-le-mul_right cap i' in let b : ℕ = i * cap in let a' : b ≤ 240 * cap = a in let g : b < 4294967296 =
+    omega arith in g
 
 -- one ring's slots more
 pub emptied_to : (old new : List Bool) (b cap : ℕ) → Emptied old new b (b + cap) → ((k : ℕ) → k < b → slice_index_or old k false ≡ false) → (k : ℕ) → k < b + cap → slice_index_or new k false ≡ false

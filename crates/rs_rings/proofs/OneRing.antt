@@ -1,6 +1,7 @@
 -- One ring: what each kind of step does to its ring_facts.
-use Rattle.std.proofs.Common.{◌≡◌, ◌≢◌, ◌⊎◌, ℕ, zero, suc, ◌+◌, ◌<◌, ◌≤◌, List, [], ◌∷◌, ◌++◌, length, drop, true, false, true≢false, refl, sym, ap, ◌∙◌, inl, inr, ⊎_elim, arith, length-append, append_assoc, Option, Some, None}
-use mathlib.Core.Option.{some, none, some-injective, some-ne-none}
+use Rattle.std.proofs.Common.{◌≡◌, ◌≢◌, ◌⊎◌, ℕ, zero, suc, ◌+◌, ◌<◌, ◌≤◌, List, [], ◌∷◌, ◌++◌, length, drop, true, false, true≢false, refl, sym, ap, ◌∙◌, inl, inr, ⊎_elim, arith, length-append}
+use Rattle.std.proofs.Common.{append_assoc, Option, Some, None}
+use mathlib.Core.Option.{some, some-injective, some-ne-none}
 use mathlib.Core.Option as maybe
 use native.Mathlib.Decide.{ℕ_discrete}
 use mathlib.Core.Logic.{dite}
@@ -38,11 +39,35 @@ module _ (cap : ℕ) (f : RingFacts) (fl : RingRule cap f) where
   Stays slot' at = (k : ℕ) → length f.got ≤ k → k < length f.got + cap → k ≢ at → slot' k ≡ f.slot k
 
   -- the sender read the head, and the ring is full
-  pub looks_head : (h : ℕ) → h ≤ length f.got → RingRule cap record { tail = f.tail; head = f.head; slot = f.slot; sent = f.sent; got = f.got; seen_head = h; seen_tail = f.seen_tail; putting = f.putting; taking = f.taking }
-  looks_head h le = record { tail_is = fl.tail_is; head_is = fl.head_is; order = fl.order; room = fl.room; full = fl.full; free = fl.free; takes = fl.takes; puts = fl.puts; read_head = le; read_tail = fl.read_tail }
+  pub looks_head : (h : ℕ) → h ≤ length f.got
+      → RingRule cap record { tail = f.tail; head = f.head; slot = f.slot; sent = f.sent; got = f.got; seen_head = h; seen_tail = f.seen_tail; putting = f.putting; taking = f.taking }
+  looks_head h le = record {
+    tail_is = fl.tail_is;
+    head_is = fl.head_is;
+    order = fl.order;
+    room = fl.room;
+    full = fl.full;
+    free = fl.free;
+    takes = fl.takes;
+    puts = fl.puts;
+    read_head = le;
+    read_tail = fl.read_tail;
+  }
 
-  pub looks_tail : (t : ℕ) → t ≤ length f.sent → RingRule cap record { tail = f.tail; head = f.head; slot = f.slot; sent = f.sent; got = f.got; seen_head = f.seen_head; seen_tail = t; putting = f.putting; taking = f.taking }
-  looks_tail t le = record { tail_is = fl.tail_is; head_is = fl.head_is; order = fl.order; room = fl.room; full = fl.full; free = fl.free; takes = fl.takes; puts = fl.puts; read_head = fl.read_head; read_tail = le }
+  pub looks_tail : (t : ℕ) → t ≤ length f.sent
+      → RingRule cap record { tail = f.tail; head = f.head; slot = f.slot; sent = f.sent; got = f.got; seen_head = f.seen_head; seen_tail = t; putting = f.putting; taking = f.taking }
+  looks_tail t le = record {
+    tail_is = fl.tail_is;
+    head_is = fl.head_is;
+    order = fl.order;
+    room = fl.room;
+    full = fl.full;
+    free = fl.free;
+    takes = fl.takes;
+    puts = fl.puts;
+    read_head = fl.read_head;
+    read_tail = le;
+  }
 
   -- the sender read the head, and gained the slot of the tail
   pub gains_free : (slot' : Slots) (h : ℕ) → f.putting ≡ false → length f.sent < length f.got + cap → Stays slot' (length f.sent) → h ≤ length f.got
@@ -67,7 +92,8 @@ module _ (cap : ℕ) (f : RingFacts) (fl : RingRule cap f) where
       let l = behind in let p = fl.puts busy in let n = length-append f.sent (x ∷ []) in let n' : length (f.sent ++ x ∷ []) ≡ length f.sent + 1 = n in record {
         tail_is = is ∙ sym n';
         head_is = fl.head_is;
-        order = ap (λ (y : List Parcel). y ++ x ∷ []) fl.order ∙ append_assoc f.got (drop (length f.got) f.sent) (x ∷ []) ∙ ap (λ (y : List Parcel). f.got ++ y) (sym (drop-append-le (length f.got) f.sent (x ∷ []) l));
+        order = ap (λ (y : List Parcel). y ++ x ∷ []) fl.order ∙ append_assoc f.got (drop (length f.got) f.sent) (x ∷ [])
+            ∙ ap (λ (y : List Parcel). f.got ++ y) (sym (drop-append-le (length f.got) f.sent (x ∷ []) l));
         room = omega arith;
         full = λ k y from at or. ⊎_elim (λ old. let b = at_below f.sent k y old in stays k from (omega arith) (λ e. omega arith) ∙ fl.full k y from old or)
             (λ (t : (k ≡ length f.sent) × (x ≡ y)). ap slot' t.0 ∙ here ∙ ap (λ z. some (some (Some z))) t.1) (at_snoc_where f.sent x y k at);
@@ -98,7 +124,8 @@ module _ (cap : ℕ) (f : RingFacts) (fl : RingRule cap f) where
   pub gives_free : (slot' : Slots) (new : ℕ) (x : Parcel) → new ≡ length f.got + 1 → f.taking ≡ Some x → Stays slot' (length f.got) → slot' (length f.got + cap) ≡ some (some None)
       → RingRule cap record { tail = f.tail; head = new; slot = slot'; sent = f.sent; got = f.got ++ x ∷ []; seen_head = f.seen_head; seen_tail = f.seen_tail; putting = f.putting; taking = None }
   gives_free slot' new x is busy stays here =
-      let first = fl.takes x busy in let low = at_below f.sent (length f.got) x first in let n' : length (f.got ++ x ∷ []) ≡ length f.got + 1 = length-append f.got (x ∷ []) in let r = fl.room in record {
+      let first = fl.takes x busy in let low = at_below f.sent (length f.got) x first in let n' : length (f.got ++ x ∷ []) ≡ length f.got + 1 = length-append f.got
+      (x ∷ []) in let r = fl.room in record {
         tail_is = fl.tail_is;
         head_is = is ∙ sym n';
         order = fl.order ∙ ap (λ (y : List Parcel). f.got ++ y) (drop_at f.sent (length f.got) x first) ∙ sym (append_assoc f.got (x ∷ []) (drop (suc (length f.got)) f.sent))

@@ -9,7 +9,7 @@ use Rattle.atomic_table.proofs.Lists.{at_set, set_here, set_else}
 use Rattle.rs_rings.specs.declared.views.Part.{Part}
 use Rattle.rs_rings.specs.declared.views.View.{View}
 use Rattle.rs_rings.specs.Rule.{Spoken}
-use Rattle.rs_rings.specs.Views.{speaks, the_part, put_part, with_part}
+use Rattle.rs_rings.specs.Views.{speaks, the_part, put_part, view_with_part}
 use Rattle.rs_rings.proofs.OneRing.{at_below}
 
 abbrev pub at_put : {A : Type 0} → (ℕ → A) → ℕ → A → ℕ → A
@@ -24,7 +24,12 @@ the_role p (x ∷ xs) s = elim (eqb_tells p x.role) [ inl h ↦ rw h.0 (sym h.1)
 
 pub speaks_put : (r p : ℕ) (y : Part) (xs : List Part) → y.role ≡ p → speaks r (put_part p y xs) ≡ speaks r xs
 speaks_put r p y [] e = refl
-speaks_put r p y (x ∷ xs) e = elim (eqb_tells p x.role) [ inl h ↦ rw h.0 (ap (λ (k : ℕ). if r == k then true else speaks r xs) (e ∙ h.1)) | inr h ↦ rw h.0 (ap (λ (b : Bool). if r == x.role then true else b) (speaks_put r p y xs e)) ]
+speaks_put r p y (x ∷ xs) e =
+    elim (eqb_tells p x.role) [
+      | inl h ↦ rw h.0 (ap (λ (k : ℕ). if r == k then true else speaks r xs) (e ∙ h.1))
+      | inr h ↦ rw h.0
+          (ap (λ (b : Bool). if r == x.role then true else b) (speaks_put r p y xs e))
+    ]
 
 pub the_put_here : (p : ℕ) (y : Part) (xs : List Part) → y.role ≡ p → speaks p xs ≡ true → the_part p (put_part p y xs) ≡ y
 the_put_here p y [] e s = absurd (true≢false (sym s))
@@ -36,7 +41,8 @@ the_put_here p y (x ∷ xs) e s = elim (eqb_tells p x.role) [
 pub the_put_other : (r p : ℕ) (y : Part) (xs : List Part) → y.role ≡ p → r ≢ p → the_part r (put_part p y xs) ≡ the_part r xs
 the_put_other r p y [] e n = refl
 the_put_other r p y (x ∷ xs) e n = elim (eqb_tells p x.role) [
-  | inl h ↦ rw h.0 (subst (λ b. (if b then y else the_part r xs) ≡ the_part r (x ∷ xs)) (sym (ne_eqb r y.role (λ z. n (z ∙ e)))) (subst (λ b. the_part r xs ≡ (if b then x else the_part r xs)) (sym (ne_eqb r x.role (λ z. n (z ∙ sym h.1)))) refl))
+  | inl h ↦ rw h.0 (subst (λ b. (if b then y else the_part r xs) ≡ the_part r (x ∷ xs)) (sym (ne_eqb r y.role (λ z. n (z ∙ e))))
+      (subst (λ b. the_part r xs ≡ (if b then x else the_part r xs)) (sym (ne_eqb r x.role (λ z. n (z ∙ sym h.1)))) refl))
   | inr h ↦ rw h.0 (ap (λ (z : Part). if r == x.role then x else z) (the_put_other r p y xs e n))
 ]
 
@@ -47,8 +53,8 @@ module _ (n : ℕ) (owner : ℕ → ℕ) (known : ℕ → Part) (views : List Vi
       let same : e.0 ≡ v = some-injective e.0 v (sym e.1 ∙ ap (get_elem? views) o.0 ∙ at) in (o.1, sym e.3 ∙ ap (λ (d : View). the_part p d.parts) same)
 
   -- what is known of a role changes, and the view that speaks for it
-  pub spoken_step : (p : ℕ) (y : Part) → speaks p v.parts ≡ true → y.role ≡ p → Spoken n owner (at_put known p y) (set views id (with_part p y v))
-  spoken_step p y s role = let w : View = with_part p y v in let mine = sp.only id v p at s in record {
+  pub spoken_step : (p : ℕ) (y : Part) → speaks p v.parts ≡ true → y.role ≡ p → Spoken n owner (at_put known p y) (set views id (view_with_part p y v))
+  spoken_step p y s role = let w : View = view_with_part p y v in let mine = sp.only id v p at s in record {
     each = λ r l. let e = sp.each r l in dite (ℕ_discrete (owner r) id)
         (λ o. let same : e.0 ≡ v = some-injective e.0 v (sym e.1 ∙ ap (get_elem? views) o ∙ at) in (
           w,

@@ -10,7 +10,7 @@ use Rattle.rs_slots.specs.Places.{IsPair}
 use Rattle.rs_slots.specs.declared.parcels.Parcel.{Parcel}
 use Rattle.rs_rings.specs.Acts.{message_of, sent_act, got_act, parcels_sent, parcels_got, SendsParcel, ReceivesParcel}
 use Rattle.rs_rings.specs.Places.{head_word_of, tail_of}
-use Rattle.rs_rings.specs.Rule.{RingsShow, RingFacts, RingRule, ring_facts, Spoken, AreLegal, configuration_of, histories_of, machines_of}
+use Rattle.rs_rings.specs.Rule.{RingsShow, RingFacts, RingRule, ring_facts, Spoken, AreLegal, configuration_by, histories_of, machines_in_key}
 use Rattle.rs_rings.specs.Shown.{RingShown, Shown, IsSameAmong, Moves, LoadsHeadOf, StoresTailOf, LoadsTailOf, StoresHeadOf, SplitsOff, JoinsIn}
 use Rattle.rs_rings.specs.Views.{the_part, sending, getting, parcel_in_hand}
 use Rattle.rs_rings.specs.declared.views.Key.{Key}
@@ -46,7 +46,7 @@ ring_shown key s sh p q pair =
 shown_by : (key : Key) (t : St) (sh : RingsShow key t) (known : ℕ → Part) (c : Configuration) → ((r : ℕ) → r < key.roles → sh.known r ≡ known r)
     → ((r : ℕ) → c.at r ≡ (known r).state)
     → ((p q : ℕ) → c.queue p q ≡ map message_of (drop (length (parcels_got p (known q).history)) (parcels_sent q (known p).history)))
-    → IsLegal (machines_of key) (histories_of known) c → Shown key t c
+    → IsLegal (machines_in_key key) (histories_of known) c → Shown key t c
 shown_by key t sh known c same states queues legal = record {
   known = known;
   spoken = λ r l. let e = sh.spoken.each r l in (sh.owner r, e.0, e.1, e.2, e.3 ∙ same r l, λ i w at says. sym (sh.spoken.only i w r at says).0);
@@ -54,11 +54,11 @@ shown_by key t sh known c same states queues legal = record {
   queues = queues;
   rings = λ p q pair. subst (λ (z : Part × Part). RingShown key t p q z.0 z.1) (λ i. (same p pair.sender i, same q pair.receiver i)) (ring_shown key t sh p q pair);
   legal = legal;
-  reachable = reached (machines_of key) (histories_of known) c legal;
+  reachable = reached (machines_in_key key) (histories_of known) c legal;
 }
 
 pub shown : (key : Key) (s : St) → RingsShow key s → (c : Configuration) × Shown key s c
-shown key s sh = (configuration_of sh.known, shown_by key s sh sh.known (configuration_of sh.known) (λ r l. refl) (λ r. refl) (λ p q. refl) sh.legal)
+shown key s sh = (configuration_by sh.known, shown_by key s sh sh.known (configuration_by sh.known) (λ r l. refl) (λ r. refl) (λ p q. refl) sh.legal)
 
 -- two configurations that a table shows are the same, since each role has one view
 known_once : (key : Key) (s : St) (c d : Configuration) (x : Shown key s c) (y : Shown key s d) (r : ℕ) → r < key.roles → x.known r ≡ y.known r
@@ -102,7 +102,7 @@ module _ (key : Key) (s t : St) (c : Configuration) (sh : RingsShow key s) (th :
   pub splits_off : (r : ℕ) → SplitsOff s t r → Shown key t c
   splits_off r m =
       let o : ℕ → ℕ = at_put sh.owner r (length s.views) in
-      stays o (subst (λ (vs : List View). Spoken key.roles o x.known vs) (sym m.views) (spoken_split key.roles sh.owner x.known s.views (spoken_shown key s c sh x) m.seat m.view m.there r m.speaks))
+      stays o (subst (λ (vs : List View). Spoken key.roles o x.known vs) (sym m.views) (spoken_split key.roles sh.owner x.known s.views (spoken_shown key s c sh x) m.seat m.view m.present r m.speaks))
 
   module _ (p : ℕ) (a b : Part) (word new : ℕ) (low : p < key.roles) (role : b.role ≡ p) (m : Moves s t p word new a b) where
     abbrev after : ℕ → Part
@@ -111,13 +111,14 @@ module _ (key : Key) (s t : St) (c : Configuration) (sh : RingsShow key s) (th :
     here : a ≡ x.known p
     here =
         let e = x.spoken p low in
-        let seat : m.seat ≡ e.0 = e.5 m.seat m.view m.there m.speaks in
-        let view : m.view ≡ e.1 = some-injective m.view e.1 (sym m.there ∙ ap (get_elem? s.views) seat ∙ e.2) in
+        let seat : m.seat ≡ e.0 = e.5 m.seat m.view m.present m.speaks in
+        let view : m.view ≡ e.1 = some-injective m.view e.1 (sym m.present ∙ ap (get_elem? s.views) seat ∙ e.2) in
         sym m.knew ∙ ap (λ (v : View). the_part p v.parts) view ∙ e.4
 
     known_after : (r : ℕ) → r < key.roles → th.known r ≡ after r
     known_after = spoken_once key.roles th.owner sh.owner th.known after t.views th.spoken
-        (subst (λ (vs : List View). Spoken key.roles sh.owner after vs) (sym m.views) (spoken_step key.roles sh.owner x.known s.views (spoken_shown key s c sh x) m.seat m.view m.there p b m.speaks role))
+        (subst (λ (vs : List View). Spoken key.roles sh.owner after vs) (sym m.views)
+        (spoken_step key.roles sh.owner x.known s.views (spoken_shown key s c sh x) m.seat m.view m.present p b m.speaks role))
 
     -- a step that changes no state and no history leaves what is shown
     looks : b.state ≡ a.state → b.history ≡ a.history → Shown key t c
@@ -131,16 +132,17 @@ module _ (key : Key) (s t : St) (c : Configuration) (sh : RingsShow key s) (th :
         record { first = x.legal.first; events = x.legal.events; starts = x.legal.starts; steps = x.legal.steps; gives = λ r. histories r ∙ x.legal.gives r }
 
   -- what is shown is the configuration of what is known
-  abbrev path : c ≡ configuration_of x.known
+  abbrev path : c ≡ configuration_by x.known
   path = λ i. record { at = λ r. x.states r i; queue = λ u v. x.queues u v i }
 
-  legal_known : AreLegal (machines_of key) x.known
-  legal_known = subst (λ (z : Configuration). IsLegal (machines_of key) (histories_of x.known) z) path x.legal
+  legal_known : AreLegal (machines_in_key key) x.known
+  legal_known = subst (λ (z : Configuration). IsLegal (machines_in_key key) (histories_of x.known) z) path x.legal
 
   pub joins_in : JoinsIn s t → Shown key t c
   joins_in m =
       let o : ℕ → ℕ = λ y. if sh.owner y == m.other then m.seat else sh.owner y in
-      stays o (subst (λ (vs : List View). Spoken key.roles o x.known vs) (sym m.views) (spoken_join key.roles sh.owner x.known s.views (spoken_shown key s c sh x) m.seat m.view m.there m.other m.taken m.apart m.too))
+      stays o (subst (λ (vs : List View). Spoken key.roles o x.known vs) (sym m.views)
+      (spoken_join key.roles sh.owner x.known s.views (spoken_shown key s c sh x) m.seat m.view m.present m.other m.taken m.apart m.too))
 
   module _ (p q : ℕ) (pair : IsPair key.roles p q) where
     pub loads_head : LoadsHeadOf key s t p q → Shown key t c
@@ -157,15 +159,16 @@ module _ (key : Key) (s t : St) (c : Configuration) (sh : RingsShow key s) (th :
     loads_tail l = let n : ℕ = slice_index s.words (tail_of key.roles p q) in let a : Part = l.knew in let role = role_of_knew l.moves in
         ⊎_elim
         (λ is. looks q a l.knows (tail_of key.roles p q) n pair.receiver (ap (λ (z : Part). z.role) is ∙ role) l.moves (ap (λ (z : Part). z.state) is) (ap (λ (z : Part). z.history) is))
-        (λ t'. let is = t'.1 in looks q a l.knows (tail_of key.roles p q) n pair.receiver (ap (λ (z : Part). z.role) is ∙ role) l.moves (ap (λ (z : Part). z.state) is) (ap (λ (z : Part). z.history) is))
+        (λ t'. let is = t'.1 in looks q a l.knows (tail_of key.roles p q) n pair.receiver (ap (λ (z : Part). z.role) is ∙ role) l.moves (ap (λ (z : Part). z.state) is)
+        (ap (λ (z : Part). z.history) is))
         l.looks
       where
         role_of_knew : Moves s t q (tail_of key.roles p q) (slice_index s.words (tail_of key.roles p q)) l.knew l.knows → l.knew.role ≡ q
         role_of_knew m = ap (λ (z : Part). z.role) (sym m.knew) ∙ the_role q m.view.parts m.speaks
 
-    pub stores_tail : (m : Parcel) → StoresTailOf key s t p q m → (d : Configuration) × Shown key t d × SendsParcel (machines_of key) c p q m d
+    pub stores_tail : (m : Parcel) → StoresTailOf key s t p q m → (d : Configuration) × Shown key t d × SendsParcel (machines_in_key key) c p q m d
     stores_tail m l =
-        let ms : List Machine_data = machines_of key in
+        let ms : List Machine_data = machines_in_key key in
         let b : Part = sending q m l.next l.knew in
         let w : ℕ = tail_of key.roles p q in
         let new : ℕ = slice_index s.words w + 1 in
@@ -178,14 +181,14 @@ module _ (key : Key) (s t : St) (c : Configuration) (sh : RingsShow key s) (th :
         let behind' = (x.rings p q pair).got in
         let told = sends ms x.known p q pair.differ m l.may.arms l.may.arm picked l.may.has_sort b puts l.may.goes history behind' in
         let lived = legal_sent ms x.known p q pair.differ m l.may.arms l.may.arm picked l.may.has_sort b legal_known puts l.may.goes history behind' in (
-          configuration_of known,
-          shown_by key t th known (configuration_of known) (known_after p l.knew b w new pair.sender role l.moves) (λ r. refl) (λ u v. refl) lived.0,
-          subst (λ (z : Configuration). SendsParcel ms z p q m (configuration_of known)) (sym path) record { place = l.may.place; step = told.0; did = told.1 },
+          configuration_by known,
+          shown_by key t th known (configuration_by known) (known_after p l.knew b w new pair.sender role l.moves) (λ r. refl) (λ u v. refl) lived.0,
+          subst (λ (z : Configuration). SendsParcel ms z p q m (configuration_by known)) (sym path) record { place = l.may.place; step = told.0; did = told.1 },
         )
 
-    pub stores_head : (m : Parcel) → StoresHeadOf key s t p q m → (d : Configuration) × Shown key t d × ReceivesParcel (machines_of key) c q p m d
+    pub stores_head : (m : Parcel) → StoresHeadOf key s t p q m → (d : Configuration) × Shown key t d × ReceivesParcel (machines_in_key key) c q p m d
     stores_head m l =
-        let ms : List Machine_data = machines_of key in
+        let ms : List Machine_data = machines_in_key key in
         let b : Part = getting p m l.next l.knew in
         let w : ℕ = head_word_of key.roles p q in
         let new : ℕ = slice_index s.words w + 1 in
@@ -198,7 +201,7 @@ module _ (key : Key) (s t : St) (c : Configuration) (sh : RingsShow key s) (th :
         let first = (x.rings p q pair).takes m (ap (λ (z : Part). parcel_in_hand p z.middle) (sym knew) ∙ ap (parcel_in_hand p) l.middle ∙ taken_here p m) in
         let told = receives ms x.known p q pair.differ m l.may.arms l.may.arm picked l.may.has_sort b takes l.may.goes history first in
         let lived = legal_got ms x.known p q pair.differ m l.may.arms l.may.arm picked l.may.has_sort b legal_known takes l.may.goes history first in (
-          configuration_of known,
-          shown_by key t th known (configuration_of known) (known_after q l.knew b w new pair.receiver role l.moves) (λ r. refl) (λ u v. refl) lived.0,
-          subst (λ (z : Configuration). ReceivesParcel ms z q p m (configuration_of known)) (sym path) record { step = told.0; did = told.1 },
+          configuration_by known,
+          shown_by key t th known (configuration_by known) (known_after q l.knew b w new pair.receiver role l.moves) (λ r. refl) (λ u v. refl) lived.0,
+          subst (λ (z : Configuration). ReceivesParcel ms z q p m (configuration_by known)) (sym path) record { step = told.0; did = told.1 },
         )

@@ -14,11 +14,12 @@ use Rattle.rs_model.specs.Data.{Machine_data}
 use Rattle.rs_core.specs.Configurations.{state_of}
 use Rattle.rs_core.specs.Core.{arm_with}
 use Rattle.rs_rings.specs.Acts.{role_of_number, sent_act, got_act, Happened, MayPut, MayTake, parcels_sent, parcels_got}
-use Rattle.rs_rings.specs.Places.{head_word_of, tail_of, place_of}
-use Rattle.rs_rings.specs.Rule.{RingsShow, machines_of}
+use Rattle.rs_rings.specs.Asked.{IsCallOn}
+use Rattle.rs_rings.specs.Places.{head_word_of, tail_of, slot_place}
+use Rattle.rs_rings.specs.Rule.{RingsShow, machines_in_key}
 use Rattle.rs_rings.specs.Steps.{HasFittingArm, Call, LoadsHead, StoresTail, LoadsTail, StoresHead, GivesFilled, GivesEmptied, own}
-use Rattle.rs_rings.specs.Told.{TakesFrom, arms_in, IsAfter}
-use Rattle.rs_rings.specs.Views.{speaks, the_part, with_part, sending, taking, getting}
+use Rattle.rs_rings.specs.Told.{TakesFrom, arms_in_state, IsAfter}
+use Rattle.rs_rings.specs.Views.{speaks, the_part, view_with_part, sending, taking, getting}
 use Rattle.rs_rings.proofs.Parts.{the_role, speaks_put, the_put_here, the_put_other}
 use Rattle.rs_rings.proofs.Arms.{arm_at}
 use Rattle.rs_rings.proofs.FourSteps.{sees_head, stores_tail, sees_tail, stores_head}
@@ -29,87 +30,135 @@ M = Me (Option Parcel) View
 abbrev pub named : ℕ → ℕ → ℕ → ℕ → ℕ → List Arm → List Machine_data → Call
 named n cap p q next arms ms = record { roles = n; capacity = cap; sender = p; receiver = q; next = next; arms = arms; machines = ms }
 
-abbrev pub Named : Call → ℕ → ℕ → ℕ → ℕ → List Machine_data → Type 0
-Named w n cap p q ms = (w.roles ≡ n) × (w.capacity ≡ cap) × (w.sender ≡ p) × (w.receiver ≡ q) × (w.machines ≡ ms)
-
-is_named : (w : Call) (n cap p q : ℕ) (ms : List Machine_data) → Named w n cap p q ms → w ≡ named n cap p q w.next w.arms ms
-is_named w n cap p q ms e i = record { roles = e.0 i; capacity = e.1 i; sender = e.2 i; receiver = e.3 i; next = w.next; arms = w.arms; machines = e.4 i }
+is_named : (w : Call) (n cap p q : ℕ) (ms : List Machine_data) → IsCallOn w n cap p q ms → w ≡ named n cap p q w.next w.arms ms
+is_named w n cap p q ms e i = record {
+  roles = e.roles_are i;
+  capacity = e.capacity_is i;
+  sender = e.sender_is i;
+  receiver = e.receiver_is i;
+  next = w.next;
+  arms = w.arms;
+  machines = e.machines_are i;
+}
 
 -- a part put in place
-pub after : (p : ℕ) (y : Part) (v : View) (m : M) → speaks p v.parts ≡ true → y.role ≡ p → m ≡ (with_part p y v, []) → IsAfter p y v m
-after p y v m says role is = subst (IsAfter p y v) (sym is) record { part = the_put_here p y v.parts role says; empty = refl; spoken = λ r. speaks_put r p y v.parts role; others = λ r ne. the_put_other r p y v.parts role ne }
+pub after : (p : ℕ) (y : Part) (v : View) (m : M) → speaks p v.parts ≡ true → y.role ≡ p → m ≡ (view_with_part p y v, []) → IsAfter p y v m
+after p y v m says role is = subst (IsAfter p y v) (sym is) record {
+  part = the_put_here p y v.parts role says;
+  empty = refl;
+  spoken = λ r. speaks_put r p y v.parts role;
+  others = λ r ne. the_put_other r p y v.parts role ne;
+}
 
-pub after_after : (p : ℕ) (y z : Part) (v : View) (m : M) → speaks p v.parts ≡ true → y.role ≡ p → z.role ≡ p → m ≡ (with_part p z (with_part p y v), []) → IsAfter p z v m
-after_after p y z v m says role role' is = let u : View = with_part p y v in let says' : speaks p u.parts ≡ true = speaks_put p p y v.parts role ∙ says in let a = after p z u m says' role' is in
+pub after_after : (p : ℕ) (y z : Part) (v : View) (m : M) → speaks p v.parts ≡ true → y.role ≡ p → z.role ≡ p → m ≡ (view_with_part p z (view_with_part p y v), []) → IsAfter p z v m
+after_after p y z v m says role role' is = let u : View = view_with_part p y v in let says' : speaks p u.parts ≡ true = speaks_put p p y v.parts role ∙ says in let a = after p z u m says' role' is in
     record { part = a.part; empty = a.empty; spoken = λ r. a.spoken r ∙ speaks_put r p y v.parts role; others = λ r ne. a.others r ne ∙ the_put_other r p y v.parts role ne }
 
-module _ (key : Key) (w : Call) (n cap p q : ℕ) (kn : key.roles ≡ n) (kc : key.capacity ≡ cap) (nm : Named w n cap p q (machines_of key)) (apart : p ≢ q) (slots id : ℕ) where
+module _ (key : Key) (w : Call) (n cap p q : ℕ) (kn : key.roles ≡ n) (kc : key.capacity ≡ cap) (nm : IsCallOn w n cap p q (machines_in_key key)) (apart : p ≢ q) (slots id : ℕ) where
   abbrev pub Given : ℕ × ℕ × Call → (ℕ → ℕ → Call → Type 0) → Type 0
   Given z F = F z.0 z.1 z.2
 
-  lift : (F : ℕ → ℕ → Call → Type 0) → F key.roles key.capacity (named key.roles key.capacity p q w.next w.arms (machines_of key)) → F n cap w
-  lift F x = subst (λ (z : ℕ × ℕ × Call). F z.0 z.1 z.2) (λ i. (kn i, kc i, (let e : named key.roles key.capacity p q w.next w.arms (machines_of key) ≡ w = (λ j. named (kn j) (kc j) p q w.next w.arms (machines_of key)) ∙ sym (is_named w n cap p q (machines_of key) nm) in e) i)) x
+  lift : (F : ℕ → ℕ → Call → Type 0) → F key.roles key.capacity (named key.roles key.capacity p q w.next w.arms (machines_in_key key)) → F n cap w
+  lift F x = subst (λ (z : ℕ × ℕ × Call). F z.0 z.1 z.2) (λ i. (
+    kn i,
+    kc i,
+    (let e : named key.roles key.capacity p q w.next w.arms (machines_in_key key) ≡ w = (λ j. named (kn j) (kc j) p q w.next w.arms (machines_in_key key))
+        ∙ sym (is_named w n cap p q (machines_in_key key) nm) in e) i,
+  )) x
 
   pub head_asks : (i : ℕ) → i ≡ head_word_of n p q → (me : M) → speaks p me.0.parts ≡ true → q < n → (the_part p me.0.parts).middle ≡ Idle
       → Allows (RingsShow key) slots id me i (λ k. k) (LoadsHead w (step slots i 0 0 none) me)
-  head_asks i at me says below idle = subst (λ (i : ℕ). Allows (RingsShow key) slots id me i (λ k. k) (LoadsHead w (step slots i 0 0 none) me)) (sym at) (lift (λ a b u. q < a → Allows (RingsShow key) slots id me (head_word_of a p q) (λ k. k) (LoadsHead u (step slots (head_word_of a p q) 0 0 none) me))
+  head_asks i at me says below idle = subst (λ (i : ℕ). Allows (RingsShow key) slots id me i (λ k. k) (LoadsHead w (step slots i 0 0 none) me)) (sym at)
+      (lift (λ a b u. q < a → Allows (RingsShow key) slots id me (head_word_of a p q) (λ k. k) (LoadsHead u (step slots (head_word_of a p q) 0 0 none) me))
       (λ below'. sees_head key slots id me p q w.next w.arms apart says below' idle) below)
 
-  pub tail_asks : (i : ℕ) → i ≡ tail_of n p q → (me : M) → speaks q me.0.parts ≡ true → p < n → (the_part q me.0.parts).middle ≡ Idle → state_of (slice_get (machines_of key) q) (the_part q me.0.parts).state ≡ Some (Takes (role_of_number p) w.arms)
+  pub tail_asks : (i : ℕ) → i ≡ tail_of n p q → (me : M) → speaks q me.0.parts ≡ true → p < n → (the_part q me.0.parts).middle ≡ Idle
+      → state_of (slice_get (machines_in_key key) q) (the_part q me.0.parts).state ≡ Some (Takes (role_of_number p) w.arms)
       → Allows (RingsShow key) slots id me i (λ k. k) (LoadsTail w (step slots i 0 0 none) me)
-  tail_asks i at me says low idle stands = subst (λ (i : ℕ). Allows (RingsShow key) slots id me i (λ k. k) (LoadsTail w (step slots i 0 0 none) me)) (sym at) (lift (λ a b u. p < a → Allows (RingsShow key) slots id me (tail_of a p q) (λ k. k) (LoadsTail u (step slots (tail_of a p q) 0 0 none) me))
+  tail_asks i at me says low idle stands = subst (λ (i : ℕ). Allows (RingsShow key) slots id me i (λ k. k) (LoadsTail w (step slots i 0 0 none) me)) (sym at)
+      (lift (λ a b u. p < a → Allows (RingsShow key) slots id me (tail_of a p q) (λ k. k) (LoadsTail u (step slots (tail_of a p q) 0 0 none) me))
       (λ low'. sees_tail key slots id me p q w.next w.arms apart says low' idle stands) low)
 
-  pub store_asks : (i : ℕ) → i ≡ tail_of n p q → (me : M) (v : View) (cs : List (ℕ × Option Parcel)) (sent new : ℕ) (x : Parcel) → speaks p v.parts ≡ true → q < n → (the_part p v.parts).middle ≡ Putting q → sent ≡ length (parcels_sent q (the_part p v.parts).history) → new ≡ sent + 1 → MayPut (machines_of key) p q (the_part p v.parts).state x w.next
-      → me ≡ (v, (place_of n cap p q sent, Some x) ∷ cs) → Allows (RingsShow key) slots id me i (λ _. new) (λ _. StoresTail w (step slots i new 0 none) me new)
-  store_asks i at me v cs sent new x says below busy is more may here = subst (λ (i : ℕ). Allows (RingsShow key) slots id me i (λ _. new) (λ _. StoresTail w (step slots i new 0 none) me new)) (sym at) (lift (λ a b u. q < a → me ≡ (v, (place_of a b p q sent, Some x) ∷ cs) → Allows (RingsShow key) slots id me (tail_of a p q) (λ _. new) (λ _. StoresTail u (step slots (tail_of a p q) new 0 none) me new))
-      (λ below' here'. subst (λ (m : M). Allows (RingsShow key) slots id m (tail_of key.roles p q) (λ _. new) (λ _. StoresTail (named key.roles key.capacity p q w.next w.arms (machines_of key)) (step slots (tail_of key.roles p q) new 0 none) m new))
-      (sym (here' ∙ (λ i. (v, (place_of key.roles key.capacity p q (is i), Some x) ∷ cs)))) (subst (λ (nx : ℕ). Allows (RingsShow key) slots id (v, (place_of key.roles key.capacity p q (length (parcels_sent q (the_part p v.parts).history)), Some x) ∷ cs) (tail_of key.roles p q) (λ _. new) (λ _. StoresTail (named key.roles key.capacity p q nx w.arms (machines_of key)) (step slots (tail_of key.roles p q) new 0 none) (v, (place_of key.roles key.capacity p q (length (parcels_sent q (the_part p v.parts).history)), Some x) ∷ cs) new)) (sym may.goes) (stores_tail key slots id v cs p q new apart x w.arms may.arms may.arm (may.place, may.picks, may.same_label) may.has_sort says below' busy (more ∙ ap (λ (k : ℕ). k + 1) is) may.puts))) below here)
+  pub store_asks : (i : ℕ) → i ≡ tail_of n p q → (me : M) (v : View) (cs : List (ℕ × Option Parcel)) (sent new : ℕ) (x : Parcel) → speaks p v.parts ≡ true → q < n
+      → (the_part p v.parts).middle ≡ Putting q → sent ≡ length (parcels_sent q (the_part p v.parts).history) → new ≡ sent + 1 → MayPut (machines_in_key key) p q (the_part p v.parts).state x w.next
+      → me ≡ (v, (slot_place n cap p q sent, Some x) ∷ cs) → Allows (RingsShow key) slots id me i (λ _. new) (λ _. StoresTail w (step slots i new 0 none) me new)
+  store_asks i at me v cs sent new x says below busy is more may here =
+      subst (λ (i : ℕ). Allows (RingsShow key) slots id me i (λ _. new) (λ _. StoresTail w (step slots i new 0 none) me new)) (sym at)
+      (lift (λ a b u. q < a → me ≡ (v, (slot_place a b p q sent, Some x) ∷ cs)
+      → Allows (RingsShow key) slots id me (tail_of a p q) (λ _. new) (λ _. StoresTail u (step slots (tail_of a p q) new 0 none) me new))
+      (λ below' here'. subst (λ (m : M). Allows (RingsShow key) slots id m (tail_of key.roles p q) (λ _. new)
+      (λ _. StoresTail (named key.roles key.capacity p q w.next w.arms (machines_in_key key)) (step slots (tail_of key.roles p q) new 0 none) m new))
+      (sym (here' ∙ (λ i. (v, (slot_place key.roles key.capacity p q (is i), Some x) ∷ cs))))
+      (subst (λ (nx : ℕ). Allows (RingsShow key) slots id (v, (slot_place key.roles key.capacity p q (length (parcels_sent q (the_part p v.parts).history)), Some x) ∷ cs) (tail_of key.roles p q)
+      (λ _. new) (λ _. StoresTail (named key.roles key.capacity p q nx w.arms (machines_in_key key)) (step slots (tail_of key.roles p q) new 0 none)
+      (v, (slot_place key.roles key.capacity p q (length (parcels_sent q (the_part p v.parts).history)), Some x) ∷ cs) new)) (sym may.goes)
+      (stores_tail key slots id v cs p q new apart x w.arms may.arms may.arm (may.place, may.picks, may.same_label) may.has_sort says below' busy (more ∙ ap (λ (k : ℕ). k + 1) is) may.puts)))
+      below here)
 
-  pub free_asks : (i : ℕ) → i ≡ head_word_of n p q → (me : M) (v : View) (cs : List (ℕ × Option Parcel)) (got new : ℕ) (x : Parcel) → speaks q v.parts ≡ true → p < n → (the_part q v.parts).middle ≡ Taking p x → got ≡ length (parcels_got p (the_part q v.parts).history) → new ≡ got + 1 → MayTake (machines_of key) q p (the_part q v.parts).state x w.next
-      → me ≡ (v, (place_of n cap p q got, None) ∷ cs) → Allows (RingsShow key) slots id me i (λ _. new) (λ _. StoresHead w (step slots i new 0 none) me new)
-  free_asks i at me v cs got new x says low busy is more may here = subst (λ (i : ℕ). Allows (RingsShow key) slots id me i (λ _. new) (λ _. StoresHead w (step slots i new 0 none) me new)) (sym at) (lift (λ a b u. p < a → me ≡ (v, (place_of a b p q got, None) ∷ cs) → Allows (RingsShow key) slots id me (head_word_of a p q) (λ _. new) (λ _. StoresHead u (step slots (head_word_of a p q) new 0 none) me new))
-      (λ low' here'. subst (λ (m : M). Allows (RingsShow key) slots id m (head_word_of key.roles p q) (λ _. new) (λ _. StoresHead (named key.roles key.capacity p q w.next w.arms (machines_of key)) (step slots (head_word_of key.roles p q) new 0 none) m new))
-      (sym (here' ∙ (λ i. (v, (place_of key.roles key.capacity p q (is i), None) ∷ cs)))) (subst (λ (nx : ℕ). Allows (RingsShow key) slots id (v, (place_of key.roles key.capacity p q (length (parcels_got p (the_part q v.parts).history)), None) ∷ cs) (head_word_of key.roles p q) (λ _. new) (λ _. StoresHead (named key.roles key.capacity p q nx w.arms (machines_of key)) (step slots (head_word_of key.roles p q) new 0 none) (v, (place_of key.roles key.capacity p q (length (parcels_got p (the_part q v.parts).history)), None) ∷ cs) new)) (sym may.goes) (stores_head key slots id v cs p q new apart x w.arms may.arms may.arm (may.place, may.picks, may.same_label) may.has_sort says low' busy (more ∙ ap (λ (k : ℕ). k + 1) is) may.takes))) low here)
+  pub free_asks : (i : ℕ) → i ≡ head_word_of n p q → (me : M) (v : View) (cs : List (ℕ × Option Parcel)) (got new : ℕ) (x : Parcel) → speaks q v.parts ≡ true → p < n
+      → (the_part q v.parts).middle ≡ Taking p x → got ≡ length (parcels_got p (the_part q v.parts).history) → new ≡ got + 1 → MayTake (machines_in_key key) q p (the_part q v.parts).state x w.next
+      → me ≡ (v, (slot_place n cap p q got, None) ∷ cs) → Allows (RingsShow key) slots id me i (λ _. new) (λ _. StoresHead w (step slots i new 0 none) me new)
+  free_asks i at me v cs got new x says low busy is more may here =
+      subst (λ (i : ℕ). Allows (RingsShow key) slots id me i (λ _. new) (λ _. StoresHead w (step slots i new 0 none) me new)) (sym at)
+      (lift (λ a b u. p < a → me ≡ (v, (slot_place a b p q got, None) ∷ cs)
+      → Allows (RingsShow key) slots id me (head_word_of a p q) (λ _. new) (λ _. StoresHead u (step slots (head_word_of a p q) new 0 none) me new))
+      (λ low' here'. subst (λ (m : M). Allows (RingsShow key) slots id m (head_word_of key.roles p q) (λ _. new)
+      (λ _. StoresHead (named key.roles key.capacity p q w.next w.arms (machines_in_key key)) (step slots (head_word_of key.roles p q) new 0 none) m new))
+      (sym (here' ∙ (λ i. (v, (slot_place key.roles key.capacity p q (is i), None) ∷ cs))))
+      (subst (λ (nx : ℕ). Allows (RingsShow key) slots id (v, (slot_place key.roles key.capacity p q (length (parcels_got p (the_part q v.parts).history)), None) ∷ cs) (head_word_of key.roles p q)
+      (λ _. new) (λ _. StoresHead (named key.roles key.capacity p q nx w.arms (machines_in_key key)) (step slots (head_word_of key.roles p q) new 0 none)
+      (v, (slot_place key.roles key.capacity p q (length (parcels_got p (the_part q v.parts).history)), None) ∷ cs) new)) (sym may.goes)
+      (stores_head key slots id v cs p q new apart x w.arms may.arms may.arm (may.place, may.picks, may.same_label) may.has_sort says low' busy (more ∙ ap (λ (k : ℕ). k + 1) is) may.takes)))
+      low here)
 
   -- the same, of what a load told
-  pub head_loaded : (st : Step (Option Parcel)) (m m' : M) (r : ℕ) → LoadsHead w st m r m' → LoadsHead (named n cap p q w.next w.arms (machines_of key)) st m r m'
-  head_loaded st m m' r t = subst (λ (u : Call). LoadsHead u st m r m') (is_named w n cap p q (machines_of key) nm) t
+  pub head_loaded : (st : Step (Option Parcel)) (m m' : M) (r : ℕ) → LoadsHead w st m r m' → LoadsHead (named n cap p q w.next w.arms (machines_in_key key)) st m r m'
+  head_loaded st m m' r t = subst (λ (u : Call). LoadsHead u st m r m') (is_named w n cap p q (machines_in_key key) nm) t
 
-  pub tail_loaded : (st : Step (Option Parcel)) (m m' : M) (r : ℕ) → LoadsTail w st m r m' → LoadsTail (named n cap p q w.next w.arms (machines_of key)) st m r m'
-  tail_loaded st m m' r t = subst (λ (u : Call). LoadsTail u st m r m') (is_named w n cap p q (machines_of key) nm) t
+  pub tail_loaded : (st : Step (Option Parcel)) (m m' : M) (r : ℕ) → LoadsTail w st m r m' → LoadsTail (named n cap p q w.next w.arms (machines_in_key key)) st m r m'
+  tail_loaded st m m' r t = subst (λ (u : Call). LoadsTail u st m r m') (is_named w n cap p q (machines_in_key key) nm) t
 
   -- what a store of the tail did
-  pub put_done : (v : View) (y : Part) (m m' : M) (k : ℕ) (x : Parcel) → speaks p v.parts ≡ true → y.role ≡ p → m ≡ (with_part p y v, (k, Some x) ∷ []) → GivesFilled w m m' m.1 → Happened (machines_of key) p y.history (sent_act q x) × IsAfter p (sending q x w.next y) v m'
+  pub put_done : (v : View) (y : Part) (m m' : M) (k : ℕ) (x : Parcel) → speaks p v.parts ≡ true → y.role ≡ p → m ≡ (view_with_part p y v, (k, Some x) ∷ []) → GivesFilled w m m' m.1
+      → Happened (machines_in_key key) p y.history (sent_act q x) × IsAfter p (sending q x w.next y) v m'
   put_done v y m m' k x says role is told = let here = the_put_here p y v.parts role says in
-      let t : GivesFilled (named n cap p q w.next w.arms (machines_of key)) (with_part p y v, (k, Some x) ∷ []) m' ((k, Some x) ∷ []) = subst (λ (z : M × Call). GivesFilled z.1 z.0 m' z.0.1) (λ i. (is i, is_named w n cap p q (machines_of key) nm i)) told in (
-        subst (λ (z : Part). Happened (machines_of key) p z.history (sent_act q x)) here t.1,
+      let t : GivesFilled (named n cap p q w.next w.arms (machines_in_key key)) (view_with_part p y v, (k, Some x) ∷ []) m' ((k, Some x) ∷ []) =
+      subst (λ (z : M × Call). GivesFilled z.1 z.0 m' z.0.1) (λ i. (is i, is_named w n cap p q (machines_in_key key) nm i)) told in (
+        subst (λ (z : Part). Happened (machines_in_key key) p z.history (sent_act q x)) here t.1,
         after_after p y (sending q x w.next y) v m' says role role
-            (t.0 ∙ (λ i. (with_part p (sending q x w.next (here i)) (with_part p y v), []))),
+            (t.0 ∙ (λ i. (view_with_part p (sending q x w.next (here i)) (view_with_part p y v), []))),
       )
 
   -- what a store of the head did
-  pub took_done : (m m' : M) (k : ℕ) (x : Parcel) → speaks q m.0.parts ≡ true → (the_part q m.0.parts).middle ≡ Taking p x → m.1 ≡ (k, None) ∷ [] → GivesEmptied w m m' (own w.receiver m).middle → Happened (machines_of key) q (the_part q m.0.parts).history (got_act p x) × IsAfter q (getting p x w.next (the_part q m.0.parts)) m.0 m'
+  pub took_done : (m m' : M) (k : ℕ) (x : Parcel) → speaks q m.0.parts ≡ true → (the_part q m.0.parts).middle ≡ Taking p x → m.1 ≡ (k, None) ∷ [] → GivesEmptied w m m' (own w.receiver m).middle
+      → Happened (machines_in_key key) q (the_part q m.0.parts).history (got_act p x) × IsAfter q (getting p x w.next (the_part q m.0.parts)) m.0 m'
   took_done m m' k x says busy cs told =
-      let t : GivesEmptied (named n cap p q w.next w.arms (machines_of key)) m m' (the_part q m.0.parts).middle = subst (λ (u : Call). GivesEmptied u m m' (own u.receiver m).middle) (is_named w n cap p q (machines_of key) nm) told in
-      let t' : GivesEmptied (named n cap p q w.next w.arms (machines_of key)) m m' (Taking p x) = subst (GivesEmptied (named n cap p q w.next w.arms (machines_of key)) m m') busy t in
-      (t'.1, after q (getting p x w.next (the_part q m.0.parts)) m.0 m' says (the_role q m.0.parts says) (t'.0 ∙ (λ i. (with_part q (getting p x w.next (the_part q m.0.parts)) m.0, rest (cs i)))))
+      let t : GivesEmptied (named n cap p q w.next w.arms (machines_in_key key)) m m' (the_part q m.0.parts).middle =
+      subst (λ (u : Call). GivesEmptied u m m' (own u.receiver m).middle) (is_named w n cap p q (machines_in_key key) nm) told in
+      let t' : GivesEmptied (named n cap p q w.next w.arms (machines_in_key key)) m m' (Taking p x) = subst (GivesEmptied (named n cap p q w.next w.arms (machines_in_key key)) m m') busy t in (
+        t'.1,
+        after q (getting p x w.next (the_part q m.0.parts)) m.0 m' says (the_role q m.0.parts says)
+            (t'.0 ∙ (λ i. (view_with_part q (getting p x w.next (the_part q m.0.parts)) m.0, rest (cs i)))),
+      )
 
 abbrev pairing : ℕ → Option Parcel → ℕ × Option Parcel
 pairing k x = (k, x)
 
 -- the value that the exchange returned is the parcel that the load told of
-pub took : (m m' : M) (p q r k s : ℕ) (x y : Parcel) (res : Option Parcel) (v : View) (a : Part) → m ≡ (with_part q (taking p x r a) v, (k, Some x) ∷ []) → m.1 ≡ (s, res) ∷ rest m.1 → m' ≡ (m.0, (s, None) ∷ rest m.1) → res ≡ Some y
-    → (x ≡ y) × (m' ≡ (with_part q (taking p y r a) v, (k, None) ∷ []))
+pub took : (m m' : M) (p q r k s : ℕ) (x y : Parcel) (res : Option Parcel) (v : View) (a : Part) → m ≡ (view_with_part q (taking p x r a) v, (k, Some x) ∷ []) → m.1 ≡ (s, res) ∷ rest m.1
+    → m' ≡ (m.0, (s, None) ∷ rest m.1) → res ≡ Some y
+    → (x ≡ y) × (m' ≡ (view_with_part q (taking p y r a) v, (k, None) ∷ []))
 took m m' p q r k s x y res v a was got now is =
     let l : (k, Some x) ∷ [] ≡ (s, res) ∷ rest m.1 = sym (ap (λ (z : M). z.1) was) ∙ got in
-    let pair : pairing k (Some x) ≡ pairing s res = cc in let key : k ≡ s = ap (λ (z : ℕ × Option Parcel). z.0) pair in let same : Some x ≡ res = ap (λ (z : ℕ × Option Parcel). z.1) pair in let val : x ≡ y = cc in
-    (val, now ∙ (λ i. ((was i).0, (sym key i, None) ∷ rest (was i).1)) ∙ (λ i. (with_part q (taking p (val i) r a) v, (k, None) ∷ [])))
+    let pair : pairing k (Some x) ≡ pairing s res = cc in let key : k ≡ s = ap (λ (z : ℕ × Option Parcel). z.0) pair in let same : Some x ≡ res =
+    ap (λ (z : ℕ × Option Parcel). z.1) pair in let val : x ≡ y = cc in
+    (val, now ∙ (λ i. ((was i).0, (sym key i, None) ∷ rest (was i).1)) ∙ (λ i. (view_with_part q (taking p (val i) r a) v, (k, None) ∷ [])))
 
 pub took_some : (m : M) (k s : ℕ) (x : Parcel) (res : Option Parcel) (u : View) → m ≡ (u, (k, Some x) ∷ []) → m.1 ≡ (s, res) ∷ rest m.1 → res ≡ None → ⊥
-took_some m k s x res u was got none' = let l : (k, Some x) ∷ [] ≡ (s, res) ∷ rest m.1 = sym (ap (λ (z : M). z.1) was) ∙ got in let pair : pairing k (Some x) ≡ pairing s res = cc in let same : Some x ≡ res = ap (λ (z : ℕ × Option Parcel). z.1) pair in let no : Some x ≡ None = same ∙ none' in cc
+took_some m k s x res u was got none' = let l : (k, Some x) ∷ [] ≡ (s, res) ∷ rest m.1 = sym (ap (λ (z : M). z.1) was) ∙ got in let pair : pairing k (Some x) ≡ pairing s res =
+    cc in let same : Some x ≡ res = ap (λ (z : ℕ × Option Parcel). z.1) pair in let no : Some x ≡ None = same ∙ none' in cc
 
-pub stands_from : (o : Option State) (p : ℕ) (arms : List Arm) → TakesFrom o p → IfSome o (λ s. arms ≡ arms_in s) → o ≡ Some (Takes (role_of_number p) arms)
+pub stands_from : (o : Option State) (p : ℕ) (arms : List Arm) → TakesFrom o p → IfSome o (λ s. arms ≡ arms_in_state s) → o ≡ Some (Takes (role_of_number p) arms)
 stands_from None p arms t i = absurd t
 stands_from (Some Done) p arms t i = absurd t
 stands_from (Some (Puts q as')) p arms t i = absurd t
@@ -118,12 +167,13 @@ stands_from (Some (Takes r as')) p arms t i = λ k. Some (Takes (role_of_number 
 pub found_next : (o : Option Arm) (arm : Arm) (next : ℕ) → o ≡ Some arm → IfSome o (λ a. next ≡ a.next) → next ≡ arm.next
 found_next o arm next e h = subst (λ (o : Option Arm). IfSome o (λ a. next ≡ a.next)) e h
 
-pub may_take : (ms : List Machine_data) (p q s : ℕ) (m : Parcel) (next : ℕ) (arms : List Arm) → state_of (slice_get ms q) s ≡ Some (Takes (role_of_number p) arms) → HasFittingArm arms m → IfSome (arm_with arms m.label) (λ a. next ≡ a.next) → MayTake ms q p s m next
+pub may_take : (ms : List Machine_data) (p q s : ℕ) (m : Parcel) (next : ℕ) (arms : List Arm) → state_of (slice_get ms q) s ≡ Some (Takes (role_of_number p) arms) → HasFittingArm arms m
+    → IfSome (arm_with arms m.label) (λ a. next ≡ a.next) → MayTake ms q p s m next
 may_take ms p q s m next arms st f h = let at = arm_at arms m.label f.arm f.chosen in
     record { arms = arms; place = at.0; arm = f.arm; takes = st; picks = at.1; same_label = at.2; has_sort = f.has; goes = found_next (arm_with arms m.label) f.arm next f.chosen h }
 
 -- two changes of one part
-pub after_twice : (p : ℕ) (y z : Part) (v u : View) (m : M) → speaks p v.parts ≡ true → y.role ≡ p → u ≡ with_part p y v → IsAfter p z u m → IsAfter p z v m
+pub after_twice : (p : ℕ) (y z : Part) (v u : View) (m : M) → speaks p v.parts ≡ true → y.role ≡ p → u ≡ view_with_part p y v → IsAfter p z u m → IsAfter p z v m
 after_twice p y z v u m says role is a = record {
   part = a.part;
   empty = a.empty;

@@ -23,7 +23,7 @@ message_of x = record { label = x.label; value = x.value }
 abbrev pub sent_act : ℕ → Parcel → Action
 sent_act q x = Sent (role_of_number q) x.label x.value
 
--- .. that got the parcel from p
+-- what a role did that got the parcel from p
 abbrev pub got_act : ℕ → Parcel → Action
 got_act p x = Got (role_of_number p) x.label x.value
 
@@ -32,16 +32,16 @@ abbrev pub parcel_sent : ℕ → Action → List Parcel
 parcel_sent q (Sent peer label value) = if q == peer.0 then record { label = label; value = value } ∷ [] else []
 parcel_sent q (Got peer label value) = []
 
--- .. by a whole history
+-- the parcels that a whole history sent to q
 abbrev pub parcels_sent : ℕ → History → List Parcel
 parcels_sent q h = flat_map (parcel_sent q) h
 
--- .. and those that it has got from p
+-- the parcels that one action got from p
 abbrev pub parcel_got : ℕ → Action → List Parcel
 parcel_got p (Sent peer label value) = []
 parcel_got p (Got peer label value) = if p == peer.0 then record { label = label; value = value } ∷ [] else []
 
--- .. by a whole history
+-- the parcels that a whole history got from p
 abbrev pub parcels_got : ℕ → History → List Parcel
 parcels_got p h = flat_map (parcel_got p) h
 

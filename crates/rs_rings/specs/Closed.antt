@@ -15,6 +15,11 @@ pub record Closed_data : Type 0 where
   pub machines : List Machine_data
   pub last : View
 
+-- what was closed had these machines, and its last pass knew this
+pub record IsClosedAs (c : Closed_data) (machines : List Machine_data) (v : View) : Type 0 where
+  pub machines_are : c.machines ≡ machines
+  pub last_is : c.last ≡ v
+
 -- the histories are legal, and lead to a configuration in which each role stands in the state that the pass knew, and in
 -- each queue is what was sent and not got
 pub record IsLeft (c : Closed_data) : Type 0 where
@@ -36,7 +41,7 @@ pub record IsOver (c : Closed_data) : Type 0 where
 abbrev pub sender_of : ℕ → ℕ → ℕ
 sender_of roles ring = ring / (roles - 1)
 
--- .. and its receiver
+-- the receiver of the ring with that number
 abbrev pub receiver_of : ℕ → ℕ → ℕ
 receiver_of roles ring = if nat_lt (ring % (roles - 1)) (sender_of roles ring) then ring % (roles - 1) else ring % (roles - 1) + 1
 

@@ -1,4 +1,5 @@
 pub mod Acts
+pub mod Asked
 pub mod Views
 pub mod Places
 pub mod Rule

@@ -11,5 +11,5 @@ abbrev pub tail_of : ℕ → ℕ → ℕ → ℕ
 tail_of roles p q = tail_word (ring_of roles p q)
 
 -- the slot of the ring's parcel number k, from 0
-abbrev pub place_of : ℕ → ℕ → ℕ → ℕ → ℕ → ℕ
-place_of roles capacity p q k = slot_of capacity (ring_of roles p q) k
+abbrev pub slot_place : ℕ → ℕ → ℕ → ℕ → ℕ → ℕ
+slot_place roles capacity p q k = slot_of capacity (ring_of roles p q) k

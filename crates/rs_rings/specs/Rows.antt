@@ -17,7 +17,7 @@ abbrev pub row_in_box : Option (Box Row) → Option Row
 row_in_box None = None
 row_in_box (Some b) = Some b.value
 
--- .. among these rows
+-- the row of role i among these, where there is one
 abbrev pub row_at : List (Option (Box Row)) → ℕ → Option Row
 row_at items i = row_in_box (slice_index_or items i None)
 
@@ -26,7 +26,7 @@ abbrev pub with_sent_count : ℕ → ℕ → ℕ → Option Row → Option Row
 with_sent_count q sent next None = None
 with_sent_count q sent next (Some r) = Some (record { state = next; sent = slice_set r.sent q sent; got = r.got })
 
--- .. got from p
+-- the row with the next state, and with the number of parcels got from p
 abbrev pub with_got_count : ℕ → ℕ → ℕ → Option Row → Option Row
 with_got_count p got next None = None
 with_got_count p got next (Some r) = Some (record { state = next; sent = r.sent; got = slice_set r.got p got })
@@ -35,7 +35,7 @@ with_got_count p got next (Some r) = Some (record { state = next; sent = r.sent;
 abbrev pub new_row : ℕ → Row
 new_row state = record { state = state; sent = replicate MOST_ROLES 0; got = replicate MOST_ROLES 0 }
 
--- .. where it has that machine
+-- the row of a role at the start, where it has that machine
 abbrev pub row_at_start : Option Machine_data → Option Row
 row_at_start None = None
 row_at_start (Some m) = Some (new_row m.start)
@@ -55,7 +55,7 @@ pub record RowShows (row : Row) (a : Part) : Type 0 where
 -- rows
 pub record IsBetweenCalls (m : Me (Option Parcel) View) (items : List (Option (Box Row))) : Type 0 where
   pub empty : m.1 ≡ []
-  pub few : (r : ℕ) → speaks r m.0.parts ≡ true → r < MOST_ROLES
+  pub bounded : (r : ℕ) → speaks r m.0.parts ≡ true → r < MOST_ROLES
   pub idle : (r : ℕ) → speaks r m.0.parts ≡ true → (the_part r m.0.parts).middle ≡ Idle
   pub rows : (r : ℕ) → speaks r m.0.parts ≡ true → (row : Row) × (row_at items r ≡ Some row) × RowShows row (the_part r m.0.parts)
   pub only : (r : ℕ) → r < MOST_ROLES → (row : Row) → row_at items r ≡ Some row → speaks r m.0.parts ≡ true

@@ -1,6 +1,6 @@
 -- Believed: the rule of the table, which holds between any two steps.
 use Rattle.std.specs.Prelude.{◌≡◌, ◌≢◌, ◌⊎◌, ℕ, ◌+◌, ◌*◌, ◌<◌, ◌≤◌, Bool, true, false, List, ◌++◌, length, drop, slice_index, map, Option, Some, None}
-use mathlib.Core.Option.{some, none}
+use mathlib.Core.Option.{some}
 use mathlib.Core.Option as maybe
 use lib.ListN.{get_elem?}
 use Rattle.atomic_table.specs.Table.{State}
@@ -12,7 +12,7 @@ use Rattle.rs_core.specs.Safety.{IsSafe}
 use Rattle.rs_slots.specs.Places.{ring_count}
 use Rattle.rs_slots.specs.declared.parcels.Parcel.{Parcel}
 use Rattle.rs_rings.specs.Acts.{message_of, parcels_sent, parcels_got}
-use Rattle.rs_rings.specs.Places.{head_word_of, tail_of, place_of}
+use Rattle.rs_rings.specs.Places.{head_word_of, tail_of, slot_place}
 use Rattle.rs_rings.specs.Views.{last_found, is_putting, parcel_in_hand, speaks, the_part, first_parts}
 use Rattle.rs_rings.specs.declared.views.Key.{Key}
 use Rattle.rs_rings.specs.declared.views.Part.{Part}
@@ -56,7 +56,7 @@ abbrev pub ring_facts : ℕ → ℕ → List ℕ → List (maybe.Option (Option 
 ring_facts roles capacity words homes p q a b = record {
   tail = slice_index words (tail_of roles p q);
   head = slice_index words (head_word_of roles p q);
-  slot = λ k. get_elem? homes (place_of roles capacity p q k);
+  slot = λ k. get_elem? homes (slot_place roles capacity p q k);
   sent = parcels_sent q a.history;
   got = parcels_got p b.history;
   seen_head = last_found q a.heads;
@@ -65,7 +65,7 @@ ring_facts roles capacity words homes p q a b = record {
   taking = parcel_in_hand p b.middle;
 }
 
--- .. for each ordered pair of different roles
+-- each ring is as its two roles know it
 abbrev pub AllRings : ℕ → ℕ → List ℕ → List (maybe.Option (Option Parcel)) → (ℕ → Part) → Type 0
 AllRings roles capacity words homes known = (p q : ℕ) → p < roles → q < roles → p ≢ q → RingRule capacity (ring_facts roles capacity words homes p q (known p) (known q))
 
@@ -77,8 +77,8 @@ pub record Spoken (roles : ℕ) (owner : ℕ → ℕ) (known : ℕ → Part) (vi
 
 -- what is known of all roles, as a configuration and as histories: in the queue from p to q is what p has sent and q hasn't
 -- got
-abbrev pub configuration_of : (ℕ → Part) → Configuration
-configuration_of known = record {
+abbrev pub configuration_by : (ℕ → Part) → Configuration
+configuration_by known = record {
   at = λ p. (known p).state;
   queue = λ p q. map message_of (drop (length (parcels_got p (known q).history)) (parcels_sent q (known p).history));
 }
@@ -89,11 +89,11 @@ histories_of known p = (known p).history
 
 -- these histories are legal, and lead to that configuration
 abbrev pub AreLegal : List Machine_data → (ℕ → Part) → Type 0
-AreLegal machines known = IsLegal machines (histories_of known) (configuration_of known)
+AreLegal machines known = IsLegal machines (histories_of known) (configuration_by known)
 
 -- the machines that the table was made with
-abbrev pub machines_of : Key → List Machine_data
-machines_of key = key.machines.items
+abbrev pub machines_in_key : Key → List Machine_data
+machines_in_key key = key.machines.items
 
 -- the rule: the views speak for each role once, the rings show what they know, and what they know is legal
 pub record RingsShow (key : Key) (s : State (Option Parcel) View) : Type 0 where
@@ -104,11 +104,11 @@ pub record RingsShow (key : Key) (s : State (Option Parcel) View) : Type 0 where
   pub slot_count : length s.homes ≡ ring_count key.roles * key.capacity
   pub spoken : Spoken key.roles owner known s.views
   pub rings : AllRings key.roles key.capacity s.words s.homes known
-  pub machine_count : length (machines_of key) ≡ key.roles
-  pub safe : IsSafe (machines_of key)
-  pub well_formed : AreWellFormed (machines_of key)
-  pub legal : AreLegal (machines_of key) known
+  pub machine_count : length (machines_in_key key) ≡ key.roles
+  pub safe : IsSafe (machines_in_key key)
+  pub well_formed : AreWellFormed (machines_in_key key)
+  pub legal : AreLegal (machines_in_key key) known
 
 -- the view of the first seat
 abbrev pub first_view : Key → View
-first_view key = record { parts = first_parts (machines_of key) key.roles }
+first_view key = record { parts = first_parts (machines_in_key key) key.roles }

@@ -8,9 +8,10 @@ use Rattle.rs_core.specs.Histories.{IsLegal}
 use Rattle.rs_slots.specs.Places.{IsPair}
 use Rattle.rs_slots.specs.declared.parcels.Parcel.{Parcel}
 use Rattle.rs_rings.specs.Acts.{message_of, parcels_sent, parcels_got, MayPut, MayTake}
-use Rattle.rs_rings.specs.Places.{head_word_of, tail_of, place_of}
-use Rattle.rs_rings.specs.Rule.{machines_of}
-use Rattle.rs_rings.specs.Views.{speaks, the_part, last_found, is_putting, parcel_in_hand, with_part, part_with_room, gaining, sending, part_with_parcel, taking, getting, view_without_role, alone, joint_view, spent_view}
+use Rattle.rs_rings.specs.Places.{head_word_of, tail_of, slot_place}
+use Rattle.rs_rings.specs.Rule.{machines_in_key}
+use Rattle.rs_rings.specs.Views.{speaks, the_part, last_found, is_putting, parcel_in_hand, view_with_part, part_with_room, gaining}
+use Rattle.rs_rings.specs.Views.{sending, part_with_parcel, taking, getting, view_without_role, alone, joint_view, spent_view}
 use Rattle.rs_rings.specs.declared.views.Key.{Key}
 use Rattle.rs_rings.specs.declared.views.Middle.TheVariants.{Putting, Taking}
 use Rattle.rs_rings.specs.declared.views.Part.{Part}
@@ -26,13 +27,13 @@ pub record RingShown (key : Key) (s : State (Option Parcel) View) (p q : ℕ) (a
   -- the slots from head up to tail are at home and hold what was sent, but for that of the head in the middle of a take
   pub full : (k : ℕ) (x : Parcel) → length (parcels_got p b.history) ≤ k → get_elem? (parcels_sent q a.history) k ≡ some x
       → (parcel_in_hand p b.middle ≡ None) ⊎ (k ≢ length (parcels_got p b.history))
-      → get_elem? s.homes (place_of key.roles key.capacity p q k) ≡ some (some (Some x))
+      → get_elem? s.homes (slot_place key.roles key.capacity p q k) ≡ some (some (Some x))
   -- who is in the middle of a take takes the oldest parcel under way
   pub takes : (x : Parcel) → parcel_in_hand p b.middle ≡ Some x → get_elem? (parcels_sent q a.history) (length (parcels_got p b.history)) ≡ some x
   -- the others are at home and empty, but for that of the tail in the middle of a put
   pub free : (k : ℕ) → length (parcels_sent q a.history) ≤ k → k < length (parcels_got p b.history) + key.capacity
       → (is_putting q a.middle ≡ false) ⊎ (k ≢ length (parcels_sent q a.history))
-      → get_elem? s.homes (place_of key.roles key.capacity p q k) ≡ some (some None)
+      → get_elem? s.homes (slot_place key.roles key.capacity p q k) ≡ some (some None)
   -- what was last read of a word is at most that word
   pub read_head : last_found q a.heads ≤ slice_index s.words (head_word_of key.roles p q)
   pub read_tail : last_found p b.tails ≤ slice_index s.words (tail_of key.roles p q)
@@ -46,8 +47,8 @@ pub record Shown (key : Key) (s : State (Option Parcel) View) (c : Configuration
   pub states : (r : ℕ) → c.at r ≡ (known r).state
   pub queues : (p q : ℕ) → c.queue p q ≡ map message_of (drop (length (parcels_got p (known q).history)) (parcels_sent q (known p).history))
   pub rings : (p q : ℕ) → IsPair key.roles p q → RingShown key s p q (known p) (known q)
-  pub legal : IsLegal (machines_of key) (λ r. (known r).history) c
-  pub reachable : IsReachable (machines_of key) c
+  pub legal : IsLegal (machines_in_key key) (λ r. (known r).history) c
+  pub reachable : IsReachable (machines_in_key key) c
 
 -- the same for the roles that there are
 pub record IsSameAmong (roles : ℕ) (c d : Configuration) : Type 0 where
@@ -59,11 +60,11 @@ pub record IsSameAmong (roles : ℕ) (c d : Configuration) : Type 0 where
 pub record Moves (s t : State (Option Parcel) View) (r word new : ℕ) (a y : Part) : Type 0 where
   pub seat : ℕ
   pub view : View
-  pub there : get_elem? s.views seat ≡ some view
+  pub present : get_elem? s.views seat ≡ some view
   pub speaks : speaks r view.parts ≡ true
   pub knew : the_part r view.parts ≡ a
   pub words : t.words ≡ slice_set s.words word new
-  pub views : t.views ≡ slice_set s.views seat (with_part r y view)
+  pub views : t.views ≡ slice_set s.views seat (view_with_part r y view)
 
 -- the six kinds of step. The sender p loads the head word of its ring to q, and finds the ring full or gains a slot
 pub record LoadsHeadOf (key : Key) (s t : State (Option Parcel) View) (p q : ℕ) : Type 0 where
@@ -77,7 +78,7 @@ pub record StoresTailOf (key : Key) (s t : State (Option Parcel) View) (p q : �
   pub knew : Part
   pub next : ℕ
   pub middle : knew.middle ≡ Putting q
-  pub may : MayPut (machines_of key) p q knew.state x next
+  pub may : MayPut (machines_in_key key) p q knew.state x next
   pub moves : Moves s t p (tail_of key.roles p q) (slice_index s.words (tail_of key.roles p q) + 1) knew (sending q x next knew)
 
 -- the receiver q loads the tail word of the ring from p, and finds the ring empty or gains the slot of the oldest parcel
@@ -92,14 +93,14 @@ pub record StoresHeadOf (key : Key) (s t : State (Option Parcel) View) (p q : �
   pub knew : Part
   pub next : ℕ
   pub middle : knew.middle ≡ Taking p x
-  pub may : MayTake (machines_of key) q p knew.state x next
+  pub may : MayTake (machines_in_key key) q p knew.state x next
   pub moves : Moves s t q (head_word_of key.roles p q) (slice_index s.words (head_word_of key.roles p q) + 1) knew (getting p x next knew)
 
 -- a view gives up role r to a new view; a view takes in another, which is spent. Words and slots stay.
 pub record SplitsOff (s t : State (Option Parcel) View) (r : ℕ) : Type 0 where
   pub seat : ℕ
   pub view : View
-  pub there : get_elem? s.views seat ≡ some view
+  pub present : get_elem? s.views seat ≡ some view
   pub speaks : speaks r view.parts ≡ true
   pub words : t.words ≡ s.words
   pub views : t.views ≡ slice_set s.views seat (view_without_role r view) ++ alone r view ∷ []
@@ -110,7 +111,7 @@ pub record JoinsIn (s t : State (Option Parcel) View) : Type 0 where
   pub view : View
   pub other : ℕ
   pub taken : View
-  pub there : get_elem? s.views seat ≡ some view
+  pub present : get_elem? s.views seat ≡ some view
   pub too : get_elem? s.views other ≡ some taken
   pub apart : other ≢ seat
   pub words : t.words ≡ s.words

@@ -7,8 +7,8 @@ use Rattle.rs_model.specs.declared.graph.Arm.{Arm}
 use Rattle.rs_core.specs.Core.{arm_with}
 use Rattle.rs_slots.specs.declared.parcels.Parcel.{Parcel}
 use Rattle.rs_rings.specs.Acts.{sent_act, got_act, parcels_sent, parcels_got, Happened}
-use Rattle.rs_rings.specs.Places.{place_of}
-use Rattle.rs_rings.specs.Views.{the_part, last_found, with_part, part_with_room, gaining, sending, part_with_parcel, taking, getting, KnowsGot, KnowsSent, KnowsOldest}
+use Rattle.rs_rings.specs.Places.{slot_place}
+use Rattle.rs_rings.specs.Views.{the_part, last_found, view_with_part, part_with_room, gaining, sending, part_with_parcel, taking, getting, KnowsGot, KnowsSent, KnowsOldest}
 use Rattle.rs_rings.specs.declared.views.Middle.{Middle}
 use Rattle.rs_rings.specs.declared.views.Middle.TheVariants.{Idle, Putting, Taking}
 use Rattle.rs_rings.specs.declared.views.Part.{Part}
@@ -45,14 +45,14 @@ got_of w m = length (parcels_got w.sender (own w.receiver m).history)
 
 -- the slot of the ring's parcel number k
 abbrev pub slot_at : Call → ℕ → ℕ
-slot_at w k = place_of w.roles w.capacity w.sender w.receiver k
+slot_at w k = slot_place w.roles w.capacity w.sender w.receiver k
 
 -- the sender loads the head word and reads r: it finds the ring full, or gains the empty slot of its next parcel
 abbrev pub LoadsHead : Call → Step (Option Parcel) → Me (Option Parcel) View → ℕ → Me (Option Parcel) View → Type 0
 LoadsHead w st m r m' =
     (last_found w.receiver (own w.sender m).heads ≤ r) × (r ≤ sent_of w m) × (sent_of w m ≤ r + w.capacity)
-    × (sent_of w m ≡ r + w.capacity → m' ≡ (with_part w.sender (part_with_room w.receiver r (own w.sender m)) m.0, m.1))
-    × (sent_of w m ≢ r + w.capacity → m' ≡ (with_part w.sender (gaining w.receiver r (own w.sender m)) m.0, (slot_at w (sent_of w m), None) ∷ m.1))
+    × (sent_of w m ≡ r + w.capacity → m' ≡ (view_with_part w.sender (part_with_room w.receiver r (own w.sender m)) m.0, m.1))
+    × (sent_of w m ≢ r + w.capacity → m' ≡ (view_with_part w.sender (gaining w.receiver r (own w.sender m)) m.0, (slot_at w (sent_of w m), None) ∷ m.1))
     × KnowsGot m.0 w.sender w.receiver r
 
 -- the sender stores the tail word: the slot that it took last goes home with the parcel in it, which is sent by this
@@ -60,9 +60,9 @@ abbrev pub GivesFilled : Call → Me (Option Parcel) View → Me (Option Parcel)
 GivesFilled w m m' [] = Unit {0}
 GivesFilled w m m' ((k, None) ∷ cs) = Unit {0}
 GivesFilled w m m' ((k, Some x) ∷ cs) =
-    (m' ≡ (with_part w.sender (sending w.receiver x w.next (own w.sender m)) m.0, cs)) × Happened w.machines w.sender (own w.sender m).history (sent_act w.receiver x)
+    (m' ≡ (view_with_part w.sender (sending w.receiver x w.next (own w.sender m)) m.0, cs)) × Happened w.machines w.sender (own w.sender m).history (sent_act w.receiver x)
 
--- .. of the slots that the seat holds
+-- a store of the tail word, by a seat that holds these slots
 abbrev pub StoresTail : Call → Step (Option Parcel) → Me (Option Parcel) View → ℕ → Me (Option Parcel) View → Type 0
 StoresTail w st m r m' = GivesFilled w m m' m.1
 
@@ -70,8 +70,9 @@ StoresTail w st m r m' = GivesFilled w m m' m.1
 abbrev pub LoadsTail : Call → Step (Option Parcel) → Me (Option Parcel) View → ℕ → Me (Option Parcel) View → Type 0
 LoadsTail w st m r m' =
     (last_found w.sender (own w.receiver m).tails ≤ r) × (got_of w m ≤ r) × (r ≤ got_of w m + w.capacity)
-    × (got_of w m ≡ r → m' ≡ (with_part w.receiver (part_with_parcel w.sender r (own w.receiver m)) m.0, m.1))
-    × (got_of w m ≢ r → (x : Parcel) × HasFittingArm w.arms x × (m' ≡ (with_part w.receiver (taking w.sender x r (own w.receiver m)) m.0, (slot_at w (got_of w m), Some x) ∷ m.1)) × KnowsOldest m.0 w.sender w.receiver x)
+    × (got_of w m ≡ r → m' ≡ (view_with_part w.receiver (part_with_parcel w.sender r (own w.receiver m)) m.0, m.1))
+    × (got_of w m ≢ r → (x : Parcel) × HasFittingArm w.arms x × (m' ≡ (view_with_part w.receiver (taking w.sender x r (own w.receiver m)) m.0, (slot_at w (got_of w m), Some x) ∷ m.1))
+    × KnowsOldest m.0 w.sender w.receiver x)
     × KnowsSent m.0 w.sender w.receiver r
 
 -- the receiver stores the head word: the slot goes home empty, and the parcel is got by this
@@ -79,8 +80,8 @@ abbrev pub GivesEmptied : Call → Me (Option Parcel) View → Me (Option Parcel
 GivesEmptied w m m' Idle = Unit {0}
 GivesEmptied w m m' (Putting q) = Unit {0}
 GivesEmptied w m m' (Taking p x) =
-    (m' ≡ (with_part w.receiver (getting w.sender x w.next (own w.receiver m)) m.0, rest m.1)) × Happened w.machines w.receiver (own w.receiver m).history (got_act w.sender x)
+    (m' ≡ (view_with_part w.receiver (getting w.sender x w.next (own w.receiver m)) m.0, rest m.1)) × Happened w.machines w.receiver (own w.receiver m).history (got_act w.sender x)
 
--- .. which the receiver is in the middle of taking
+-- a store of the head word, by a receiver that is in the middle of a take
 abbrev pub StoresHead : Call → Step (Option Parcel) → Me (Option Parcel) View → ℕ → Me (Option Parcel) View → Type 0
 StoresHead w st m r m' = GivesEmptied w m m' (own w.receiver m).middle

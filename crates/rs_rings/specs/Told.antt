@@ -11,7 +11,8 @@ use Rattle.rs_core.specs.Safety.{AllEnded}
 use Rattle.rs_slots.specs.declared.parcels.Parcel.{Parcel}
 use Rattle.rs_rings.specs.Acts.{message_of, sent_act, got_act, parcels_sent, parcels_got, MayTake, Happened}
 use Rattle.rs_rings.specs.Steps.{HasFittingArm}
-use Rattle.rs_rings.specs.Views.{the_part, speaks, last_found, with_part, part_with_room, gaining, sending, part_with_parcel, taking, getting, history_in, parcels_under_way, KnowsGot, KnowsSent, KnowsOldest}
+use Rattle.rs_rings.specs.Views.{the_part, speaks, last_found, view_with_part, part_with_room, gaining, sending}
+use Rattle.rs_rings.specs.Views.{part_with_parcel, taking, getting, history_in, parcels_under_way, KnowsGot, KnowsSent, KnowsOldest}
 use Rattle.rs_rings.specs.declared.answers.Put.{Put}
 use Rattle.rs_rings.specs.declared.answers.Put.TheVariants as put
 use Rattle.rs_rings.specs.declared.answers.Looked.{Looked}
@@ -22,10 +23,10 @@ use Rattle.rs_rings.specs.declared.views.Part.{Part}
 use Rattle.rs_rings.specs.declared.views.View.{View}
 
 -- the arms of a state
-abbrev pub arms_in : State → List Arm
-arms_in Done = []
-arms_in (Puts q arms) = arms
-arms_in (Takes p arms) = arms
+abbrev pub arms_in_state : State → List Arm
+arms_in_state Done = []
+arms_in_state (Puts q arms) = arms
+arms_in_state (Takes p arms) = arms
 
 -- the state takes from p
 abbrev pub TakesFrom : Option State → ℕ → Type 0
@@ -53,7 +54,7 @@ HasPut machines next p q capacity sent x a v m (put.Full s n back) =
 abbrev pub HasLooked : List Arm → ℕ → ℕ → ℕ → ℕ → Part → View → Me (Option Parcel) View → Looked → Type 0
 HasLooked arms p q k got a v m (Nothing n) = (n ≡ got) × (last_found p a.tails ≤ n) × IsAfter q (part_with_parcel p n a) v m × KnowsSent v p q n
 HasLooked arms p q k got a v m (Found n x) =
-    (got ≢ n) × (last_found p a.tails ≤ n) × HasFittingArm arms x × (m ≡ (with_part q (taking p x n a) v, (k, None) ∷ [])) × KnowsSent v p q n × KnowsOldest v p q x
+    (got ≢ n) × (last_found p a.tails ≤ n) × HasFittingArm arms x × (m ≡ (view_with_part q (taking p x n a) v, (k, None) ∷ [])) × KnowsSent v p q n × KnowsOldest v p q x
 
 -- the whole take
 abbrev pub HasTaken : List Machine_data → ℕ → ℕ → ℕ → Part → View → Me (Option Parcel) View → Took → Type 0
@@ -62,9 +63,14 @@ HasTaken machines p q got a v m (took.One x next) =
     (n : ℕ) × (got ≢ n) × (last_found p a.tails ≤ n) × MayTake machines q p a.state x next × Happened machines q a.history (got_act p x) × IsAfter q (getting p x next (taking p x n a)) v m
     × KnowsSent v p q n × KnowsOldest v p q x
 
+-- q got the parcel from p, as the last step of a take, and the seat knows it
+pub record HasGiven (machines : List Machine_data) (q p : ℕ) (x : Parcel) (next : ℕ) (v : View) (m : Me (Option Parcel) View) : Type 0 where
+  pub happened : Happened machines q (the_part q v.parts).history (got_act p x)
+  pub after : IsAfter q (getting p x next (the_part q v.parts)) v m
+
 -- at the end: the histories in the last seat's view are legal, and lead to a configuration with the states in it and with
 -- queues of what was sent and not got
-pub record Ends (machines : List Machine_data) (roles : ℕ) (v : View) : Type 0 where
+pub record IsLegalEnd (machines : List Machine_data) (roles : ℕ) (v : View) : Type 0 where
   pub last : Configuration
   pub legal : IsLegal machines (history_in v) last
   pub states : (r : ℕ) → r < roles → last.at r ≡ (the_part r v.parts).state

@@ -45,15 +45,15 @@ the_part r (x ∷ xs) = if r == x.role then x else the_part r xs
 abbrev pub SpeaksFor : View → ℕ → Type 0
 SpeaksFor v r = speaks r v.parts ≡ true
 
--- .. its part
+-- the part of a role in a view
 abbrev pub part_of : View → ℕ → Part
 part_of v r = the_part r v.parts
 
--- .. the state in which its machine stands
+-- the state in which a role's machine stands, by a view
 abbrev pub state_in : View → ℕ → ℕ
 state_in v r = (the_part r v.parts).state
 
--- .. what it has done
+-- what a role has done, by a view
 abbrev pub history_in : View → ℕ → History
 history_in v r = (the_part r v.parts).history
 
@@ -69,7 +69,7 @@ KnowsGot v p q n = SpeaksFor v q → n ≡ length (parcels_got p (history_in v q
 abbrev pub KnowsSent : View → ℕ → ℕ → ℕ → Type 0
 KnowsSent v p q n = SpeaksFor v p → n ≡ length (parcels_sent q (history_in v p))
 
--- .. and that x is the oldest of them that q hasn't got
+-- a view that speaks for the sender too knows that x is the oldest parcel that q hasn't got
 abbrev pub KnowsOldest : View → ℕ → ℕ → Parcel → Type 0
 KnowsOldest v p q x = SpeaksFor v p → parcels_under_way v p q ≡ x ∷ drop (suc (length (parcels_got p (history_in v q)))) (parcels_sent q (history_in v p))
 
@@ -78,20 +78,20 @@ abbrev pub put_part : ℕ → Part → List Part → List Part
 put_part r y [] = []
 put_part r y (x ∷ xs) = if r == x.role then y ∷ xs else x ∷ put_part r y xs
 
--- .. of the whole view
-abbrev pub with_part : ℕ → Part → View → View
-with_part r y v = record { parts = put_part r y v.parts }
+-- the whole view with y in place of the part of role r
+abbrev pub view_with_part : ℕ → Part → View → View
+view_with_part r y v = record { parts = put_part r y v.parts }
 
 -- the part of a sender that has read n in the head word of its ring to q and found the ring full; that has read it, found
 -- room and gained a slot; and that has then sent the parcel and stands in the state `next`
 abbrev pub part_with_room : ℕ → ℕ → Part → Part
 part_with_room q n a = record { role = a.role; state = a.state; history = a.history; heads = record { peer = q; found = n } ∷ a.heads; tails = a.tails; middle = a.middle }
 
--- .. that has found room and gained a slot
+-- the part of a sender that has read n, found room and gained a slot
 abbrev pub gaining : ℕ → ℕ → Part → Part
 gaining q n a = record { role = a.role; state = a.state; history = a.history; heads = record { peer = q; found = n } ∷ a.heads; tails = a.tails; middle = Putting q }
 
--- .. that has sent the parcel
+-- the part of a sender that has sent the parcel and stands in the state `next`
 abbrev pub sending : ℕ → Parcel → ℕ → Part → Part
 sending q x next a = record { role = a.role; state = next; history = a.history ++ sent_act q x ∷ []; heads = a.heads; tails = a.tails; middle = Idle }
 
@@ -100,11 +100,11 @@ sending q x next a = record { role = a.role; state = next; history = a.history +
 abbrev pub part_with_parcel : ℕ → ℕ → Part → Part
 part_with_parcel p n a = record { role = a.role; state = a.state; history = a.history; heads = a.heads; tails = record { peer = p; found = n } ∷ a.tails; middle = a.middle }
 
--- .. that has gained the slot with the parcel
+-- the part of a receiver that has read n and gained the slot with the parcel
 abbrev pub taking : ℕ → Parcel → ℕ → Part → Part
 taking p x n a = record { role = a.role; state = a.state; history = a.history; heads = a.heads; tails = record { peer = p; found = n } ∷ a.tails; middle = Taking p x }
 
--- .. that has got the parcel
+-- the part of a receiver that has got the parcel and stands in the state `next`
 abbrev pub getting : ℕ → Parcel → ℕ → Part → Part
 getting p x next a = record { role = a.role; state = next; history = a.history ++ got_act p x ∷ []; heads = a.heads; tails = a.tails; middle = Idle }
 
@@ -127,13 +127,13 @@ abbrev pub starting : List Machine_data → View
 starting machines = record { parts = first_parts machines (length machines) }
 
 -- a view that has given up role r, and the new view that speaks for r alone
-abbrev pub without : ℕ → List Part → List Part
-without r [] = []
-without r (x ∷ xs) = if r == x.role then without r xs else x ∷ without r xs
+abbrev pub parts_without : ℕ → List Part → List Part
+parts_without r [] = []
+parts_without r (x ∷ xs) = if r == x.role then parts_without r xs else x ∷ parts_without r xs
 
 -- the view that has given up role r
 abbrev pub view_without_role : ℕ → View → View
-view_without_role r v = record { parts = without r v.parts }
+view_without_role r v = record { parts = parts_without r v.parts }
 
 -- the new view, which speaks for r alone
 abbrev pub alone : ℕ → View → View

@@ -1,11 +1,12 @@
-// Puts and takes by a seat and the rows beside it. A run spends its time in them, so they are compiled into their callers,
-// with the calls above and below them.
-ghost use Rattle.std.specs.Prelude.{◌≡◌, ◌<◌, ◌^◌, true, length};
+//! Puts and takes by a seat and the rows beside it. A run spends its time in them, so they are compiled into their callers,
+//! with the calls above and below them.
+ghost use Rattle.std.specs.Prelude.{◌≡◌};
 ghost use Rattle.rs_core.specs.Choices.{AreWellFormed};
+ghost use Rattle.rs_rings.specs.Asked.{MayAct};
 ghost use Rattle.rs_rings.specs.Passes.{CanPut, CanTake, PutTells, TakeTells};
 ghost use Rattle.rs_rings.specs.Rows.{IsBetweenCalls};
-ghost use Rattle.rs_rings.specs.Rule.{machines_of};
-ghost use Rattle.rs_rings.specs.Views.{speaks, the_part};
+ghost use Rattle.rs_rings.specs.Rule.{machines_in_key};
+ghost use Rattle.rs_rings.specs.Views.{the_part};
 
 use crate::answers::{Got, Put, Took};
 use crate::rows::Rows;
@@ -24,14 +25,12 @@ impl RingTable {
         parcel: Parcel,
     ) -> Put
         requires table { seat.old.table_id ≡ self.now.board.shared.table_id }
-        requires well_formed { AreWellFormed (machines_of self.now.board.shared.key) }
-        requires kept { IsBetweenCalls seat.old.me rows.old.items }
-        requires speaks { speaks sender.0 seat.old.me.0.parts ≡ true }
-        requires can { CanPut (machines_of self.now.board.shared.key) sender.0 receiver (the_part sender.0 seat.old.me.0.parts).state parcel }
-        requires acts { length (the_part sender.0 seat.old.me.0.parts).history < 2 ^ 63 }
+        requires well_formed { AreWellFormed (machines_in_key self.now.board.shared.key) }
+        requires may { MayAct sender.0 seat.old.me rows.old.items }
+        requires can { CanPut (machines_in_key self.now.board.shared.key) sender.0 receiver (the_part sender.0 seat.old.me.0.parts).state parcel }
         ensures table { seat.new.table_id ≡ seat.old.table_id }
         ensures kept { IsBetweenCalls seat.new.me rows.new.items }
-        ensures told { PutTells (machines_of self.now.board.shared.key) self.now.layout.capacity sender.0 receiver.0 parcel seat.old.me.0 seat.new.me.0 result }
+        ensures told { PutTells (machines_in_key self.now.board.shared.key) self.now.layout.capacity sender.0 receiver.0 parcel seat.old.me.0 seat.new.me.0 result }
     {
         let counts = rows.counts(sender, receiver);
         let arms = self.arms_of(sender, counts.state);
@@ -56,14 +55,12 @@ impl RingTable {
     #[inline(always)]
     pub fn take(&self, seat: &mut RingSeat, rows: &mut Rows, receiver: Role, sender: Role) -> Got
         requires table { seat.old.table_id ≡ self.now.board.shared.table_id }
-        requires well_formed { AreWellFormed (machines_of self.now.board.shared.key) }
-        requires kept { IsBetweenCalls seat.old.me rows.old.items }
-        requires speaks { speaks receiver.0 seat.old.me.0.parts ≡ true }
-        requires can { CanTake (machines_of self.now.board.shared.key) receiver.0 sender (the_part receiver.0 seat.old.me.0.parts).state }
-        requires acts { length (the_part receiver.0 seat.old.me.0.parts).history < 2 ^ 63 }
+        requires well_formed { AreWellFormed (machines_in_key self.now.board.shared.key) }
+        requires may { MayAct receiver.0 seat.old.me rows.old.items }
+        requires can { CanTake (machines_in_key self.now.board.shared.key) receiver.0 sender (the_part receiver.0 seat.old.me.0.parts).state }
         ensures table { seat.new.table_id ≡ seat.old.table_id }
         ensures kept { IsBetweenCalls seat.new.me rows.new.items }
-        ensures told { TakeTells (machines_of self.now.board.shared.key) receiver.0 sender.0 seat.old.me.0 seat.new.me.0 result }
+        ensures told { TakeTells (machines_in_key self.now.board.shared.key) receiver.0 sender.0 seat.old.me.0 seat.new.me.0 result }
     {
         let counts = rows.counts(receiver, sender);
         match self.look_take(seat, receiver, sender, counts.state, counts.got) {

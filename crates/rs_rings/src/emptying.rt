@@ -1,15 +1,12 @@
-// What the slots of a closed table hold is taken out.
+//! What the slots of a closed table hold is taken out.
 ghost use Rattle.std.specs.Prelude.{◌≡◌, ◌⊎◌, ℕ, ◌+◌, ◌-◌, ◌*◌, ◌^◌, ◌<◌, ◌≤◌, List, [], ◌++◌, true, false, length, map, slice_get, slice_index_or, vec_len, vec_capacity};
 ghost use Rattle.rs_model.specs.declared.limits.TheConstants.{MOST_ROLES};
-ghost use Rattle.rs_model.specs.Limits.{IsCapacity};
 ghost use Rattle.std.specs.Mem.Slots.{slots_items, slots_filled, slots_len};
 ghost use Rattle.std.specs.Mem.Slots.Ownership.{Filled};
 ghost use Rattle.rs_slots.specs.Places.{ring_count, slot_of};
 ghost use Rattle.rs_slots.specs.declared.parcels.Parcel.{Parcel};
 ghost use Rattle.rs_rings.specs.Closed.{loose_from, loose_in, sender_of, receiver_of};
-ghost use Rattle.rs_rings.specs.Emptied.{content_of, loose_in_slots, Emptied, RingHolds, AllHold};
-ghost use Rattle.rs_rings.specs.Rows.{IsBetweenCalls};
-ghost use Rattle.rs_rings.specs.Views.{speaks};
+ghost use Rattle.rs_rings.specs.Emptied.{content_of, loose_in_slots, AllHold, AreEmpty, AreFull, AreSizes, IsLastView, OnlyEmptied, RingHolds, TakesRoom};
 
 use crate::loose::Loose;
 use crate::rows::Rows;
@@ -34,11 +31,9 @@ pub fn empty_slots(
     requires full { Filled (slots_filled closed.old.slots) from to }
     requires room { vec_len loose.old + (to - from) ≤ vec_capacity loose.old }
     ensures loose { loose.new.items ≡ loose.old.items ++ loose_in_slots (slots_items closed.old.slots) sender.0 receiver.0 from (to - from) }
-    ensures length { vec_len loose.new ≤ vec_len loose.old + (to - from) }
-    ensures capacity { vec_capacity loose.old ≤ vec_capacity loose.new }
-    ensures emptied { Emptied (slots_filled closed.old.slots) (slots_filled closed.new.slots) from to }
-    ensures items { slots_items closed.new.slots ≡ slots_items closed.old.slots }
-    ensures slots { slots_len closed.new.slots ≡ slots_len closed.old.slots }
+    ensures room { TakesRoom (to - from) (vec_len loose.old) (vec_len loose.new) (vec_capacity loose.old) (vec_capacity loose.new) }
+    ensures slots { OnlyEmptied (slots_items closed.old.slots) (slots_items closed.new.slots) (slots_len closed.old.slots) (slots_len closed.new.slots) (slots_filled closed.old.slots)
+        (slots_filled closed.new.slots) from to }
 {
     for i in from..to {
         let content = closed.take(i);
@@ -79,11 +74,9 @@ fn empty_ring(
     requires full { Filled (slots_filled closed.old.slots) base (base + capacity) }
     requires room { vec_len loose.old + capacity ≤ vec_capacity loose.old }
     ensures loose { (left : List Parcel) → RingHolds (slots_items closed.old.slots) capacity base got left → loose.new.items ≡ loose.old.items ++ map (loose_from sender.0 receiver.0) left }
-    ensures length { vec_len loose.new ≤ vec_len loose.old + capacity }
-    ensures capacity { vec_capacity loose.old ≤ vec_capacity loose.new }
-    ensures emptied { Emptied (slots_filled closed.old.slots) (slots_filled closed.new.slots) base (base + capacity) }
-    ensures items { slots_items closed.new.slots ≡ slots_items closed.old.slots }
-    ensures slots { slots_len closed.new.slots ≡ slots_len closed.old.slots }
+    ensures room { TakesRoom capacity (vec_len loose.old) (vec_len loose.new) (vec_capacity loose.old) (vec_capacity loose.new) }
+    ensures slots { OnlyEmptied (slots_items closed.old.slots) (slots_items closed.new.slots) (slots_len closed.old.slots) (slots_len closed.new.slots) (slots_filled closed.old.slots)
+        (slots_filled closed.new.slots) base (base + capacity) }
 {
     let first = (got % capacity as u64) as usize;
     empty_slots(
@@ -100,7 +93,7 @@ fn empty_ring(
 /// The sender and the receiver of a ring, by its number.
 fn ends_of(roles: usize, ring: usize) -> (Role, Role)
     requires roles { (2 ≤ roles) × (roles ≤ MOST_ROLES) }
-    requires there { ring < ring_count roles }
+    requires present { ring < ring_count roles }
     ensures { (result.0.0 ≡ sender_of roles ring) × (result.1.0 ≡ receiver_of roles ring) }
 {
     let sender = ring / (roles - 1);
@@ -119,18 +112,14 @@ pub fn empty_all(
     rows: &Rows,
     loose: &mut Vec<Loose>,
 )
-    requires roles { (2 ≤ roles) × (roles ≤ MOST_ROLES) }
-    requires roomy { IsCapacity capacity }
-    requires slots { slots_len closed.old.slots ≡ ring_count roles * capacity }
-    requires full { Filled (slots_filled closed.old.slots) 0 (ring_count roles * capacity) }
+    requires sizes { AreSizes roles capacity }
+    requires slots { AreFull (slots_filled closed.old.slots) (slots_len closed.old.slots) (ring_count roles * capacity) }
     requires room { vec_len loose.old + ring_count roles * capacity ≤ vec_capacity loose.old }
     requires none { loose.old.items ≡ [] }
-    requires all { (r : ℕ) → r < roles → speaks r last.now.view.parts ≡ true }
-    requires kept { IsBetweenCalls (last.now.view, []) rows.now.items }
+    requires last { IsLastView last.now.view rows.now.items roles }
     requires holds { AllHold (slots_items closed.old.slots) roles capacity last.now.view }
     ensures loose { loose.new.items ≡ loose_in last.now.view roles (ring_count roles) }
-    ensures empty { (k : ℕ) → k < ring_count roles * capacity → slice_index_or (slots_filled closed.new.slots) k false ≡ false }
-    ensures slots { slots_len closed.new.slots ≡ slots_len closed.old.slots }
+    ensures empty { AreEmpty (slots_filled closed.new.slots) (slots_len closed.new.slots) (ring_count roles * capacity) }
 {
     for ring in 0..roles * (roles - 1) {
         let (sender, receiver) = ends_of(roles, ring);

@@ -7,7 +7,7 @@ ghost use Rattle.rs_slots.specs.Places.{IsPair};
 ghost use Rattle.rs_slots.specs.declared.parcels.Parcel.{Parcel};
 ghost use Rattle.rs_core.specs.Choices.{AreWellFormed};
 ghost use Rattle.rs_rings.specs.Acts.{MayPut, MayTake, SendsParcel, ReceivesParcel};
-ghost use Rattle.rs_rings.specs.Rule.{RingsShow, machines_of};
+ghost use Rattle.rs_rings.specs.Rule.{RingsShow, machines_in_key};
 ghost use Rattle.rs_rings.specs.Shown.{Shown, IsSameAmong, LoadsHeadOf, StoresTailOf, LoadsTailOf, StoresHeadOf, SplitsOff, JoinsIn};
 ghost use Rattle.rs_rings.specs.Views.{SpeaksFor, speaks, part_of, first_part, starting, view_without_role, alone, joint_view};
 ghost use Rattle.rs_rings.specs.declared.views.Key.{Key};
@@ -21,10 +21,14 @@ pub fn a_table_shows_one_configuration()
 
 /// A store of a tail word is one send, and a store of a head word one receive. No other step changes what the table shows.
 pub fn stores_are_events()
-    ensures tail { (key : Key) (s t : State (Option Parcel) View) (c : Configuration) (p q : ℕ) (x : Parcel) → RingsShow key s → RingsShow key t → Shown key s c → IsPair key.roles p q → StoresTailOf key s t p q x → (d : Configuration) × Shown key t d × SendsParcel (machines_of key) c p q x d }
-    ensures head { (key : Key) (s t : State (Option Parcel) View) (c : Configuration) (p q : ℕ) (x : Parcel) → RingsShow key s → RingsShow key t → Shown key s c → IsPair key.roles p q → StoresHeadOf key s t p q x → (d : Configuration) × Shown key t d × ReceivesParcel (machines_of key) c q p x d }
-    ensures loaded_head { (key : Key) (s t : State (Option Parcel) View) (c : Configuration) (p q : ℕ) → RingsShow key s → RingsShow key t → Shown key s c → IsPair key.roles p q → LoadsHeadOf key s t p q → Shown key t c }
-    ensures loaded_tail { (key : Key) (s t : State (Option Parcel) View) (c : Configuration) (p q : ℕ) → RingsShow key s → RingsShow key t → Shown key s c → IsPair key.roles p q → LoadsTailOf key s t p q → Shown key t c }
+    ensures tail { (key : Key) (s t : State (Option Parcel) View) (c : Configuration) (p q : ℕ) (x : Parcel) → RingsShow key s → RingsShow key t → Shown key s c → IsPair key.roles p q
+        → StoresTailOf key s t p q x → (d : Configuration) × Shown key t d × SendsParcel (machines_in_key key) c p q x d }
+    ensures head { (key : Key) (s t : State (Option Parcel) View) (c : Configuration) (p q : ℕ) (x : Parcel) → RingsShow key s → RingsShow key t → Shown key s c → IsPair key.roles p q
+        → StoresHeadOf key s t p q x → (d : Configuration) × Shown key t d × ReceivesParcel (machines_in_key key) c q p x d }
+    ensures loaded_head { (key : Key) (s t : State (Option Parcel) View) (c : Configuration) (p q : ℕ) → RingsShow key s → RingsShow key t → Shown key s c → IsPair key.roles p q
+        → LoadsHeadOf key s t p q → Shown key t c }
+    ensures loaded_tail { (key : Key) (s t : State (Option Parcel) View) (c : Configuration) (p q : ℕ) → RingsShow key s → RingsShow key t → Shown key s c → IsPair key.roles p q
+        → LoadsTailOf key s t p q → Shown key t c }
     ensures split { (key : Key) (s t : State (Option Parcel) View) (c : Configuration) (r : ℕ) → RingsShow key s → RingsShow key t → Shown key s c → SplitsOff s t r → Shown key t c }
     ensures joined { (key : Key) (s t : State (Option Parcel) View) (c : Configuration) → RingsShow key s → RingsShow key t → Shown key s c → JoinsIn s t → Shown key t c }
 {}

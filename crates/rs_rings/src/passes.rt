@@ -1,3 +1,4 @@
+//! The right to act for roles: a seat of the table with the counts beside it.
 use crate::rows::Rows;
 use crate::tables::RingSeat;
 use std::marker::Model;

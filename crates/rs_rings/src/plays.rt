@@ -1,4 +1,4 @@
-// The rule of the table, and its kinds of step.
+//! The rule of the table, and its kinds of step.
 use crate::views::{Key, View};
 use atomic_table::{Join, Play, Split, TableRule};
 use rs_slots::Parcel;

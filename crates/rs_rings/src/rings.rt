@@ -1,3 +1,4 @@
+//! The rings as their users see them: begin, split and join passes, put, take, and three ways to end.
 ghost use Rattle.std.specs.Prelude.{◌≡◌, ◌<◌, ◌≤◌, ◌^◌, ◌*◌, [], vec_capacity, ℕ, Some, length, slice_get, IfOk};
 ghost use Rattle.rs_model.specs.declared.limits.TheConstants.{MOST_ROLES};
 ghost use Rattle.rs_model.specs.Limits.{IsCapacity};
@@ -16,7 +17,7 @@ use crate::loose::Loose;
 use crate::passes::Pass;
 use crate::rows::Rows;
 use crate::tables::RingTable;
-use rs_model::{Machine, NoMemory, Role};
+use rs_model::{Machine, NoMemory, Role, copies_of};
 use rs_slots::Parcel;
 use std::alloc::Global;
 use std::marker::Model;
@@ -31,13 +32,13 @@ pub struct Rings {
 impl Model for Rings {
     ghost use Rattle.rs_core.specs.Choices.{AreWellFormed};
     ghost use Rattle.rs_rings.specs.Passes.{Rings_data};
-    ghost use Rattle.rs_rings.specs.Rule.{machines_of};
+    ghost use Rattle.rs_rings.specs.Rule.{machines_in_key};
 
     ghost Value = { Rings_data };
 
-    ghost view = { λ r. record { table = r.inner.board.shared.table_id; roles = r.inner.layout.roles; capacity = r.inner.layout.capacity; machines = machines_of r.inner.board.shared.key } };
+    ghost view = { λ r. record { table = r.inner.board.shared.table_id; roles = r.inner.layout.roles; capacity = r.inner.layout.capacity; machines = machines_in_key r.inner.board.shared.key } };
 
-    ghost invariant = { λ r. AreWellFormed (machines_of r.inner.board.shared.key) };
+    ghost invariant = { λ r. AreWellFormed (machines_in_key r.inner.board.shared.key) };
 }
 
 impl Rings {
@@ -177,14 +178,4 @@ impl Rings {
         let closed = inner.close_left(seat, &rows, &mut loose);
         (closed, loose)
     }
-}
-
-fn copies_of(alloc: Global, machines: &[Machine]) -> Result<Vec<Machine>, NoMemory>
-    ensures { IfOk result (λ v. v.items ≡ machines.now) }
-{
-    let mut copies = Vec::with_capacity(alloc, machines.len())?;
-    for machine in machines {
-        copies.push(machine.copy(alloc)?)?;
-    }
-    Ok(copies)
 }

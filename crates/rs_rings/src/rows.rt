@@ -1,4 +1,4 @@
-// What a pass keeps at run time of each role that it speaks for, so that no call loads a word that its own role stores.
+//! What a pass keeps at run time of each role that it speaks for, so that no call loads a word that its own role stores.
 ghost use Rattle.std.specs.Prelude.{◌≡◌, ℕ, ◌+◌, ◌==◌, ◌<◌, ◌≤◌, ◌^◌, List, Option, None, Some, slice_get, slice_set, slice_index_or, replicate, length, IfOk, OnOk, ◌≢◌, if◌then◌else◌};
 ghost use Rattle.rs_model.specs.declared.limits.TheConstants.{MOST_ROLES};
 ghost use Rattle.rs_rings.specs.Rows.{row_at, with_sent_count, with_got_count, row_at_start, new_row, either_row};
@@ -82,7 +82,7 @@ impl Rows {
 
     /// The role's state, and how much it has sent to the peer and got from it.
     pub fn counts(&self, role: Role, peer: Role) -> Counts
-        requires there { (role.0 < MOST_ROLES) × (peer.0 < MOST_ROLES) }
+        requires present { (role.0 < MOST_ROLES) × (peer.0 < MOST_ROLES) }
         requires row { (r : Row) × (row_at self.now.items role.0 ≡ Some r) }
         ensures { (r : Row) → row_at self.now.items role.0 ≡ Some r → (result.state ≡ r.state) × (slice_get r.sent peer.0 ≡ Some result.sent) × (slice_get r.got peer.0 ≡ Some result.got) }
     {
@@ -98,7 +98,7 @@ impl Rows {
 
     /// Notes that the role has sent to the peer, and its next state.
     pub fn note_sent(&mut self, role: Role, peer: Role, sent: u64, next: u32)
-        requires there { (role.0 < MOST_ROLES) × (peer.0 < MOST_ROLES) }
+        requires present { (role.0 < MOST_ROLES) × (peer.0 < MOST_ROLES) }
         ensures { (i : ℕ) → row_at self.new.items i ≡ (if i == role.0 then with_sent_count peer.0 sent next (row_at self.old.items i) else row_at self.old.items i) }
     {
         if let Some(row) = &mut self.items[role.0 as usize] {
@@ -109,7 +109,7 @@ impl Rows {
 
     /// Notes that the role has got from the peer, and its next state.
     pub fn note_got(&mut self, role: Role, peer: Role, got: u64, next: u32)
-        requires there { (role.0 < MOST_ROLES) × (peer.0 < MOST_ROLES) }
+        requires present { (role.0 < MOST_ROLES) × (peer.0 < MOST_ROLES) }
         ensures { (i : ℕ) → row_at self.new.items i ≡ (if i == role.0 then with_got_count peer.0 got next (row_at self.old.items i) else row_at self.old.items i) }
     {
         if let Some(row) = &mut self.items[role.0 as usize] {

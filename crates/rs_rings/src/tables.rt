@@ -1,5 +1,5 @@
-// The table and its steps. What a call has to know of its roles without a load, their states and counts, the caller keeps.
-ghost use Rattle.std.specs.Prelude.{◌≡◌, ℕ, ◌+◌, ◌*◌, ◌<◌, ◌≤◌, List, [], ◌∷◌, slice_get, vec_len, vec_capacity, IsSome, IfSome, IfOk, true, length, ◌^◌, ◌≢◌, Some, None};
+//! The table and its steps. What a call has to know of its roles without a load, their states and counts, the caller keeps.
+ghost use Rattle.std.specs.Prelude.{◌≡◌, ℕ, ◌+◌, ◌*◌, ◌<◌, ◌≤◌, [], slice_get, vec_len, vec_capacity, IsSome, IfSome, IfOk, true, length, Some};
 ghost use Rattle.rs_model.specs.declared.limits.TheConstants.{MOST_ROLES};
 ghost use Rattle.rs_model.specs.Limits.{IsCapacity};
 ghost use Rattle.rs_core.specs.Choices.{AreWellFormed};
@@ -7,16 +7,15 @@ ghost use Rattle.rs_core.specs.Configurations.{state_of};
 ghost use Rattle.rs_core.specs.Core.{arm_with};
 ghost use Rattle.rs_core.specs.Safety.{IsSafe};
 ghost use Rattle.rs_model.specs.declared.machines.State.TheVariants.{Takes};
-ghost use Rattle.rs_slots.specs.Places.{ring_count};
-ghost use Rattle.rs_rings.specs.Acts.{Happened, MayPut, MayTake, sent_act, got_act, parcels_sent, parcels_got};
-ghost use Rattle.rs_rings.specs.Closed.{loose_in};
-ghost use Rattle.rs_rings.specs.Places.{head_word_of, tail_of, place_of};
+ghost use Rattle.rs_slots.specs.Places.{IsPair, ring_count};
+ghost use Rattle.rs_rings.specs.Acts.{MayPut, MayTake, parcels_sent, parcels_got};
+ghost use Rattle.rs_rings.specs.Asked.{IsActCall, IsCountOf, IsIdleAt, IsLookCall, IsTakingAt};
+ghost use Rattle.rs_rings.specs.Closed.{IsClosedAs, loose_in};
+ghost use Rattle.rs_rings.specs.Places.{head_word_of, tail_of, slot_place};
 ghost use Rattle.rs_rings.specs.Rows.{IsBetweenCalls};
-ghost use Rattle.rs_rings.specs.Rule.{machines_of, first_view};
-ghost use Rattle.rs_rings.specs.Steps.{HasFittingArm};
-ghost use Rattle.rs_rings.specs.Told.{arms_in, TakesFrom, Ends, HasPut, HasLooked, HasTaken, IsAfter};
-ghost use Rattle.rs_rings.specs.Views.{the_part, speaks, view_without_role, alone, joint_view, with_part, getting};
-ghost use Rattle.rs_rings.specs.declared.views.Middle.TheVariants.{Idle, Taking};
+ghost use Rattle.rs_rings.specs.Rule.{machines_in_key, first_view};
+ghost use Rattle.rs_rings.specs.Told.{arms_in_state, TakesFrom, IsLegalEnd, HasGiven, HasPut, HasLooked, HasTaken};
+ghost use Rattle.rs_rings.specs.Views.{the_part, speaks, view_without_role, alone, joint_view};
 
 use crate::answers::{Looked, Put, Took};
 use crate::closed::Closed;
@@ -46,7 +45,7 @@ pub struct RingTable {
     pub capacity: u16,
     pub machines: Vec<Machine>,
     pub ghost keyed: { (board.shared.key.roles ≡ layout.roles) × (board.shared.key.capacity ≡ layout.capacity) },
-    pub ghost same: { machines_of board.shared.key ≡ machines.items },
+    pub ghost same: { machines_in_key board.shared.key ≡ machines.items },
     pub ghost sized: { layout.capacity ≡ capacity },
     pub ghost wide: { board.shared.table_id.words ≡ 2 * ring_count layout.roles },
     pub ghost machine_count: { length machines.items ≡ layout.roles },
@@ -64,7 +63,7 @@ impl RingTable {
         requires well_formed { AreWellFormed machines.items }
         ensures table { IfOk result (λ t. t.1.table_id ≡ t.0.board.shared.table_id) }
         ensures first { IfOk result (λ t. t.1.me ≡ (first_view t.0.board.shared.key, [])) }
-        ensures key { IfOk result (λ t. (t.0.layout.roles ≡ vec_len machines) × (t.0.layout.capacity ≡ capacity) × (machines_of t.0.board.shared.key ≡ machines.items)) }
+        ensures key { IfOk result (λ t. (t.0.layout.roles ≡ vec_len machines) × (t.0.layout.capacity ≡ capacity) × (machines_in_key t.0.board.shared.key ≡ machines.items)) }
     {
         let roles = machines.len() as u8;
         let layout = Layout::new(roles, capacity);
@@ -92,7 +91,7 @@ impl RingTable {
     }
 
     fn head_word(&self, sender: Role, receiver: Role) -> usize
-        requires ring { (sender.0 < self.now.layout.roles) × (receiver.0 < self.now.layout.roles) × (sender.0 ≢ receiver.0) }
+        requires pair { IsPair self.now.layout.roles sender.0 receiver.0 }
         ensures value { result ≡ head_word_of self.now.layout.roles sender.0 receiver.0 }
         ensures below { result < self.now.board.shared.table_id.words }
     {
@@ -100,7 +99,7 @@ impl RingTable {
     }
 
     fn tail_word(&self, sender: Role, receiver: Role) -> usize
-        requires ring { (sender.0 < self.now.layout.roles) × (receiver.0 < self.now.layout.roles) × (sender.0 ≢ receiver.0) }
+        requires pair { IsPair self.now.layout.roles sender.0 receiver.0 }
         ensures value { result ≡ tail_of self.now.layout.roles sender.0 receiver.0 }
         ensures below { result < self.now.board.shared.table_id.words }
     {
@@ -108,8 +107,8 @@ impl RingTable {
     }
 
     fn slot(&self, sender: Role, receiver: Role, count: u64) -> usize
-        requires ring { (sender.0 < self.now.layout.roles) × (receiver.0 < self.now.layout.roles) × (sender.0 ≢ receiver.0) }
-        ensures value { result ≡ place_of self.now.layout.roles self.now.layout.capacity sender.0 receiver.0 count }
+        requires pair { IsPair self.now.layout.roles sender.0 receiver.0 }
+        ensures value { result ≡ slot_place self.now.layout.roles self.now.layout.capacity sender.0 receiver.0 count }
     {
         self.layout.slot(self.layout.ring(sender, receiver), count)
     }
@@ -127,16 +126,14 @@ impl RingTable {
         next: u32,
     ) -> Put
         requires table { seat.old.table_id ≡ self.now.board.shared.table_id }
-        requires ring { (sender.0 < self.now.layout.roles) × (receiver.0 < self.now.layout.roles) × (sender.0 ≢ receiver.0) }
-        requires speaks { speaks sender.0 seat.old.me.0.parts ≡ true }
-        requires idle { ((the_part sender.0 seat.old.me.0.parts).middle ≡ Idle) × (seat.old.me.1 ≡ []) }
-        requires may { MayPut (machines_of self.now.board.shared.key) sender.0 receiver.0 (the_part sender.0 seat.old.me.0.parts).state parcel N.call.next }
-        requires sent { sent ≡ length (parcels_sent receiver.0 (the_part sender.0 seat.old.me.0.parts).history) }
-        requires acts { sent < 2 ^ 63 }
-        requires next { N.call.next ≡ next }
-        requires name { (N.call.roles ≡ self.now.layout.roles) × (N.call.capacity ≡ self.now.layout.capacity) × (N.call.sender ≡ sender.0) × (N.call.receiver ≡ receiver.0) × (N.call.machines ≡ machines_of self.now.board.shared.key) }
+        requires pair { IsPair self.now.layout.roles sender.0 receiver.0 }
+        requires idle { IsIdleAt sender.0 seat.old.me }
+        requires may { MayPut (machines_in_key self.now.board.shared.key) sender.0 receiver.0 (the_part sender.0 seat.old.me.0.parts).state parcel N.call.next }
+        requires sent { IsCountOf sent (parcels_sent receiver.0 (the_part sender.0 seat.old.me.0.parts).history) }
+        requires call { IsActCall N.call self.now.layout.roles self.now.layout.capacity sender.0 receiver.0 (machines_in_key self.now.board.shared.key) next }
         ensures table { seat.new.table_id ≡ seat.old.table_id }
-        ensures done { HasPut (machines_of self.now.board.shared.key) N.call.next sender.0 receiver.0 self.now.layout.capacity sent parcel (the_part sender.0 seat.old.me.0.parts) seat.old.me.0 seat.new.me result }
+        ensures done { HasPut (machines_in_key self.now.board.shared.key) N.call.next sender.0 receiver.0 self.now.layout.capacity sent parcel
+            (the_part sender.0 seat.old.me.0.parts) seat.old.me.0 seat.new.me result }
     {
         let taken = self
             .board
@@ -174,15 +171,14 @@ impl RingTable {
         arms: &[Arm],
     ) -> Looked
         requires table { seat.old.table_id ≡ self.now.board.shared.table_id }
-        requires ring { (sender.0 < self.now.layout.roles) × (receiver.0 < self.now.layout.roles) × (sender.0 ≢ receiver.0) }
-        requires speaks { speaks receiver.0 seat.old.me.0.parts ≡ true }
-        requires idle { ((the_part receiver.0 seat.old.me.0.parts).middle ≡ Idle) × (seat.old.me.1 ≡ []) }
-        requires stands { state_of (slice_get (machines_of self.now.board.shared.key) receiver.0) (the_part receiver.0 seat.old.me.0.parts).state ≡ Some (Takes sender N.call.arms) }
+        requires pair { IsPair self.now.layout.roles sender.0 receiver.0 }
+        requires idle { IsIdleAt receiver.0 seat.old.me }
+        requires stands { state_of (slice_get (machines_in_key self.now.board.shared.key) receiver.0) (the_part receiver.0 seat.old.me.0.parts).state ≡ Some (Takes sender N.call.arms) }
         requires got { got ≡ length (parcels_got sender.0 (the_part receiver.0 seat.old.me.0.parts).history) }
-        requires arms { N.call.arms ≡ arms.now }
-        requires name { (N.call.roles ≡ self.now.layout.roles) × (N.call.capacity ≡ self.now.layout.capacity) × (N.call.sender ≡ sender.0) × (N.call.receiver ≡ receiver.0) × (N.call.machines ≡ machines_of self.now.board.shared.key) }
+        requires call { IsLookCall N.call self.now.layout.roles self.now.layout.capacity sender.0 receiver.0 (machines_in_key self.now.board.shared.key) arms.now }
         ensures table { seat.new.table_id ≡ seat.old.table_id }
-        ensures looked { HasLooked N.call.arms sender.0 receiver.0 (place_of self.now.layout.roles self.now.layout.capacity sender.0 receiver.0 got) got (the_part receiver.0 seat.old.me.0.parts) seat.old.me.0 seat.new.me result }
+        ensures looked { HasLooked N.call.arms sender.0 receiver.0 (slot_place self.now.layout.roles self.now.layout.capacity sender.0 receiver.0 got) got
+            (the_part receiver.0 seat.old.me.0.parts) seat.old.me.0 seat.new.me result }
     {
         let seen = self
             .board
@@ -213,17 +209,13 @@ impl RingTable {
         next: u32,
     )
         requires table { seat.old.table_id ≡ self.now.board.shared.table_id }
-        requires ring { (sender.0 < self.now.layout.roles) × (receiver.0 < self.now.layout.roles) × (sender.0 ≢ receiver.0) }
-        requires speaks { speaks receiver.0 seat.old.me.0.parts ≡ true }
-        requires middle { ((the_part receiver.0 seat.old.me.0.parts).middle ≡ Taking sender.0 parcel.now) × (seat.old.me.1 ≡ (place_of self.now.layout.roles self.now.layout.capacity sender.0 receiver.0 got, None) ∷ []) }
-        requires may { MayTake (machines_of self.now.board.shared.key) receiver.0 sender.0 (the_part receiver.0 seat.old.me.0.parts).state parcel.now N.call.next }
-        requires got { got ≡ length (parcels_got sender.0 (the_part receiver.0 seat.old.me.0.parts).history) }
-        requires acts { got < 2 ^ 63 }
-        requires next { N.call.next ≡ next }
-        requires name { (N.call.roles ≡ self.now.layout.roles) × (N.call.capacity ≡ self.now.layout.capacity) × (N.call.sender ≡ sender.0) × (N.call.receiver ≡ receiver.0) × (N.call.machines ≡ machines_of self.now.board.shared.key) }
+        requires pair { IsPair self.now.layout.roles sender.0 receiver.0 }
+        requires middle { IsTakingAt receiver.0 sender.0 parcel.now (slot_place self.now.layout.roles self.now.layout.capacity sender.0 receiver.0 got) seat.old.me }
+        requires may { MayTake (machines_in_key self.now.board.shared.key) receiver.0 sender.0 (the_part receiver.0 seat.old.me.0.parts).state parcel.now N.call.next }
+        requires got { IsCountOf got (parcels_got sender.0 (the_part receiver.0 seat.old.me.0.parts).history) }
+        requires call { IsActCall N.call self.now.layout.roles self.now.layout.capacity sender.0 receiver.0 (machines_in_key self.now.board.shared.key) next }
         ensures table { seat.new.table_id ≡ seat.old.table_id }
-        ensures event { Happened (machines_of self.now.board.shared.key) receiver.0 (the_part receiver.0 seat.old.me.0.parts).history (got_act sender.0 parcel.now) }
-        ensures given { IsAfter receiver.0 (getting sender.0 parcel.now N.call.next (the_part receiver.0 seat.old.me.0.parts)) seat.old.me.0 seat.new.me }
+        ensures given { HasGiven (machines_in_key self.now.board.shared.key) receiver.0 sender.0 parcel.now N.call.next seat.old.me.0 seat.new.me }
     {
         self.board
             .shared
@@ -264,9 +256,8 @@ impl RingTable {
     pub fn close(self, seat: RingSeat) -> Closed
         requires table { seat.table_id ≡ self.board.shared.table_id }
         requires all { (r : ℕ) → r < self.layout.roles → speaks r seat.me.0.parts ≡ true }
-        ensures machines { result.machines ≡ machines_of self.board.shared.key }
-        ensures last { result.last ≡ seat.me.0 }
-        ensures ends { Ends (machines_of self.board.shared.key) self.layout.roles seat.me.0 }
+        ensures closed { IsClosedAs result (machines_in_key self.board.shared.key) seat.me.0 }
+        ensures ends { IsLegalEnd (machines_in_key self.board.shared.key) self.layout.roles seat.me.0 }
     {
         let last = Perch::new(&seat, 0);
         let RingTable {
@@ -291,9 +282,8 @@ impl RingTable {
         requires kept { IsBetweenCalls seat.me rows.now.items }
         requires none { loose.old.items ≡ [] }
         requires room { vec_len loose.old + ring_count self.layout.roles * self.layout.capacity ≤ vec_capacity loose.old }
-        ensures machines { result.machines ≡ machines_of self.board.shared.key }
-        ensures last { result.last ≡ seat.me.0 }
-        ensures ends { Ends (machines_of self.board.shared.key) self.layout.roles seat.me.0 }
+        ensures closed { IsClosedAs result (machines_in_key self.board.shared.key) seat.me.0 }
+        ensures ends { IsLegalEnd (machines_in_key self.board.shared.key) self.layout.roles seat.me.0 }
         ensures loose { loose.new.items ≡ loose_in seat.me.0 self.layout.roles (ring_count self.layout.roles) }
     {
         let last = Perch::new(&seat, 0);
@@ -320,14 +310,13 @@ impl RingTable {
         next: u32,
     ) -> Put
         requires table { seat.old.table_id ≡ self.now.board.shared.table_id }
-        requires ring { (sender.0 < self.now.layout.roles) × (receiver.0 < self.now.layout.roles) × (sender.0 ≢ receiver.0) }
-        requires speaks { speaks sender.0 seat.old.me.0.parts ≡ true }
-        requires idle { ((the_part sender.0 seat.old.me.0.parts).middle ≡ Idle) × (seat.old.me.1 ≡ []) }
-        requires may { MayPut (machines_of self.now.board.shared.key) sender.0 receiver.0 (the_part sender.0 seat.old.me.0.parts).state parcel next }
-        requires sent { sent ≡ length (parcels_sent receiver.0 (the_part sender.0 seat.old.me.0.parts).history) }
-        requires acts { sent < 2 ^ 63 }
+        requires pair { IsPair self.now.layout.roles sender.0 receiver.0 }
+        requires idle { IsIdleAt sender.0 seat.old.me }
+        requires may { MayPut (machines_in_key self.now.board.shared.key) sender.0 receiver.0 (the_part sender.0 seat.old.me.0.parts).state parcel next }
+        requires sent { IsCountOf sent (parcels_sent receiver.0 (the_part sender.0 seat.old.me.0.parts).history) }
         ensures table { seat.new.table_id ≡ seat.old.table_id }
-        ensures done { HasPut (machines_of self.now.board.shared.key) next sender.0 receiver.0 self.now.layout.capacity sent parcel (the_part sender.0 seat.old.me.0.parts) seat.old.me.0 seat.new.me result }
+        ensures done { HasPut (machines_in_key self.now.board.shared.key) next sender.0 receiver.0 self.now.layout.capacity sent parcel
+            (the_part sender.0 seat.old.me.0.parts) seat.old.me.0 seat.new.me result }
     {
         self.put_as::<Brand>(seat, sender, receiver, sent, parcel, next)
     }
@@ -342,13 +331,13 @@ impl RingTable {
         arms: &[Arm],
     ) -> Looked
         requires table { seat.old.table_id ≡ self.now.board.shared.table_id }
-        requires ring { (sender.0 < self.now.layout.roles) × (receiver.0 < self.now.layout.roles) × (sender.0 ≢ receiver.0) }
-        requires speaks { speaks receiver.0 seat.old.me.0.parts ≡ true }
-        requires idle { ((the_part receiver.0 seat.old.me.0.parts).middle ≡ Idle) × (seat.old.me.1 ≡ []) }
-        requires stands { state_of (slice_get (machines_of self.now.board.shared.key) receiver.0) (the_part receiver.0 seat.old.me.0.parts).state ≡ Some (Takes sender arms.now) }
+        requires pair { IsPair self.now.layout.roles sender.0 receiver.0 }
+        requires idle { IsIdleAt receiver.0 seat.old.me }
+        requires stands { state_of (slice_get (machines_in_key self.now.board.shared.key) receiver.0) (the_part receiver.0 seat.old.me.0.parts).state ≡ Some (Takes sender arms.now) }
         requires got { got ≡ length (parcels_got sender.0 (the_part receiver.0 seat.old.me.0.parts).history) }
         ensures table { seat.new.table_id ≡ seat.old.table_id }
-        ensures looked { HasLooked arms.now sender.0 receiver.0 (place_of self.now.layout.roles self.now.layout.capacity sender.0 receiver.0 got) got (the_part receiver.0 seat.old.me.0.parts) seat.old.me.0 seat.new.me result }
+        ensures looked { HasLooked arms.now sender.0 receiver.0 (slot_place self.now.layout.roles self.now.layout.capacity sender.0 receiver.0 got) got
+            (the_part receiver.0 seat.old.me.0.parts) seat.old.me.0 seat.new.me result }
     {
         self.look_as::<Brand>(seat, receiver, sender, got, arms)
     }
@@ -364,15 +353,12 @@ impl RingTable {
         next: u32,
     )
         requires table { seat.old.table_id ≡ self.now.board.shared.table_id }
-        requires ring { (sender.0 < self.now.layout.roles) × (receiver.0 < self.now.layout.roles) × (sender.0 ≢ receiver.0) }
-        requires speaks { speaks receiver.0 seat.old.me.0.parts ≡ true }
-        requires middle { ((the_part receiver.0 seat.old.me.0.parts).middle ≡ Taking sender.0 parcel.now) × (seat.old.me.1 ≡ (place_of self.now.layout.roles self.now.layout.capacity sender.0 receiver.0 got, None) ∷ []) }
-        requires may { MayTake (machines_of self.now.board.shared.key) receiver.0 sender.0 (the_part receiver.0 seat.old.me.0.parts).state parcel.now next }
-        requires got { got ≡ length (parcels_got sender.0 (the_part receiver.0 seat.old.me.0.parts).history) }
-        requires acts { got < 2 ^ 63 }
+        requires pair { IsPair self.now.layout.roles sender.0 receiver.0 }
+        requires middle { IsTakingAt receiver.0 sender.0 parcel.now (slot_place self.now.layout.roles self.now.layout.capacity sender.0 receiver.0 got) seat.old.me }
+        requires may { MayTake (machines_in_key self.now.board.shared.key) receiver.0 sender.0 (the_part receiver.0 seat.old.me.0.parts).state parcel.now next }
+        requires got { IsCountOf got (parcels_got sender.0 (the_part receiver.0 seat.old.me.0.parts).history) }
         ensures table { seat.new.table_id ≡ seat.old.table_id }
-        ensures event { Happened (machines_of self.now.board.shared.key) receiver.0 (the_part receiver.0 seat.old.me.0.parts).history (got_act sender.0 parcel.now) }
-        ensures given { IsAfter receiver.0 (getting sender.0 parcel.now next (the_part receiver.0 seat.old.me.0.parts)) seat.old.me.0 seat.new.me }
+        ensures given { HasGiven (machines_in_key self.now.board.shared.key) receiver.0 sender.0 parcel.now next seat.old.me.0 seat.new.me }
     {
         self.give_as::<Brand>(seat, receiver, sender, got, parcel, next)
     }
@@ -387,14 +373,12 @@ impl RingTable {
         got: u64,
     ) -> Took
         requires table { seat.old.table_id ≡ self.now.board.shared.table_id }
-        requires ring { (sender.0 < self.now.layout.roles) × (receiver.0 < self.now.layout.roles) × (sender.0 ≢ receiver.0) }
-        requires speaks { speaks receiver.0 seat.old.me.0.parts ≡ true }
-        requires idle { ((the_part receiver.0 seat.old.me.0.parts).middle ≡ Idle) × (seat.old.me.1 ≡ []) }
-        requires state { (state ≡ (the_part receiver.0 seat.old.me.0.parts).state) × TakesFrom (state_of (slice_get (machines_of self.now.board.shared.key) receiver.0) state) sender.0 }
-        requires got { got ≡ length (parcels_got sender.0 (the_part receiver.0 seat.old.me.0.parts).history) }
-        requires acts { got < 2 ^ 63 }
+        requires pair { IsPair self.now.layout.roles sender.0 receiver.0 }
+        requires idle { IsIdleAt receiver.0 seat.old.me }
+        requires state { (state ≡ (the_part receiver.0 seat.old.me.0.parts).state) × TakesFrom (state_of (slice_get (machines_in_key self.now.board.shared.key) receiver.0) state) sender.0 }
+        requires got { IsCountOf got (parcels_got sender.0 (the_part receiver.0 seat.old.me.0.parts).history) }
         ensures table { seat.new.table_id ≡ seat.old.table_id }
-        ensures taken { HasTaken (machines_of self.now.board.shared.key) sender.0 receiver.0 got (the_part receiver.0 seat.old.me.0.parts) seat.old.me.0 seat.new.me result }
+        ensures taken { HasTaken (machines_in_key self.now.board.shared.key) sender.0 receiver.0 got (the_part receiver.0 seat.old.me.0.parts) seat.old.me.0 seat.new.me result }
     {
         let arms = self.arms_of(receiver, state);
         match self.look(seat, receiver, sender, got, arms) {
@@ -408,8 +392,8 @@ impl RingTable {
     }
 
     pub fn arms_of(&self, role: Role, state: u32) -> &[Arm]
-        requires { IsSome (state_of (slice_get (machines_of self.now.board.shared.key) role.0) state) }
-        ensures { IfSome (state_of (slice_get (machines_of self.now.board.shared.key) role.0) state) (λ s. result.now ≡ arms_in s) }
+        requires { IsSome (state_of (slice_get (machines_in_key self.now.board.shared.key) role.0) state) }
+        ensures { IfSome (state_of (slice_get (machines_in_key self.now.board.shared.key) role.0) state) (λ s. result.now ≡ arms_in_state s) }
     {
         match &self.machines[role.0 as usize].states[state as usize] {
             State::Done => &[],

@@ -1,5 +1,5 @@
-// What the table's contracts see. No value of these types is made at run time but the key: a view is a ghost, and a pass
-// keeps at run time what it needs of it in its rows.
+//! What the table's contracts see. No value of these types is made at run time but the key: a view is a ghost, and a pass
+//! keeps at run time what it needs of it in its rows.
 use rs_model::{Label, Machine, Role, Value};
 use rs_slots::Parcel;
 use std::collections::LinkedList;

@@ -10,26 +10,26 @@ use Rattle.rs_room.specs.Crossing.{crossing, projections_of_crossing, machines_o
 use Rattle.rs_safety.specs.Room.{room_of}
 use Rattle.rs_core.specs.Choices.{AreWellFormed}
 use Rattle.rs_safety.specs.Sessions.{AreDerivations}
-use Rattle.rs_safety.proofs.Computed.{projections-are}
-use Rattle.rs_safety.proofs.Tested.{machines-are, derivations-are}
+use Rattle.rs_safety.proofs.Computed.{projections_are}
+use Rattle.rs_safety.proofs.Tested.{machines_are, derivations_are}
 
-protocol-passes : of_protocols.first_fault crossing ≡ None
+protocol_passes : of_protocols.first_fault crossing ≡ None
 unfolding of_protocols.first_fault
-protocol-passes = refl
+protocol_passes = refl
 
-pub well-formed : IsWellFormed crossing
-well-formed = well_formed_protocols.no_fault crossing protocol-passes
+pub well_formed_shown : IsWellFormed crossing
+well_formed_shown = well_formed_protocols.no_fault crossing protocol_passes
 
 pub projected : AreProjections crossing projections_of_crossing
-projected = projections-are crossing 2 projections_of_crossing refl refl
+projected = projections_are crossing 2 projections_of_crossing refl refl
 
 pub machines : AreWellFormed machines_of_crossing
 unfolding of_machines.first_fault
-machines = machines-are machines_of_crossing (refl, refl, (refl, refl, tt))
+machines = machines_are machines_of_crossing (refl, refl, (refl, refl, tt))
 
 pub derivations : AreDerivations machines_of_crossing projections_of_crossing derivations_of_crossing
 unfolding of_derivations.first_fault
-derivations = derivations-are machines_of_crossing projections_of_crossing derivations_of_crossing (refl, (refl, tt))
+derivations = derivations_are machines_of_crossing projections_of_crossing derivations_of_crossing (refl, (refl, tt))
 
 pub room : room_of derivations_of_crossing ≡ 11
 room = refl

@@ -11,7 +11,7 @@ use Rattle.rs_core.specs.declared.messages.Event.{Event}
 use Rattle.rs_core.specs.declared.messages.Event.TheVariants.{Send, Receive}
 use Rattle.rs_core.specs.Configurations.{Configuration, Sends, Receives, StartsAt, state_at}
 use Rattle.rs_core.proofs.Items.{put_at}
-use Rattle.rs_core.proofs.Moves.{after_send, send-step}
+use Rattle.rs_core.proofs.Moves.{after_send, send_step}
 use Rattle.rs_room.specs.Bounded.{BoundedStep, IsReachableWithin, IsStuck}
 use Rattle.rs_room.specs.Crossing.{a, b, x, y, projection_for_a, b_ahead, machines_of_crossing}
 
@@ -45,56 +45,56 @@ reached = record {
   starts = starts;
   steps = (
     x_sent,
-    (send-step machines_of_crossing at_first 0 0 value.Unit b (x 1) (arm_to 0 1) refl refl refl, omega arith),
-    (both_sent, (send-step machines_of_crossing x_sent 1 0 value.Unit a (y 1) (arm_to 1 1) refl refl refl, omega arith), refl),
+    (send_step machines_of_crossing at_first 0 0 value.Unit b (x 1) (arm_to 0 1) refl refl refl, omega arith),
+    (both_sent, (send_step machines_of_crossing x_sent 1 0 value.Unit a (y 1) (arm_to 1 1) refl refl refl, omega arith), refl),
   );
 }
 
-a-stands : state_at machines_of_crossing both_sent 0 ≡ Some (Puts b (x 2))
+a_stands : state_at machines_of_crossing both_sent 0 ≡ Some (Puts b (x 2))
 unfolding put_at
-a-stands = refl
+a_stands = refl
 
-b-stands : state_at machines_of_crossing both_sent 1 ≡ Some (Puts a (y 2))
+b_stands : state_at machines_of_crossing both_sent 1 ≡ Some (Puts a (y 2))
 unfolding put_at
-b-stands = refl
+b_stands = refl
 
-a-is-full : length (both_sent.queue 0 1) ≡ 1
+a_is_full : length (both_sent.queue 0 1) ≡ 1
 unfolding put_at
-a-is-full = refl
+a_is_full = refl
 
-b-is-full : length (both_sent.queue 1 0) ≡ 1
+b_is_full : length (both_sent.queue 1 0) ≡ 1
 unfolding put_at
-b-is-full = refl
+b_is_full = refl
 
 -- neither can send, since its ring is full, nor receive, since it stands at a send
 
-no-send : (p place : ℕ) (v : Value) (d : Configuration) (st : Sends machines_of_crossing both_sent p place v d)
+no_send : (p place : ℕ) (v : Value) (d : Configuration) (st : Sends machines_of_crossing both_sent p place v d)
     → length (both_sent.queue p st.peer.0) < 1 → ⊥
-no-send zero place v d st few =
-    let same : Some (Puts b (x 2)) ≡ Some (Puts st.peer st.arms) = sym a-stands ∙ st.puts in
+no_send zero place v d st few =
+    let same : Some (Puts b (x 2)) ≡ Some (Puts st.peer st.arms) = sym a_stands ∙ st.puts in
     let peer : st.peer ≡ b = cc (same) in
     let P : Role → Type 0 = λ z. length (both_sent.queue 0 z.0) < 1 in
     let few' : length (both_sent.queue 0 1) < 1 = subst P peer few in
-    omega (arith, few', a-is-full)
-no-send (suc zero) place v d st few =
-    let same : Some (Puts a (y 2)) ≡ Some (Puts st.peer st.arms) = sym b-stands ∙ st.puts in
+    omega (arith, few', a_is_full)
+no_send (suc zero) place v d st few =
+    let same : Some (Puts a (y 2)) ≡ Some (Puts st.peer st.arms) = sym b_stands ∙ st.puts in
     let peer : st.peer ≡ a = cc (same) in
     let P : Role → Type 0 = λ z. length (both_sent.queue 1 z.0) < 1 in
     let few' : length (both_sent.queue 1 0) < 1 = subst P peer few in
-    omega (arith, few', b-is-full)
-no-send (suc (suc p)) place v d st few = let h = st.puts in cc (h)
+    omega (arith, few', b_is_full)
+no_send (suc (suc p)) place v d st few = let h = st.puts in cc (h)
 
-no-receive : (p : ℕ) (d : Configuration) → Receives machines_of_crossing both_sent p d → ⊥
-no-receive zero d st = let h = st.takes in cc (h, a-stands)
-no-receive (suc zero) d st = let h = st.takes in cc (h, b-stands)
-no-receive (suc (suc p)) d st = let h = st.takes in cc (h)
+no_receive : (p : ℕ) (d : Configuration) → Receives machines_of_crossing both_sent p d → ⊥
+no_receive zero d st = let h = st.takes in cc (h, a_stands)
+no_receive (suc zero) d st = let h = st.takes in cc (h, b_stands)
+no_receive (suc (suc p)) d st = let h = st.takes in cc (h)
 
-no-step : (e : Event) (d : Configuration) → BoundedStep machines_of_crossing 1 both_sent e d → ⊥
-no-step (Send role place v) d b = no-send role.0 place v d b.0 b.1
-no-step (Receive role) d st = no-receive role.0 d st
+no_step_shown : (e : Event) (d : Configuration) → BoundedStep machines_of_crossing 1 both_sent e d → ⊥
+no_step_shown (Send role place v) d b = no_send role.0 place v d b.0 b.1
+no_step_shown (Receive role) d st = no_receive role.0 d st
 
 stuck : IsStuck machines_of_crossing 1 both_sent
-stuck = record { no_step = no-step; not_ended = λ over. (let h = over.done 0 (omega arith) in cc (h, a-stands)) }
+stuck = record { no_step = no_step_shown; not_ended = λ over. (let h = over.done 0 (omega arith) in cc (h, a_stands)) }
 
-pub can-be-stuck : (c : Configuration) × IsReachableWithin machines_of_crossing 1 c × IsStuck machines_of_crossing 1 c
-can-be-stuck = (both_sent, reached, stuck)
+pub can_be_stuck : (c : Configuration) × IsReachableWithin machines_of_crossing 1 c × IsStuck machines_of_crossing 1 c
+can_be_stuck = (both_sent, reached, stuck)

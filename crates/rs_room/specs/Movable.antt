@@ -8,7 +8,7 @@ use Rattle.rs_room.specs.Rings.{Bounded_data}
 
 -- role p is one of the roles and has a bounded step, and no lesser role has one
 pub record IsLeastMovable (b : Bounded_data) (p : ℕ) : Type 0 where
-  pub there : p < length b.core.machines
+  pub present : p < length b.core.machines
   pub moves : HasBoundedStep b.core.machines b.capacity (configuration_of b.core) p
   pub least : (q : ℕ) → q < p → HasBoundedStep b.core.machines b.capacity (configuration_of b.core) q → ⊥
 

@@ -15,8 +15,9 @@ use Rattle.rs_core.specs.Core.{Core_data, HasStepped, StepIsRefused, configurati
 use Rattle.rs_safety.specs.Accepting.{Accepted_data, IsAcceptedSession}
 use Rattle.rs_safety.specs.Room.{room_of}
 use Rattle.rs_room.specs.Bounded.{BoundedStep, IsReachableWithin}
-use Rattle.rs_room.specs.Counts.{number_in}
+use Rattle.rs_room.specs.Counts.{count_for_pair}
 use Rattle.rs_room.specs.declared.rings.BoundedFault.{BoundedFault}
+use Rattle.rs_room.specs.declared.rings.BoundedRefused.{BoundedRefused}
 use Rattle.rs_room.specs.declared.rings.BoundedFault.TheVariants.{NotSending, NoArm, WrongSort, NotReceiving, QueueEmpty, NoMemory, QueueFull}
 
 -- the session, the capacity of its rings, the room that its derivations tell, how many steps it has made, and for each
@@ -30,7 +31,7 @@ pub record Bounded_data : Type 0 where
 
 -- how many messages q has taken from p since the start
 abbrev pub messages_taken : Bounded_data → ℕ → ℕ → ℕ
-messages_taken b p q = number_in b.taken p q
+messages_taken b p q = count_for_pair b.taken p q
 
 -- how many messages p has put into the ring to q since the start: those that were taken, and those that are in it
 abbrev pub messages_sent : Bounded_data → ℕ → ℕ → ℕ
@@ -48,7 +49,7 @@ pub record IsRingSession (b : Bounded_data) : Type 0 where
   pub within : (p q : ℕ) → length ((configuration_of b.core).queue p q) ≤ b.capacity
   pub rows : length b.taken ≡ length b.core.machines
   pub places : (p : ℕ) → p < length b.core.machines → length (slice_index_or b.taken p []) ≡ length b.core.machines
-  pub few : (p q : ℕ) → messages_taken b p q ≤ b.steps
+  pub bounded : (p q : ℕ) → messages_taken b p q ≤ b.steps
 
 -- the event is a bounded step from c to d, and this is what is told of it
 pub record HasSteppedWithin (machines : List Machine_data) (capacity : ℕ) (c : Configuration) (event : Event) (d : Configuration) (told : Stepped) : Type 0 where
@@ -60,7 +61,7 @@ pub record Rises (old new : ℕ → ℕ → ℕ) (x y : ℕ) : Type 0 where
   pub rises : new x y ≡ suc (old x y)
   pub others : (p q : ℕ) → (p ≢ x) ⊎ (q ≢ y) → new p q ≡ old p q
 
--- a send is counted as one message more that was sent, from its role to the state's peer ..
+-- a send is counted as one message more that was sent, from its role to the state's peer
 pub record CountsSend (b d : Bounded_data) (role : ℕ) : Type 0 where
   pub peer : Role
   pub arms : List Arm
@@ -68,7 +69,7 @@ pub record CountsSend (b d : Bounded_data) (role : ℕ) : Type 0 where
   pub sent : Rises (messages_sent b) (messages_sent d) role peer.0
   pub taken : (p q : ℕ) → messages_taken d p q ≡ messages_taken b p q
 
--- .. and a receive as one more that was taken, by its role from the state's peer
+-- a receive is counted as one more that was taken, by its role from the state's peer
 pub record CountsReceive (b d : Bounded_data) (role : ℕ) : Type 0 where
   pub peer : Role
   pub arms : List Arm
@@ -111,3 +112,14 @@ IsRefusedWithin b event QueueEmpty = StepIsRefused b.core.machines (configuratio
 IsRefusedWithin b event NoMemory =
     StepIsRefused b.core.machines (configuration_of b.core) event step_fault.NoMemory × ((peer : Role) → FindsRingFull b event peer → ⊥)
 IsRefusedWithin b event (QueueFull sent taken) = IsRingFull b event sent taken
+
+-- the event was refused for this fault, and comes back
+pub record HandsBack (b : Bounded_data) (event : Event) (r : BoundedRefused) : Type 0 where
+  pub refused : IsRefusedWithin b event r.fault
+  pub back : r.event ≡ event
+
+-- the machines, the capacity of the rings and the room stay
+pub record KeepsWhatIsFixed (b d : Bounded_data) : Type 0 where
+  pub same_machines : d.core.machines ≡ b.core.machines
+  pub same_capacity : d.capacity ≡ b.capacity
+  pub same_room : d.room ≡ b.room

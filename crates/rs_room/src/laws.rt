@@ -1,6 +1,6 @@
 //! Laws over the definitions: each function does nothing, and its contract is the law.
 
-ghost use Rattle.std.specs.Prelude.{◌≡◌, ◌⊎◌, ◌≤◌, ℕ, List, length};
+ghost use Rattle.std.specs.Prelude.{◌≡◌, ◌⊎◌, ◌≤◌, ℕ, List};
 ghost use Rattle.rs_core.specs.Configurations.{Configuration, IsReachable};
 ghost use Rattle.rs_core.specs.Safety.{AllEnded};
 ghost use Rattle.rs_model.specs.Data.{Machine_data, Protocol_data};
@@ -9,7 +9,7 @@ ghost use Rattle.rs_project.specs.Projection.{AreProjections};
 ghost use Rattle.rs_wellformed.specs.WellFormed.{IsWellFormed};
 ghost use Rattle.rs_derive.specs.Data.{Derivation_data};
 ghost use Rattle.rs_core.specs.Choices.{AreWellFormed};
-ghost use Rattle.rs_safety.specs.Sessions.{AreDerivations};
+ghost use Rattle.rs_safety.specs.Sessions.{AreDerivations, IsDerivedSession};
 ghost use Rattle.rs_room.specs.Bounded.{CanMoveWithin, CanStepWithin, HasBoundedStep, IsReachableWithin, IsStuck};
 ghost use Rattle.rs_room.specs.Crossing.{crossing, derivations_of_crossing, machines_of_crossing, projections_of_crossing};
 ghost use Rattle.rs_safety.specs.Room.{room_of};
@@ -19,15 +19,15 @@ ghost use Rattle.rs_safety.specs.Room.{room_of};
 /// step.
 pub fn rings_of_this_room_are_enough()
     ensures goes_on { (protocol : Protocol_data) (projections : List Projection_data) (machines : List Machine_data) (derivations : List Derivation_data)
-        → IsWellFormed protocol → AreProjections protocol projections → length machines ≡ protocol.roles → AreWellFormed machines → AreDerivations machines projections derivations
+        → IsDerivedSession protocol projections machines derivations
         → (capacity : ℕ) → room_of derivations ≤ capacity → (c : Configuration) → IsReachable machines c
         → CanStepWithin machines capacity c ⊎ AllEnded machines c }
     ensures step { (protocol : Protocol_data) (projections : List Projection_data) (machines : List Machine_data) (derivations : List Derivation_data)
-        → IsWellFormed protocol → AreProjections protocol projections → length machines ≡ protocol.roles → AreWellFormed machines → AreDerivations machines projections derivations
+        → IsDerivedSession protocol projections machines derivations
         → (capacity : ℕ) (c : Configuration) → IsReachable machines c → (p : ℕ) → CanMoveWithin machines capacity c p
         → HasBoundedStep machines capacity c p }
     ensures not_stuck { (protocol : Protocol_data) (projections : List Projection_data) (machines : List Machine_data) (derivations : List Derivation_data)
-        → IsWellFormed protocol → AreProjections protocol projections → length machines ≡ protocol.roles → AreWellFormed machines → AreDerivations machines projections derivations
+        → IsDerivedSession protocol projections machines derivations
         → (capacity : ℕ) → room_of derivations ≤ capacity → (c : Configuration) → IsReachableWithin machines capacity c
         → IsStuck machines capacity c → ⊥ }
 {}

@@ -1,3 +1,4 @@
+//! A session over rings of a stated size, step by step: which steps there are, and who can go on.
 ghost use Rattle.std.specs.Prelude.{◌≡◌, ◌<◌, ◌≤◌, ◌^◌, ◌⊎◌, ℕ, List, Option, Some, None, length, slice_get, slice_index_or, IfOk, IfErr, IfSome, IfNone, OnErr, OnOk, MatchOption, [], suc};
 ghost use Rattle.rs_model.specs.Limits.{IsCapacity};
 ghost use Rattle.rs_core.specs.Configurations.{StartsAt, role_of, state_at};
@@ -8,12 +9,12 @@ ghost use Rattle.rs_model.specs.declared.graph.Role.{Role};
 ghost use Rattle.rs_model.specs.declared.machines.State.TheVariants.{Puts, Takes};
 ghost use Rattle.rs_room.specs.Looks.{can_move, full_ring, is_right, pair_of_receive, within};
 ghost use Rattle.rs_room.specs.Movable.{IsLeastMovable, NoneIsMovable};
-ghost use Rattle.rs_room.specs.Rings.{CountsStep, HasSteppedWithin, IsRefusedWithin, IsRingSession, messages_sent, messages_taken};
+ghost use Rattle.rs_room.specs.Rings.{CountsStep, HandsBack, HasSteppedWithin, IsRingSession, KeepsWhatIsFixed, messages_sent, messages_taken};
 ghost use Rattle.rs_safety.specs.Room.{room_of};
 
-use crate::counts::Counts;
+use crate::counts::PairCounts;
 use rs_core::{Core, Event, StepFault, Stepped};
-use rs_model::{Arm, Machine, NoMemory, Role, State, Value};
+use rs_model::{Arm, Machine, NoMemory, Role, State, Value, copies_of};
 use rs_safety::Accepted;
 use std::alloc::Global;
 use std::marker::Model;
@@ -54,7 +55,7 @@ pub struct Bounded {
     capacity: usize,
     room: u64,
     steps: u64,
-    taken: Counts,
+    taken: PairCounts,
 }
 
 impl Model for Bounded {
@@ -80,7 +81,7 @@ impl Bounded {
         ensures sent { IfOk result (λ b. (p q : ℕ) → messages_sent b p q ≡ 0) }
         ensures taken { IfOk result (λ b. (p q : ℕ) → messages_taken b p q ≡ 0) }
     {
-        let taken = Counts::new(alloc, accepted.machines().len())?;
+        let taken = PairCounts::new(alloc, accepted.machines().len())?;
         let machines = copies_of(alloc, accepted.machines())?;
         let core = Core::begin(alloc, copies_of(alloc, accepted.machines())?)?;
         Ok(Bounded {
@@ -113,17 +114,14 @@ impl Bounded {
     /// The error is the first of [`BoundedFault`] that holds, but for memory, which can be refused at a send alone and is
     /// wanted only where the ring has room. The event comes back with it, and nothing changes.
     pub fn step(&mut self, event: Event) -> Result<Stepped, BoundedRefused>
-        requires there { role_of event < length self.old.core.machines }
-        requires few { self.old.steps < 2 ^ 63 }
+        requires present { role_of event < length self.old.core.machines }
+        requires bounded { self.old.steps < 2 ^ 63 }
         ensures step { IfOk result (λ s. HasSteppedWithin self.old.core.machines self.old.capacity (configuration_of self.old.core) event (configuration_of self.new.core) s) }
         ensures counts { OnOk result (CountsStep self.old event self.new) }
         ensures steps { OnOk result (self.new.steps ≡ suc self.old.steps) }
-        ensures refused { IfErr result (λ r. IsRefusedWithin self.old event r.fault) }
-        ensures back { IfErr result (λ r. r.event ≡ event) }
+        ensures refused { IfErr result (HandsBack self.old event) }
         ensures same { OnErr result (self.new ≡ self.old) }
-        ensures machines { self.new.core.machines ≡ self.old.core.machines }
-        ensures capacity { self.new.capacity ≡ self.old.capacity }
-        ensures room { self.new.room ≡ self.old.room }
+        ensures fixed { KeepsWhatIsFixed self.old self.new }
     {
         if let Some((sent, taken)) = self.full_counts(&event) {
             return Err(BoundedRefused {
@@ -151,7 +149,8 @@ impl Bounded {
     pub fn movable(&self) -> Option<Role>
         ensures least { IfSome result (λ r. IsLeastMovable self.now r.0) }
         ensures none { IfNone result (NoneIsMovable self.now) }
-        ensures ended { self.now.room ≤ self.now.capacity → MatchOption result (AllEnded self.now.core.machines (configuration_of self.now.core)) (λ r. AllEnded self.now.core.machines (configuration_of self.now.core) → ⊥) }
+        ensures ended { self.now.room ≤ self.now.capacity
+            → MatchOption result (AllEnded self.now.core.machines (configuration_of self.now.core)) (λ r. AllEnded self.now.core.machines (configuration_of self.now.core) → ⊥) }
     {
         for number in 0..self.roles() {
             let role = Role(number);
@@ -172,8 +171,9 @@ impl Bounded {
 
     /// The state in which the role's machine stands.
     fn here(&self, role: Role) -> Option<&State>
-        requires there { role.0 < length self.now.core.machines }
-        ensures state { MatchOption result (state_at self.now.core.machines (configuration_of self.now.core) role.0 ≡ None) (λ s. state_at self.now.core.machines (configuration_of self.now.core) role.0 ≡ Some s.now) }
+        requires present { role.0 < length self.now.core.machines }
+        ensures state { MatchOption result (state_at self.now.core.machines (configuration_of self.now.core) role.0 ≡ None)
+            (λ s. state_at self.now.core.machines (configuration_of self.now.core) role.0 ≡ Some s.now) }
         ensures puts { (peer : Role) (arms : List Arm) → state_at self.now.core.machines (configuration_of self.now.core) role.0 ≡ Some (Puts peer arms) → peer.0 < length self.now.core.machines }
         ensures takes { (peer : Role) (arms : List Arm) → state_at self.now.core.machines (configuration_of self.now.core) role.0 ≡ Some (Takes peer arms) → peer.0 < length self.now.core.machines }
     {
@@ -183,7 +183,7 @@ impl Bounded {
 
     /// Whether the role has a bounded step.
     fn can_move(&self, role: Role) -> bool
-        requires there { role.0 < length self.now.core.machines }
+        requires present { role.0 < length self.now.core.machines }
         ensures { result ≡ can_move self.now role.0 }
     {
         match self.here(role) {
@@ -195,7 +195,7 @@ impl Bounded {
 
     /// The peer to whom the event would send into a full ring, where nothing else is wrong with it.
     fn full_ring(&self, event: &Event) -> Option<Role>
-        requires there { role_of event.now < length self.now.core.machines }
+        requires present { role_of event.now < length self.now.core.machines }
         ensures full { result ≡ full_ring self.now event.now }
         ensures known { IfSome result (λ r. r.0 < length self.now.core.machines) }
     {
@@ -217,9 +217,10 @@ impl Bounded {
 
     /// How many messages were put into the full ring to which the event would send, and how many taken from it.
     fn full_counts(&self, event: &Event) -> Option<(u64, u64)>
-        requires there { role_of event.now < length self.now.core.machines }
-        requires few { self.now.steps < 2 ^ 63 }
-        ensures { MatchOption result (full_ring self.now event.now ≡ None) (λ c. (peer : Role) × (full_ring self.now event.now ≡ Some peer) × (c.0 ≡ messages_sent self.now (role_of event.now) peer.0) × (c.1 ≡ messages_taken self.now (role_of event.now) peer.0)) }
+        requires present { role_of event.now < length self.now.core.machines }
+        requires bounded { self.now.steps < 2 ^ 63 }
+        ensures { MatchOption result (full_ring self.now event.now ≡ None) (λ c. (peer : Role) × (full_ring self.now event.now ≡ Some peer)
+            × (c.0 ≡ messages_sent self.now (role_of event.now) peer.0) × (c.1 ≡ messages_taken self.now (role_of event.now) peer.0)) }
     {
         let receiver = self.full_ring(event)?;
         let sender = role_of(event);
@@ -230,7 +231,7 @@ impl Bounded {
 
     /// From whom to whom the event takes, where it is a receive.
     fn taking(&self, event: &Event) -> Option<(Role, Role)>
-        requires there { role_of event.now < length self.now.core.machines }
+        requires present { role_of event.now < length self.now.core.machines }
         ensures { result ≡ pair_of_receive self.now event.now }
     {
         match event {
@@ -274,14 +275,4 @@ fn within(fault: StepFault) -> BoundedFault
         StepFault::QueueEmpty => BoundedFault::QueueEmpty,
         StepFault::NoMemory => BoundedFault::NoMemory,
     }
-}
-
-fn copies_of(alloc: Global, machines: &[Machine]) -> Result<Vec<Machine>, NoMemory>
-    ensures { IfOk result (λ v. v.items ≡ machines.now) }
-{
-    let mut copies = Vec::with_capacity(alloc, machines.len())?;
-    for machine in machines {
-        copies.push(machine.copy(alloc)?)?;
-    }
-    Ok(copies)
 }

@@ -12,11 +12,11 @@ use Rattle.rs_core.specs.Safety.{IsSafe}
 use Rattle.rs_project.specs.Data.{Projection_data}
 use Rattle.rs_project.specs.Projection.{AreProjections}
 use Rattle.rs_project.specs.Numbered.{AreNumberedProjections}
-use Rattle.rs_project.proofs.Machines.{projection-machine}
+use Rattle.rs_project.proofs.Machines.{projection_machine}
 use Rattle.rs_safety.specs.Accepting.{Accepted_data, FirstRefused, IsAcceptedSession}
 use Rattle.rs_model.specs.declared.limits.TheConstants.{MOST_BOUND}
 use Rattle.rs_safety.specs.Figures.{OwesFew}
-use Rattle.rs_safety.proofs.Sessions.{no-machine, no-projection}
+use Rattle.rs_safety.proofs.Sessions.{no_machine, no_projection}
 use Rattle.rs_safety.specs.Sessions.{AreDerivations, AreOneEach, IsSession}
 use Rattle.rs_safety.proofs.Walks.{numbered}
 use Rattle.rs_safety.proofs.Reordered.{safe}
@@ -28,19 +28,19 @@ AreDerivedBefore machines projections derivations place =
     → slice_get projections p ≡ Some j → slice_get derivations p ≡ Some d → IsDerivation d m j.machine × Remembers d m j.machine
 
 -- projections with fixed numbers are projections
-pub are-projections : (pr : Protocol_data) (pjs : List Projection_data) → AreNumberedProjections pr pjs → AreProjections pr pjs
-are-projections pr pjs are = record { many = are.many; each = λ p j h. (are.each p j h).is }
+pub are_projections : (pr : Protocol_data) (pjs : List Projection_data) → AreNumberedProjections pr pjs → AreProjections pr pjs
+are_projections pr pjs are = record { many = are.many; each = λ p j h. (are.each p j h).is_projection }
 
-pub machine-proper : (pr : Protocol_data) (pjs : List Projection_data) (ms : List Machine_data) → IsSession pr pjs ms
+pub machine_proper : (pr : Protocol_data) (pjs : List Projection_data) (ms : List Machine_data) → IsSession pr pjs ms
     → (p : ℕ) (m : Machine_data) → slice_get ms p ≡ Some m → IsProper m
-machine-proper pr pjs ms s p m h = (length ms, s.machines_fit.fits p m h)
+machine_proper pr pjs ms s p m h = (length ms, s.machines_fit.fits p m h)
 
-pub projection-proper : (pr : Protocol_data) (pjs : List Projection_data) (ms : List Machine_data) → IsSession pr pjs ms
+pub projection_proper : (pr : Protocol_data) (pjs : List Projection_data) (ms : List Machine_data) → IsSession pr pjs ms
     → (p : ℕ) (j : Projection_data) → slice_get pjs p ≡ Some j → IsProper j.machine
-projection-proper pr pjs ms s p j h =
+projection_proper pr pjs ms s p j h =
     let w = slice_get_within pjs p j h in
     let many = s.projected.many in
-    (pr.roles, projection-machine pr (numbered p) j s.well_formed (omega arith) (s.projected.each p j h).is)
+    (pr.roles, projection_machine pr (numbered p) j s.well_formed (omega arith) (s.projected.each p j h).is_projection)
 
 -- what stands at a place of a list is got there
 pub gets : {A : Type 0} (xs : List A) (n : ℕ) (x : A) → n < length xs → x ≡ get_or xs n x → slice_get xs n ≡ Some x
@@ -62,10 +62,10 @@ places pr pjs ms ds s o place m j d h em ej ed = record {
 }
 
 -- one more place
-pub derived-on : (ms : List Machine_data) (pjs : List Projection_data) (ds : List Derivation_data) (place : ℕ) (m : Machine_data) (j : Projection_data) (d : Derivation_data)
+pub derived_on : (ms : List Machine_data) (pjs : List Projection_data) (ds : List Derivation_data) (place : ℕ) (m : Machine_data) (j : Projection_data) (d : Derivation_data)
     → AreDerivedBefore ms pjs ds place → Places ms pjs ds place m j d
     → IsDerivation d m j.machine × Remembers d m j.machine → AreDerivedBefore ms pjs ds (place + 1)
-derived-on ms pjs ds place m j d before at is p m' j' d' h gm gj gd = elim (eqb_tells p place) [
+derived_on ms pjs ds place m j d before at is p m' j' d' h gm gj gd = elim (eqb_tells p place) [
   | inl t ↦ (
       let e : p ≡ place = t.1 in
       let em : m ≡ m' = same_Some m m' (sym at.runs ∙ ap (λ z. slice_get ms z) (sym e) ∙ gm) in
@@ -95,42 +95,42 @@ first ms pjs ds place m j d cause before at fault = record {
 }
 
 -- all places
-pub all-derived : (ms : List Machine_data) (pjs : List Projection_data) (ds : List Derivation_data) (place : ℕ)
+pub all_derived : (ms : List Machine_data) (pjs : List Projection_data) (ds : List Derivation_data) (place : ℕ)
     → AreDerivedBefore ms pjs ds place → length ms ≤ place → length ds ≡ length ms → AreDerivations ms pjs ds
-all-derived ms pjs ds place before all many = record {
+all_derived ms pjs ds place before all many = record {
   many = many;
-  is = λ p m j d hm hj hd. (let w = slice_get_within ms p m hm in before p m j d (omega arith) hm hj hd);
+  each = λ p m j d hm hj hd. (let w = slice_get_within ms p m hm in before p m j d (omega arith) hm hj hd);
 }
 
 -- a session with derivations is safe
-pub accepted-safe : (pr : Protocol_data) (pjs : List Projection_data) (ms : List Machine_data) (ds : List Derivation_data) → IsSession pr pjs ms
+pub accepted_safe : (pr : Protocol_data) (pjs : List Projection_data) (ms : List Machine_data) (ds : List Derivation_data) → IsSession pr pjs ms
     → AreDerivations ms pjs ds → IsSafe ms
-accepted-safe pr pjs ms ds s of =
-    safe pr pjs ms ds record { fits = s.well_formed; projected = are-projections pr pjs s.projected; many = s.a_machine_each; order = s.machines_fit; derived' = of }
+accepted_safe pr pjs ms ds s of =
+    safe pr pjs ms ds record { well_formed = s.well_formed; projected = are_projections pr pjs s.projected; a_machine_each = s.a_machine_each; machines_fit = s.machines_fit; derived = of }
 
 -- P holds of each item
-all-of : {A : Type 0} (P : A → Type 0) (xs : List A) → ((i : ℕ) (x : A) → slice_get xs i ≡ Some x → P x) → All P xs
-all-of P xs h k d hk = h k (get_or xs k d) (slice_get-get_or xs k d hk)
+all_of : {A : Type 0} (P : A → Type 0) (xs : List A) → ((i : ℕ) (x : A) → slice_get xs i ≡ Some x → P x) → All P xs
+all_of P xs h k d hk = h k (get_or xs k d) (slice_get-get_or xs k d hk)
 
 -- no node of a derivation of an accepted session owes more than 64 acts
-pub owes-few : (session : Accepted_data) → IsAcceptedSession session → (place : ℕ) (d : Derivation_data) → place < length session.derivations
+pub owes_few : (session : Accepted_data) → IsAcceptedSession session → (place : ℕ) (d : Derivation_data) → place < length session.derivations
     → d ≡ get_or session.derivations place d → (i : ℕ) (n : DNode_data) → slice_get d.nodes i ≡ Some n → length n.pending ≤ 64
-owes-few session a place d h e i n at =
+owes_few session a place d h e i n at =
     let hd = gets session.derivations place d h e in
-    let hm = slice_get-get_or session.machines place no-machine (omega (arith, a.is.a_machine_each, a.one_each.many)) in
-    let hj = slice_get-get_or session.projections place no-projection (omega (arith, a.is.projected.many, a.one_each.many)) in
-    let is = (a.derived.is place (get_or session.machines place no-machine) (get_or session.projections place no-projection) d hm hj hd).0 in
+    let hm = slice_get-get_or session.machines place no_machine (omega (arith, a.is_session.a_machine_each, a.one_each.many)) in
+    let hj = slice_get-get_or session.projections place no_projection (omega (arith, a.is_session.projected.many, a.one_each.many)) in
+    let is = (a.derived.each place (get_or session.machines place no_machine) (get_or session.projections place no_projection) d hm hj hd).0 in
     let short = (is.each i n at).short in
     let bound = (a.one_each.bound place d hd).1 in
     omega (arith, short, bound)
 
--- .. of all of them
-pub all-owe-few : (session : Accepted_data) → IsAcceptedSession session → All OwesFew session.derivations
-all-owe-few session a k d h =
+-- no node of any derivation of an accepted session owes more than 64 acts
+pub all_owe_few_shown : (session : Accepted_data) → IsAcceptedSession session → All OwesFew session.derivations
+all_owe_few_shown session a k d h =
     let here = get_or_default session.derivations k d (get_or session.derivations k d) h in
-    all-of (λ (n : DNode_data). length n.pending ≤ MOST_BOUND) (get_or session.derivations k d).nodes (λ i n at. owes-few session a k (get_or session.derivations k d) h here i n at)
+    all_of (λ (n : DNode_data). length n.pending ≤ MOST_BOUND) (get_or session.derivations k d).nodes (λ i n at. owes_few session a k (get_or session.derivations k d) h here i n at)
 
 -- a session with derivations is an accepted one
-pub accepted-session : (pr : Protocol_data) (pjs : List Projection_data) (ms : List Machine_data) (ds : List Derivation_data) → IsSession pr pjs ms → AreOneEach pr.roles ds
+pub accepted_session : (pr : Protocol_data) (pjs : List Projection_data) (ms : List Machine_data) (ds : List Derivation_data) → IsSession pr pjs ms → AreOneEach pr.roles ds
     → AreDerivations ms pjs ds → IsAcceptedSession (record { protocol = pr; projections = pjs; derivations = ds; machines = ms })
-accepted-session pr pjs ms ds s each of = record { is = s; one_each = each; derived = of; safe = accepted-safe pr pjs ms ds s of }
+accepted_session pr pjs ms ds s each of = record { is_session = s; one_each = each; derived = of; safe = accepted_safe pr pjs ms ds s of }

@@ -11,27 +11,27 @@ use Rattle.rs_safety.specs.Buffering.{buffering, kernel_ahead, projection_for_ke
 use Rattle.rs_safety.specs.Room.{room_of}
 use Rattle.rs_core.specs.Choices.{AreWellFormed}
 use Rattle.rs_safety.specs.Sessions.{AreDerivations}
-use Rattle.rs_safety.proofs.Computed.{projections-are}
-use Rattle.rs_safety.proofs.Tested.{machines-are, derivations-are}
+use Rattle.rs_safety.proofs.Computed.{projections_are}
+use Rattle.rs_safety.proofs.Tested.{machines_are, derivations_are}
 
-protocol-passes : of_protocols.first_fault buffering ≡ None
+protocol_passes : of_protocols.first_fault buffering ≡ None
 unfolding of_protocols.first_fault
-protocol-passes = refl
+protocol_passes = refl
 
-pub well-formed : IsWellFormed buffering
-well-formed = well_formed_protocols.no_fault buffering protocol-passes
+pub well_formed_shown : IsWellFormed buffering
+well_formed_shown = well_formed_protocols.no_fault buffering protocol_passes
 
 -- every walk comes within three steps to a talk of any role, or to the end
 pub projected : AreProjections buffering projections_of_buffering
-projected = projections-are buffering 4 projections_of_buffering refl refl
+projected = projections_are buffering 4 projections_of_buffering refl refl
 
 pub machines : AreWellFormed machines_of_buffering
 unfolding of_machines.first_fault
-machines = machines-are machines_of_buffering (refl, refl, (refl, refl, (refl, refl, tt)))
+machines = machines_are machines_of_buffering (refl, refl, (refl, refl, (refl, refl, tt)))
 
 pub derivations : AreDerivations machines_of_buffering projections_of_buffering derivations_of_buffering
 unfolding of_derivations.first_fault
-derivations = derivations-are machines_of_buffering projections_of_buffering derivations_of_buffering (refl, (refl, (refl, tt)))
+derivations = derivations_are machines_of_buffering projections_of_buffering derivations_of_buffering (refl, (refl, (refl, tt)))
 
 pub other : kernel_ahead ≢ projection_for_kernel.machine
 other e = let second = ap (λ (m : Machine_data). slice_get m.states 1) e in absurd (cc (second))

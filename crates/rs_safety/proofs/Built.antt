@@ -1,5 +1,6 @@
 -- The path, grown to any length, and what it says of the start.
-use Rattle.std.proofs.Common.{◌≡◌, ◌⊎◌, inl, inr, ℕ, zero, suc, ◌+◌, ◌*◌, ◌<◌, ◌≤◌, true, false, List, [], ◌∷◌, ◌++◌, Option, Some, None, slice_get, length, refl, sym, ap, ◌∙◌, subst, leb, arith, append-nil, length-append}
+use Rattle.std.proofs.Common.{◌≡◌, ◌⊎◌, inl, inr, ℕ, zero, suc, ◌+◌, ◌*◌, ◌<◌, ◌≤◌, true, false, List, [], ◌∷◌, ◌++◌, Option, Some, None, slice_get, length, refl, sym, ap, ◌∙◌, subst, leb, arith}
+use Rattle.std.proofs.Common.{append-nil, length-append}
 use Rattle.std.proofs.Math.Nat.{le_of_mul-le-mul_left}
 use Rattle.std.proofs.Math.Bridge.{le_prop}
 use Rattle.std.proofs.lemmas.Bool.Decides.{eqb_tells, leb_tells}
@@ -16,15 +17,15 @@ use Rattle.rs_core.specs.Safety.{IsSafe}
 use Rattle.rs_core.proofs.Parts.{StraightTalk}
 use Rattle.rs_core.proofs.Items.{Item, sends, recvs, Ordered}
 use Rattle.rs_core.proofs.Stands.{Known, Trace, Stands, Good, Lasts, Peered}
-use Rattle.rs_core.proofs.Going.{safe-of-good}
+use Rattle.rs_core.proofs.Going.{safe_of_good}
 use Rattle.rs_project.specs.Data.{Projection_data}
 use Rattle.rs_project.specs.Graph.{LeadsTo, IsReached}
 use Rattle.rs_project.specs.Projection.{IsProjection}
-use Rattle.rs_safety.proofs.Kept.{seen, Spaced, seen-bound}
-use Rattle.rs_safety.proofs.Trail.{canon, lines-agree, pigeonhole}
-use Rattle.rs_safety.proofs.Walks.{numbered, reach-on, idle-end}
-use Rattle.rs_safety.proofs.Covers.{covers-start, covers-idle}
-use Rattle.rs_safety.proofs.Grow.{Walk_fact, Follower, Seat, Paced, said, seat-give, seat-take, seat-other}
+use Rattle.rs_safety.proofs.Kept.{seen, Spaced, seen_bound}
+use Rattle.rs_safety.proofs.Trail.{canon, lines_agree, pigeonhole}
+use Rattle.rs_safety.proofs.Walks.{numbered, reach_on, idle_end}
+use Rattle.rs_safety.proofs.Covers.{covers_start, covers_idle}
+use Rattle.rs_safety.proofs.Grow.{Walk_fact, Follower, Seat, Paced, said, seat_give, seat_take, seat_other}
 
 -- what one session is made of
 pub record Parts (pr : Protocol_data) (ms : List Machine_data) (f : ℕ → ℕ → ℕ) (bound : ℕ) : Type 1 where
@@ -44,16 +45,16 @@ pub record Built (pr : Protocol_data) (ms : List Machine_data) (f : ℕ → ℕ 
   pub reached : IsReached pr node
   pub seat : (p : ℕ) (hp : p < pr.roles) → Seat pr (numbered p) (parts.projection p) (parts.follower p hp).F trail node
 
-at-role : (R : ℕ) (P : (z : ℕ) → z < R → Type 0) (x : ℕ) (hx : x < R) → P x hx → (p : ℕ) (hp : p < R) → p ≡ x → P p hp
-at-role R P x hx h p hp e =
+at_role : (R : ℕ) (P : (z : ℕ) → z < R → Type 0) (x : ℕ) (hx : x < R) → P x hx → (p : ℕ) (hp : p < R) → p ≡ x → P p hp
+at_role R P x hx h p hp e =
     let Q : ℕ → Type 0 = λ z. (hz : z < R) → P z hz in
     let at_x : (hz : x < R) → P x hz = λ hz. (let S : x < R → Type 0 = λ w. P x w in subst S (le_prop hx hz) h) in
     (subst Q (sym e) at_x) hp
 
 -- at the start
-start-seat : (pr : Protocol_data) (p : Role) (pj : Projection_data) (m : Machine_data) (f : ℕ → ℕ) (bound : ℕ) (fl : Follower m pj.machine f bound)
+start_seat : (pr : Protocol_data) (p : Role) (pj : Projection_data) (m : Machine_data) (f : ℕ → ℕ) (bound : ℕ) (fl : Follower m pj.machine f bound)
     → IsProjection pr p pj → Seat pr p pj fl.F [] pr.root
-start-seat pr p pj m f bound fl is = record {
+start_seat pr p pj m f bound fl is = record {
   done = [];
   owed = [];
   t = pj.machine.start;
@@ -62,31 +63,33 @@ start-seat pr p pj m f bound fl is = record {
   got = λ q. refl;
   order = tt;
   below = tt;
-  covers = covers-start pr p pj is;
+  covers = covers_start pr p pj is;
   size = refl;
   spaced = tt;
   pace = inr record { since = []; fresh = tt; small = tt; rounds = λ h a. absurd a; uninvolved = λ h a. absurd a; far = omega arith };
 }
 
 -- one more talk
-more-talk : (pr : Protocol_data) (ms : List Machine_data) (f : ℕ → ℕ → ℕ) (bound : ℕ) (parts : Parts pr ms f bound) (n : ℕ) (b : Built pr ms f bound parts n)
+more_talk : (pr : Protocol_data) (ms : List Machine_data) (f : ℕ → ℕ → ℕ) (bound : ℕ) (parts : Parts pr ms f bound) (n : ℕ) (b : Built pr ms f bound parts n)
     (x y : Role) (theirs : List Arm) → Talks pr b.node x y theirs → Built pr ms f bound parts (suc n)
-more-talk pr ms f bound parts n b x y theirs ng =
+more_talk pr ms f bound parts n b x y theirs ng =
     let fit = parts.fits.talks b.node x y theirs ng in
-    let gave = seat-give pr x (parts.projection x.0) (parts.machine x.0) (f x.0) bound (parts.follower x.0 fit.puts) b.trail b.node y theirs (parts.projected x.0 fit.puts) fit.others ng (b.seat x.0 fit.puts) in
+    let gave = seat_give pr x (parts.projection x.0) (parts.machine x.0) (f x.0) bound (parts.follower x.0 fit.puts) b.trail b.node y theirs (parts.projected x.0 fit.puts) fit.others ng
+    (b.seat x.0 fit.puts) in
     let goes : LeadsTo pr b.node gave.arm gave.to.next = record { sender = x; receiver = y; arms = theirs; arm = gave.to; talks = ng; stands = gave.is; leads = refl } in
-    let took = seat-take pr y (parts.projection y.0) (parts.machine y.0) (f y.0) bound (parts.follower y.0 fit.takes) b.trail b.node x theirs gave.arm gave.to (parts.projected y.0 fit.takes) fit.others ng gave.is (b.seat y.0 fit.takes) in
+    let took = seat_take pr y (parts.projection y.0) (parts.machine y.0) (f y.0) bound (parts.follower y.0 fit.takes) b.trail b.node x theirs gave.arm gave.to (parts.projected y.0 fit.takes)
+    fit.others ng gave.is (b.seat y.0 fit.takes) in
     let P : (z : ℕ) → z < pr.roles → Type 0 = λ z hz. Seat pr (numbered z) (parts.projection z) (parts.follower z hz).F (said x y gave.to ∷ b.trail) gave.to.next in
     record {
       trail = said x y gave.to ∷ b.trail;
       node = gave.to.next;
       long = ap suc b.long;
-      reached = reach-on pr pr.root b.node gave.arm gave.to.next b.reached goes;
+      reached = reach_on pr pr.root b.node gave.arm gave.to.next b.reached goes;
       seat = λ p hp. elim (eqb_tells p x.0) [
-        | inl t ↦ at-role pr.roles P x.0 fit.puts gave.seat p hp t.1
+        | inl t ↦ at_role pr.roles P x.0 fit.puts gave.seat p hp t.1
         | inr t ↦ elim (eqb_tells p y.0) [
-          | inl u ↦ at-role pr.roles P y.0 fit.takes took p hp u.1
-          | inr u ↦ seat-other pr (numbered p) (parts.projection p) (parts.follower p hp).F b.trail b.node x y theirs gave.arm gave.to (parts.projected p hp)
+          | inl u ↦ at_role pr.roles P y.0 fit.takes took p hp u.1
+          | inr u ↦ seat_other pr (numbered p) (parts.projection p) (parts.follower p hp).F b.trail b.node x y theirs gave.arm gave.to (parts.projected p hp)
               (λ e. t.1 (ap (λ (z : Role). z.0) (sym e))) (λ e. u.1 (ap (λ (z : Role). z.0) (sym e))) ng gave.is b.reached (b.seat p hp)
         ]
       ];
@@ -98,22 +101,22 @@ pub data Growth (pr : Protocol_data) (ms : List Machine_data) (f : ℕ → ℕ �
   Halt : (m : ℕ) (b : Built pr ms f bound parts m)
       → ((p : ℕ) (hp : p < pr.roles) → slice_get (parts.projection p).machine.states (b.seat p hp).t ≡ Some Done) → Growth pr ms f bound parts n
 
-all-done : (pr : Protocol_data) (ms : List Machine_data) (f : ℕ → ℕ → ℕ) (bound : ℕ) (parts : Parts pr ms f bound) (n : ℕ) (b : Built pr ms f bound parts n)
+all_done : (pr : Protocol_data) (ms : List Machine_data) (f : ℕ → ℕ → ℕ) (bound : ℕ) (parts : Parts pr ms f bound) (n : ℕ) (b : Built pr ms f bound parts n)
     → ((x y : Role) (arms : List Arm) → Talks pr b.node x y arms → ⊥)
     → (p : ℕ) (hp : p < pr.roles) → slice_get (parts.projection p).machine.states (b.seat p hp).t ≡ Some Done
-all-done pr ms f bound parts n b none p hp =
-    covers-idle pr (numbered p) (parts.projection p) (b.seat p hp).t b.node (parts.projected p hp) (b.seat p hp).covers (idle-end pr (numbered p) b.node none)
+all_done pr ms f bound parts n b none p hp =
+    covers_idle pr (numbered p) (parts.projection p) (b.seat p hp).t b.node (parts.projected p hp) (b.seat p hp).covers (idle_end pr (numbered p) b.node none)
 
-grow-on : (pr : Protocol_data) (ms : List Machine_data) (f : ℕ → ℕ → ℕ) (bound : ℕ) (parts : Parts pr ms f bound) (n : ℕ) (b : Built pr ms f bound parts n)
+grow_on : (pr : Protocol_data) (ms : List Machine_data) (f : ℕ → ℕ → ℕ) (bound : ℕ) (parts : Parts pr ms f bound) (n : ℕ) (b : Built pr ms f bound parts n)
     (o : Option Node) → slice_get pr.nodes b.node ≡ o → Growth pr ms f bound parts (suc n)
-grow-on pr ms f bound parts n b (Some (Talk x y theirs)) e = Full (more-talk pr ms f bound parts n b x y theirs e)
-grow-on pr ms f bound parts n b None e = Halt n b (all-done pr ms f bound parts n b (λ x y theirs h. cc (e, h)))
-grow-on pr ms f bound parts n b (Some Finished) e = Halt n b (all-done pr ms f bound parts n b (λ x y theirs h. cc (e, h)))
+grow_on pr ms f bound parts n b (Some (Talk x y theirs)) e = Full (more_talk pr ms f bound parts n b x y theirs e)
+grow_on pr ms f bound parts n b None e = Halt n b (all_done pr ms f bound parts n b (λ x y theirs h. cc (e, h)))
+grow_on pr ms f bound parts n b (Some Finished) e = Halt n b (all_done pr ms f bound parts n b (λ x y theirs h. cc (e, h)))
 
-grow-next : (pr : Protocol_data) (ms : List Machine_data) (f : ℕ → ℕ → ℕ) (bound : ℕ) (parts : Parts pr ms f bound) (n : ℕ) → Growth pr ms f bound parts n
+grow_next : (pr : Protocol_data) (ms : List Machine_data) (f : ℕ → ℕ → ℕ) (bound : ℕ) (parts : Parts pr ms f bound) (n : ℕ) → Growth pr ms f bound parts n
     → Growth pr ms f bound parts (suc n)
-grow-next pr ms f bound parts n (Full b) = grow-on pr ms f bound parts n b (slice_get pr.nodes b.node) refl
-grow-next pr ms f bound parts n (Halt m b done) = Halt m b done
+grow_next pr ms f bound parts n (Full b) = grow_on pr ms f bound parts n b (slice_get pr.nodes b.node) refl
+grow_next pr ms f bound parts n (Halt m b done) = Halt m b done
 
 grow : (pr : Protocol_data) (ms : List Machine_data) (f : ℕ → ℕ → ℕ) (bound : ℕ) (parts : Parts pr ms f bound) (n : ℕ) → Growth pr ms f bound parts n
 grow pr ms f bound parts zero = Full record {
@@ -121,9 +124,9 @@ grow pr ms f bound parts zero = Full record {
   node = pr.root;
   long = refl;
   reached = ([], refl);
-  seat = λ p hp. start-seat pr (numbered p) (parts.projection p) (parts.machine p) (f p) bound (parts.follower p hp) (parts.projected p hp);
+  seat = λ p hp. start_seat pr (numbered p) (parts.projection p) (parts.machine p) (f p) bound (parts.follower p hp) (parts.projected p hp);
 }
-grow pr ms f bound parts (suc n) = grow-next pr ms f bound parts n (grow pr ms f bound parts n)
+grow pr ms f bound parts (suc n) = grow_next pr ms f bound parts n (grow pr ms f bound parts n)
 
 -- one role's part of what is said of the start
 pub record Part (F : Walk_fact) (m : Machine_data) (f : ℕ → ℕ) (nodes n p : ℕ) (trail : List StraightTalk) : Type 0 where
@@ -139,9 +142,10 @@ pub record Part (F : Walk_fact) (m : Machine_data) (f : ℕ → ℕ) (nodes n p 
   pub got : (q : ℕ) → recvs q (future ++ owed) ≡ recvs q (canon p trail)
   pub order : Ordered (future ++ owed)
 
-part-done : (pr : Protocol_data) (p : Role) (pj : Projection_data) (m : Machine_data) (f : ℕ → ℕ) (bound n : ℕ) (fl : Follower m pj.machine f bound) (trail : List StraightTalk) (g : ℕ) (seat : Seat pr p pj fl.F trail g)
+part_done : (pr : Protocol_data) (p : Role) (pj : Projection_data) (m : Machine_data) (f : ℕ → ℕ) (bound n : ℕ) (fl : Follower m pj.machine f bound) (trail : List StraightTalk) (g : ℕ)
+    (seat : Seat pr p pj fl.F trail g)
     → slice_get pj.machine.states seat.t ≡ Some Done → Part fl.F m f (length pr.nodes) n p.0 trail
-part-done pr p pj m f bound n fl trail g seat d =
+part_done pr p pj m f bound n fl trail g seat d =
     let e = fl.ends (canon p.0 trail) seat.done seat.owed seat.t seat.follows d in
     record {
       future = e.done';
@@ -163,15 +167,16 @@ enough N n bound size k trail last since hN ht hf hl hs hk =
     let h : n + bound ≤ size = le_of_mul-le-mul_left e hN in
     omega arith
 
-part-live : (pr : Protocol_data) (p : Role) (pj : Projection_data) (m : Machine_data) (f : ℕ → ℕ) (bound n : ℕ) (fl : Follower m pj.machine f bound) (trail : List StraightTalk) (g : ℕ) (seat : Seat pr p pj fl.F trail g)
+part_live : (pr : Protocol_data) (p : Role) (pj : Projection_data) (m : Machine_data) (f : ℕ → ℕ) (bound n : ℕ) (fl : Follower m pj.machine f bound) (trail : List StraightTalk) (g : ℕ)
+    (seat : Seat pr p pj fl.F trail g)
     → 0 < length pr.nodes → length pr.nodes * (n + bound + 1) ≤ length trail → Paced pr p g (length trail) (seen 0 (canon p.0 trail)) → Part fl.F m f (length pr.nodes) n p.0 trail
-part-live pr p pj m f bound n fl trail g seat hN ht pc =
+part_live pr p pj m f bound n fl trail g seat hN ht pc =
     let tr = fl.trace (canon p.0 trail) seat.done seat.owed seat.t seat.follows in
     let since : length pc.since ≤ length pr.nodes = pigeonhole (length pr.nodes) pc.since pc.fresh pc.small in
     let sum : length (seat.done ++ seat.owed) ≡ length seat.done + length seat.owed = length-append seat.done seat.owed in
     let size = seat.size in
     let short : length seat.owed ≤ bound = fl.short (canon p.0 trail) seat.done seat.owed seat.t seat.follows in
-    let last : seen 0 (canon p.0 trail) ≤ 0 + length pr.nodes * length (canon p.0 trail) = seen-bound (length pr.nodes) 0 (canon p.0 trail) seat.spaced in
+    let last : seen 0 (canon p.0 trail) ≤ 0 + length pr.nodes * length (canon p.0 trail) = seen_bound (length pr.nodes) 0 (canon p.0 trail) seat.spaced in
     let many : n + length seat.owed ≤ length (canon p.0 trail) =
     enough (length pr.nodes) n bound (length (canon p.0 trail)) (length seat.owed) (length trail) (seen 0 (canon p.0 trail)) (length pc.since) hN ht pc.far last since short in
     let long : n ≤ length seat.done = omega arith in
@@ -189,48 +194,52 @@ part-live pr p pj m f bound n fl trail g seat hN ht pc =
       order = seat.order;
     }
 
-part-of : (pr : Protocol_data) (p : Role) (pj : Projection_data) (m : Machine_data) (f : ℕ → ℕ) (bound n : ℕ) (fl : Follower m pj.machine f bound) (trail : List StraightTalk) (g : ℕ) (seat : Seat pr p pj fl.F trail g)
+part_of : (pr : Protocol_data) (p : Role) (pj : Projection_data) (m : Machine_data) (f : ℕ → ℕ) (bound n : ℕ) (fl : Follower m pj.machine f bound) (trail : List StraightTalk) (g : ℕ)
+    (seat : Seat pr p pj fl.F trail g)
     → 0 < length pr.nodes → length pr.nodes * (n + bound + 1) ≤ length trail → Part fl.F m f (length pr.nodes) n p.0 trail
-part-of pr p pj m f bound n fl trail g seat hN ht = elim seat.pace [
-  | inl d ↦ part-done pr p pj m f bound n fl trail g seat d
-  | inr pc ↦ part-live pr p pj m f bound n fl trail g seat hN ht pc
+part_of pr p pj m f bound n fl trail g seat hN ht = elim seat.pace [
+  | inl d ↦ part_done pr p pj m f bound n fl trail g seat d
+  | inr pc ↦ part_live pr p pj m f bound n fl trail g seat hN ht pc
 ]
 
 pub record AllParts (pr : Protocol_data) (ms : List Machine_data) (f : ℕ → ℕ → ℕ) (bound : ℕ) (parts : Parts pr ms f bound) (n : ℕ) : Type 0 where
   pub trail : List StraightTalk
   pub part : (p : ℕ) (hp : p < pr.roles) → Part (parts.follower p hp).F (parts.machine p) (f p) (length pr.nodes) n p trail
 
-all-parts : (pr : Protocol_data) (ms : List Machine_data) (f : ℕ → ℕ → ℕ) (bound : ℕ) (parts : Parts pr ms f bound) (n : ℕ) → Growth pr ms f bound parts (length pr.nodes * (n + bound + 1)) → AllParts pr ms f bound parts n
-all-parts pr ms f bound parts n (Full b) = record {
+all_parts : (pr : Protocol_data) (ms : List Machine_data) (f : ℕ → ℕ → ℕ) (bound : ℕ) (parts : Parts pr ms f bound) (n : ℕ) → Growth pr ms f bound parts (length pr.nodes * (n + bound + 1))
+    → AllParts pr ms f bound parts n
+all_parts pr ms f bound parts n (Full b) = record {
   trail = b.trail;
-  part = λ p hp. part-of pr (numbered p) (parts.projection p) (parts.machine p) (f p) bound n (parts.follower p hp) b.trail b.node (b.seat p hp) (let h = parts.fits.root in omega arith) (omega (arith, b.long));
+  part = λ p hp. part_of pr (numbered p) (parts.projection p) (parts.machine p) (f p) bound n (parts.follower p hp) b.trail b.node (b.seat p hp) (let h = parts.fits.root in omega arith)
+      (omega (arith, b.long));
 }
-all-parts pr ms f bound parts n (Halt m b done) = record {
+all_parts pr ms f bound parts n (Halt m b done) = record {
   trail = b.trail;
-  part = λ p hp. part-done pr (numbered p) (parts.projection p) (parts.machine p) (f p) bound n (parts.follower p hp) b.trail b.node (b.seat p hp) (done p hp);
+  part = λ p hp. part_done pr (numbered p) (parts.projection p) (parts.machine p) (f p) bound n (parts.follower p hp) b.trail b.node (b.seat p hp) (done p hp);
 }
 
 -- a function on the roles, as one on all numbers
-choose-in : (R p : ℕ) → ((z : ℕ) → z < R → List Item) → ((leb (suc p) R ≡ true) × (suc p ≤ R)) ⊎ ((leb (suc p) R ≡ false) × (R < suc p)) → List Item
-choose-in R p f (inl h) = f p h.1
-choose-in R p f (inr h) = []
+choose_in : (R p : ℕ) → ((z : ℕ) → z < R → List Item) → ((leb (suc p) R ≡ true) × (suc p ≤ R)) ⊎ ((leb (suc p) R ≡ false) × (R < suc p)) → List Item
+choose_in R p f (inl h) = f p h.1
+choose_in R p f (inr h) = []
 
-choose-in-is : (R p : ℕ) (f : (z : ℕ) → z < R → List Item) (hp : p < R) (d : ((leb (suc p) R ≡ true) × (suc p ≤ R)) ⊎ ((leb (suc p) R ≡ false) × (R < suc p))) → choose-in R p f d ≡ f p hp
-unfolding choose-in
-choose-in-is R p f hp (inl h) = ap (f p) (le_prop h.1 hp)
-choose-in-is R p f hp (inr h) = absurd (omega (arith, h.1))
+choose_in_is : (R p : ℕ) (f : (z : ℕ) → z < R → List Item) (hp : p < R) (d : ((leb (suc p) R ≡ true) × (suc p ≤ R)) ⊎ ((leb (suc p) R ≡ false) × (R < suc p))) → choose_in R p f d ≡ f p hp
+unfolding choose_in
+choose_in_is R p f hp (inl h) = ap (f p) (le_prop h.1 hp)
+choose_in_is R p f hp (inr h) = absurd (omega (arith, h.1))
 
 choose : (R : ℕ) → ((z : ℕ) → z < R → List Item) → ℕ → List Item
-choose R f p = choose-in R p f (leb_tells (suc p) R)
+choose R f p = choose_in R p f (leb_tells (suc p) R)
 
-choose-is : (R : ℕ) (f : (z : ℕ) → z < R → List Item) (p : ℕ) (hp : p < R) → choose R f p ≡ f p hp
+choose_is : (R : ℕ) (f : (z : ℕ) → z < R → List Item) (p : ℕ) (hp : p < R) → choose R f p ≡ f p hp
 unfolding choose
-choose-is R f p hp = choose-in-is R p f hp (leb_tells (suc p) R)
+choose_is R f p hp = choose_in_is R p f hp (leb_tells (suc p) R)
 
-stands-start : (pr : Protocol_data) (ms : List Machine_data) (f : ℕ → ℕ → ℕ) (bound : ℕ) (parts : Parts pr ms f bound) (W : Known) (n : ℕ) (c : Configuration) → StartsAt ms c
-    → ((p : ℕ) (hp : p < pr.roles) (trail : List StraightTalk) (future owed : List Item) (t : ℕ) → (parts.follower p hp).F (canon p trail) future owed t → Spaced (length pr.nodes) 0 (canon p trail) → W p future owed)
+stands_start : (pr : Protocol_data) (ms : List Machine_data) (f : ℕ → ℕ → ℕ) (bound : ℕ) (parts : Parts pr ms f bound) (W : Known) (n : ℕ) (c : Configuration) → StartsAt ms c
+    → ((p : ℕ) (hp : p < pr.roles) (trail : List StraightTalk) (future owed : List Item) (t : ℕ) → (parts.follower p hp).F (canon p trail) future owed t → Spaced (length pr.nodes) 0 (canon p trail)
+    → W p future owed)
     → AllParts pr ms f bound parts n → Stands ms W (λ r. 0) f n c
-stands-start pr ms f bound parts W n c start tells all =
+stands_start pr ms f bound parts W n c start tells all =
     let fut : (z : ℕ) → z < pr.roles → List Item = λ z hz. (all.part z hz).future in
     let ow : (z : ℕ) → z < pr.roles → List Item = λ z hz. (all.part z hz).owed in
     record {
@@ -240,18 +249,18 @@ stands-start pr ms f bound parts W n c start tells all =
       known = λ a ha.
           let hp : a < pr.roles = omega (arith, parts.roles) in
           let pt = all.part a hp in
-          rw (choose-is pr.roles fut a hp, choose-is pr.roles ow a hp) (tells a hp all.trail pt.future pt.owed pt.above pt.follows pt.spaced);
+          rw (choose_is pr.roles fut a hp, choose_is pr.roles ow a hp) (tells a hp all.trail pt.future pt.owed pt.above pt.follows pt.spaced);
       acts = λ a ha. refl;
       lines = λ a b ha hb ne.
           let hp : a < pr.roles = omega (arith, parts.roles) in
           let hq : b < pr.roles = omega (arith, parts.roles) in
-          rw (choose-is pr.roles fut a hp, choose-is pr.roles ow a hp, choose-is pr.roles fut b hq, choose-is pr.roles ow b hq)
-          ((all.part a hp).sent b ∙ lines-agree a b ne all.trail ∙ sym ((all.part b hq).got a));
+          rw (choose_is pr.roles fut a hp, choose_is pr.roles ow a hp, choose_is pr.roles fut b hq, choose_is pr.roles ow b hq)
+          ((all.part a hp).sent b ∙ lines_agree a b ne all.trail ∙ sym ((all.part b hq).got a));
       plays = λ a ha.
           let hp : a < pr.roles = omega (arith, parts.roles) in
           let pt = all.part a hp in
           let P : ℕ → Type 0 = λ z. Trace (parts.machine a) (f a) z pt.future pt.last in
-          rw (choose-is pr.roles fut a hp, choose-is pr.roles ow a hp) record {
+          rw (choose_is pr.roles fut a hp, choose_is pr.roles ow a hp) record {
             machine = parts.machine a;
             is = parts.is a hp;
             last = pt.last;
@@ -260,22 +269,23 @@ stands-start pr ms f bound parts W n c start tells all =
           };
       order = λ a ha.
           let hp : a < pr.roles = omega (arith, parts.roles) in
-          rw (choose-is pr.roles fut a hp, choose-is pr.roles ow a hp) (all.part a hp).order;
+          rw (choose_is pr.roles fut a hp, choose_is pr.roles ow a hp) (all.part a hp).order;
       balance = λ a b ha hb ne.
           let hp : a < pr.roles = omega (arith, parts.roles) in
           let hq : b < pr.roles = omega (arith, parts.roles) in
-          rw (start.queues a b, choose-is pr.roles fut a hp, choose-is pr.roles ow a hp, choose-is pr.roles fut b hq, choose-is pr.roles ow b hq)
-          ((all.part a hp).sent b ∙ lines-agree a b ne all.trail ∙ sym ((all.part b hq).got a));
+          rw (start.queues a b, choose_is pr.roles fut a hp, choose_is pr.roles ow a hp, choose_is pr.roles fut b hq, choose_is pr.roles ow b hq)
+          ((all.part a hp).sent b ∙ lines_agree a b ne all.trail ∙ sym ((all.part b hq).got a));
     }
 
 -- sessions whose roles have followers are good at the start, with what the followers tell
-pub good-of-parts : (pr : Protocol_data) (ms : List Machine_data) (bound : ℕ) (W : Known) (parts : (f : ℕ → ℕ → ℕ) → Parts pr ms f bound)
-    → ((f : ℕ → ℕ → ℕ) (p : ℕ) (hp : p < pr.roles) (trail : List StraightTalk) (future owed : List Item) (t : ℕ) → ((parts f).follower p hp).F (canon p trail) future owed t → Spaced (length pr.nodes) 0 (canon p trail) → W p future owed)
+pub good_of_parts : (pr : Protocol_data) (ms : List Machine_data) (bound : ℕ) (W : Known) (parts : (f : ℕ → ℕ → ℕ) → Parts pr ms f bound)
+    → ((f : ℕ → ℕ → ℕ) (p : ℕ) (hp : p < pr.roles) (trail : List StraightTalk) (future owed : List Item) (t : ℕ) → ((parts f).follower p hp).F (canon p trail) future owed t
+    → Spaced (length pr.nodes) 0 (canon p trail) → W p future owed)
     → (c : Configuration) → StartsAt ms c → Good ms W (λ r. 0) c
-good-of-parts pr ms bound W parts tells c start f n =
-    stands-start pr ms f bound (parts f) W n c start (tells f) (all-parts pr ms f bound (parts f) n (grow pr ms f bound (parts f) (length pr.nodes * (n + bound + 1))))
+good_of_parts pr ms bound W parts tells c start f n =
+    stands_start pr ms f bound (parts f) W n c start (tells f) (all_parts pr ms f bound (parts f) n (grow pr ms f bound (parts f) (length pr.nodes * (n + bound + 1))))
 
--- .. and safe
-pub safe-of-parts : (pr : Protocol_data) (ms : List Machine_data) (bound : ℕ) → Peered ms → ((f : ℕ → ℕ → ℕ) → Parts pr ms f bound) → IsSafe ms
-safe-of-parts pr ms bound peered parts =
-    safe-of-good ms (λ p x y. Unit {0}) peered (good-of-parts pr ms bound (λ p x y. Unit {0}) parts (λ f p hp trail future owed t w sp. tt))
+-- sessions whose roles have followers are safe
+pub safe_of_parts : (pr : Protocol_data) (ms : List Machine_data) (bound : ℕ) → Peered ms → ((f : ℕ → ℕ → ℕ) → Parts pr ms f bound) → IsSafe ms
+safe_of_parts pr ms bound peered parts =
+    safe_of_good ms (λ p x y. Unit {0}) peered (good_of_parts pr ms bound (λ p x y. Unit {0}) parts (λ f p hp trail future owed t w sp. tt))

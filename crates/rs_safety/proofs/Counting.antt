@@ -17,25 +17,17 @@ pub record CountsTo (fs : List Figures) (count owed late : ℕ) : Type 0 where
   pub lags : greatest (map lag_by (drop count fs)) late ≡ greatest (map lag_by fs) 0
   pub soon : late ≤ 255 * 2 ^ 32
 
--- none is
-pub counts-none : (fs : List Figures) (owed late : ℕ) → owed ≡ 0 → late ≡ 0 → CountsTo fs 0 owed late
-counts-none fs owed late o l = record {
-  owes = ap (greatest (map (λ (f : Figures). f.owed) fs)) o;
-  lags = ap (greatest (map lag_by fs)) l;
-  soon = omega (arith, l);
-}
-
 -- one more of a list
-pub greatest-on : {A : Type 0} (f : A → ℕ) (xs : List A) (count m : ℕ) (x : A) → slice_get xs count ≡ Some x
+pub greatest_on : {A : Type 0} (f : A → ℕ) (xs : List A) (count m : ℕ) (x : A) → slice_get xs count ≡ Some x
     → greatest (map f (drop (count + 1) xs)) (max m (f x)) ≡ greatest (map f (drop count xs)) m
-greatest-on f xs count m x h = ap (λ z. greatest (map f z) m) (sym (drop_here xs count x h))
+greatest_on f xs count m x h = ap (λ z. greatest (map f z) m) (sym (drop_here xs count x h))
 
 -- all of a list
-pub greatest-all : {A : Type 0} (f : A → ℕ) (xs : List A) (count m : ℕ) → greatest (map f (drop count xs)) m ≡ greatest (map f xs) 0 → length xs ≤ count → m ≡ greatest (map f xs) 0
-greatest-all f xs count m e h = ap (λ z. greatest (map f z) m) (sym (drop_all count xs h)) ∙ e
+pub greatest_all : {A : Type 0} (f : A → ℕ) (xs : List A) (count m : ℕ) → greatest (map f (drop count xs)) m ≡ greatest (map f xs) 0 → length xs ≤ count → m ≡ greatest (map f xs) 0
+greatest_all f xs count m e h = ap (λ z. greatest (map f z) m) (sym (drop_all count xs h)) ∙ e
 
-pub at-most-both : (m x k : ℕ) → m ≤ k → x ≤ k → max m x ≤ k
-at-most-both m x k hm hx = elim (cases_order m x) [
+pub at_most_both : (m x k : ℕ) → m ≤ k → x ≤ k → max m x ≤ k
+at_most_both m x k hm hx = elim (cases_order m x) [
   | inl e ↦ (let r : max m x ≡ m = max-eq_left (omega (arith, e)) in omega (arith, r))
   | inr h ↦ elim h [
     | inl e ↦ (let r : max m x ≡ x = max-eq_right (omega (arith, e)) in omega (arith, r))
@@ -49,31 +41,31 @@ product owed rank h k =
     omega (arith, x, k)
 
 -- one more is
-pub counts-on : (fs : List Figures) (count owed late : ℕ) (f : Figures) (owed' late' : ℕ) → slice_get fs count ≡ Some f → owed' ≡ max owed f.owed → late' ≡ max late (lag_by f) → late' ≤ 255 * 2 ^ 32
+pub counts_on : (fs : List Figures) (count owed late : ℕ) (f : Figures) (owed' late' : ℕ) → slice_get fs count ≡ Some f → owed' ≡ max owed f.owed → late' ≡ max late (lag_by f) → late' ≤ 255 * 2 ^ 32
     → CountsTo fs count owed late → CountsTo fs (count + 1) owed' late'
-counts-on fs count owed late f owed' late' h o l soon to = record {
-  owes = ap (greatest (map (λ (g : Figures). g.owed) (drop (count + 1) fs))) o ∙ greatest-on (λ (g : Figures). g.owed) fs count owed f h ∙ to.owes;
-  lags = ap (greatest (map lag_by (drop (count + 1) fs))) l ∙ greatest-on lag_by fs count late f h ∙ to.lags;
+counts_on fs count owed late f owed' late' h o l soon to = record {
+  owes = ap (greatest (map (λ (g : Figures). g.owed) (drop (count + 1) fs))) o ∙ greatest_on (λ (g : Figures). g.owed) fs count owed f h ∙ to.owes;
+  lags = ap (greatest (map lag_by (drop (count + 1) fs))) l ∙ greatest_on lag_by fs count late f h ∙ to.lags;
   soon = soon;
 }
 
 -- all are
 pub counted : (fs : List Figures) (count owed late : ℕ) → CountsTo fs count owed late → length fs ≤ count → 1 + owed + late ≡ room_by fs
 counted fs count owed late to h =
-    ap₂ (λ x y. 1 + x + y) (greatest-all (λ (f : Figures). f.owed) fs count owed to.owes h) (greatest-all lag_by fs count late to.lags h)
+    ap₂ (λ x y. 1 + x + y) (greatest_all (λ (f : Figures). f.owed) fs count owed to.owes h) (greatest_all lag_by fs count late to.lags h)
 
-owed-of : (ds : List Derivation_data) → map (λ (f : Figures). f.owed) (map figures_of ds) ≡ map longest ds
-owed-of [] = refl
-owed-of (d ∷ ds) = ap (λ z. longest d ∷ z) (owed-of ds)
+owed_of : (ds : List Derivation_data) → map (λ (f : Figures). f.owed) (map figures_of ds) ≡ map longest ds
+owed_of [] = refl
+owed_of (d ∷ ds) = ap (λ z. longest d ∷ z) (owed_of ds)
 
-lags-of : (ds : List Derivation_data) → map lag_by (map figures_of ds) ≡ map lag ds
-lags-of [] = refl
-lags-of (d ∷ ds) = ap (λ z. lag d ∷ z) (lags-of ds)
+lags_of : (ds : List Derivation_data) → map lag_by (map figures_of ds) ≡ map lag ds
+lags_of [] = refl
+lags_of (d ∷ ds) = ap (λ z. lag d ∷ z) (lags_of ds)
 
 -- the room by the figures of derivations is theirs
-pub room-by : (ds : List Derivation_data) → room_by (map figures_of ds) ≡ room_of ds
-room-by ds = ap₂ (λ x y. 1 + greatest x 0 + greatest y 0) (owed-of ds) (lags-of ds)
+pub room_by_shown : (ds : List Derivation_data) → room_by (map figures_of ds) ≡ room_of ds
+room_by_shown ds = ap₂ (λ x y. 1 + greatest x 0 + greatest y 0) (owed_of ds) (lags_of ds)
 
 -- what stands at a place
-pub figures-at : (ds : List Derivation_data) (n : ℕ) (d : Derivation_data) → slice_get ds n ≡ Some d → slice_get (map figures_of ds) n ≡ Some (figures_of d)
-figures-at ds n d h = rw (slice_get-map figures_of ds n, h) refl
+pub figures_at : (ds : List Derivation_data) (n : ℕ) (d : Derivation_data) → slice_get ds n ≡ Some d → slice_get (map figures_of ds) n ≡ Some (figures_of d)
+figures_at ds n d h = rw (slice_get-map figures_of ds n, h) refl

@@ -1,5 +1,6 @@
 -- A path that fits every role's walk, grown talk by talk.
-use Rattle.std.proofs.Common.{◌≡◌, ◌≢◌, ◌⊎◌, inl, inr, ℕ, suc, ◌+◌, ◌<◌, ◌≤◌, List, [], ◌∷◌, ◌++◌, Option, Some, None, slice_get, length, refl, sym, ap, ap₂, ◌∙◌, subst, subst₂, arith, append-nil, length-append}
+use Rattle.std.proofs.Common.{◌≡◌, ◌≢◌, ◌⊎◌, inl, inr, ℕ, suc, ◌+◌, ◌<◌, ◌≤◌, List, [], ◌∷◌, ◌++◌, Option, Some, None, slice_get, length, refl, sym, ap, ap₂, ◌∙◌, subst, subst₂, arith, append-nil}
+use Rattle.std.proofs.Common.{length-append}
 use Rattle.std.proofs.lemmas.Option.{slice_get_within}
 use Rattle.rs_model.specs.Data.{Machine_data, Protocol_data}
 use Rattle.rs_model.specs.declared.graph.Arm.{Arm}
@@ -10,17 +11,17 @@ use Rattle.rs_model.specs.declared.machines.State.{State}
 use Rattle.rs_model.specs.declared.machines.State.TheVariants.{Done, Puts, Takes}
 use Rattle.rs_model.specs.declared.values.Sort.{Sort}
 use Rattle.rs_model.specs.Talks.{Talks}
-use Rattle.rs_core.proofs.Items.{Item, Give, Get, Entry, sends, recvs, sends-append, recvs-append, Ordered}
-use Rattle.rs_core.proofs.Parts.{StraightTalk, own, own-sender, own-receiver, own-other}
+use Rattle.rs_core.proofs.Items.{Item, Give, Get, Entry, sends, recvs, sends_append, recvs_append, Ordered}
+use Rattle.rs_core.proofs.Parts.{StraightTalk, own, own_sender, own_receiver, own_other}
 use Rattle.rs_core.proofs.Stands.{Trace}
 use Rattle.rs_project.specs.Data.{Projection_data}
 use Rattle.rs_project.specs.Graph.{LeadsTo, IsReached, Involves, PassesBy}
 use Rattle.rs_project.specs.Projection.{IsProjection}
-use Rattle.rs_safety.proofs.Kept.{place_of, Below, seen, Spaced, seen-snoc, spaced-snoc, each-more, Kept, ordered-push, below-push}
+use Rattle.rs_safety.proofs.Kept.{place_of, Below, seen, Spaced, seen_snoc, spaced_snoc, each_more, Kept, ordered_push, below_push}
 use Rattle.rs_safety.proofs.Members.{Among}
 use Rattle.rs_safety.proofs.Trail.{canon, Fresh, AllBelow, pigeonhole}
-use Rattle.rs_safety.proofs.Walks.{other-number, Round, round-one, round-more, involves-sender, involves-receiver, involves-neither}
-use Rattle.rs_safety.proofs.Covers.{Covers, covers-next, covers-awaited, covers-put, covers-take}
+use Rattle.rs_safety.proofs.Walks.{other_number, Round, round_one, round_more, involves_sender, involves_receiver, involves_neither}
+use Rattle.rs_safety.proofs.Covers.{Covers, covers_next, covers_awaited, covers_put, covers_take}
 
 -- what a walk has come to: the acts that it has passed, those done, those owed, and the state of the projection
 abbrev pub Walk_fact : Type 1
@@ -94,26 +95,26 @@ abbrev pub said : Role → Role → Arm → StraightTalk
 said x y to = record { sender = x; receiver = y; label = to.label; sort = to.sort }
 
 -- the lines after one more item of p
-sent-more : (p q : ℕ) (trail : List StraightTalk) (s : StraightTalk) (x : Item) (W W' : List Item) → Kept (W ++ (x ∷ [])) W'
+sent_more : (p q : ℕ) (trail : List StraightTalk) (s : StraightTalk) (x : Item) (W W' : List Item) → Kept (W ++ (x ∷ [])) W'
     → own p (length trail) s ≡ x ∷ [] → sends q W ≡ sends q (canon p trail) → sends q W' ≡ sends q (canon p (s ∷ trail))
-sent-more p q trail s x W W' kept own_is e =
-    kept.sent q ∙ sends-append q W (x ∷ []) ∙ ap₂ (λ (u v : List Entry). u ++ v) e (ap (λ (z : List Item). sends q z) (sym own_is)) ∙ sym (sends-append q (canon p trail) (own p (length trail) s))
+sent_more p q trail s x W W' kept own_is e =
+    kept.sent q ∙ sends_append q W (x ∷ []) ∙ ap₂ (λ (u v : List Entry). u ++ v) e (ap (λ (z : List Item). sends q z) (sym own_is)) ∙ sym (sends_append q (canon p trail) (own p (length trail) s))
 
-got-more : (p q : ℕ) (trail : List StraightTalk) (s : StraightTalk) (x : Item) (W W' : List Item) → Kept (W ++ (x ∷ [])) W'
+got_more : (p q : ℕ) (trail : List StraightTalk) (s : StraightTalk) (x : Item) (W W' : List Item) → Kept (W ++ (x ∷ [])) W'
     → own p (length trail) s ≡ x ∷ [] → recvs q W ≡ recvs q (canon p trail) → recvs q W' ≡ recvs q (canon p (s ∷ trail))
-got-more p q trail s x W W' kept own_is e =
-    kept.got q ∙ recvs-append q W (x ∷ []) ∙ ap₂ (λ (u v : List Entry). u ++ v) e (ap (λ (z : List Item). recvs q z) (sym own_is)) ∙ sym (recvs-append q (canon p trail) (own p (length trail) s))
+got_more p q trail s x W W' kept own_is e =
+    kept.got q ∙ recvs_append q W (x ∷ []) ∙ ap₂ (λ (u v : List Entry). u ++ v) e (ap (λ (z : List Item). recvs q z) (sym own_is)) ∙ sym (recvs_append q (canon p trail) (own p (length trail) s))
 
 -- since the last talk of p fewer nodes than there are: the talk itself is one more
-pace-few : (pr : Protocol_data) (p : Role) (g n last : ℕ) → g < length pr.nodes → Involves pr p g → (pc : Paced pr p g n last)
+pace_few : (pr : Protocol_data) (p : Role) (g n last : ℕ) → g < length pr.nodes → Involves pr p g → (pc : Paced pr p g n last)
     → suc (length pc.since) ≤ length pr.nodes
-pace-few pr p g n last hg inv pc =
+pace_few pr p g n last hg inv pc =
     let fresh : Fresh (g ∷ pc.since) = ((λ h. pc.uninvolved g h inv), pc.fresh) in
     pigeonhole (length pr.nodes) (g ∷ pc.since) fresh (hg, pc.small)
 
 -- the pace begins anew at a talk of p
-pace-anew : (pr : Protocol_data) (p : Role) (g' n last : ℕ) → last ≡ suc n → Paced pr p g' (suc n) last
-pace-anew pr p g' n last e = record {
+pace_anew : (pr : Protocol_data) (p : Role) (g' n last : ℕ) → last ≡ suc n → Paced pr p g' (suc n) last
+pace_anew pr p g' n last e = record {
   since = [];
   fresh = tt;
   small = tt;
@@ -123,36 +124,36 @@ pace-anew pr p g' n last e = record {
 }
 
 -- the seat after one more item of p, from which the other facts follow
-seat-after : (pr : Protocol_data) (p : Role) (pj : Projection_data) (F : Walk_fact) (trail : List StraightTalk) (g g' t' : ℕ) (s : StraightTalk) (x : Item) (done' owed' : List Item)
+seat_after : (pr : Protocol_data) (p : Role) (pj : Projection_data) (F : Walk_fact) (trail : List StraightTalk) (g g' t' : ℕ) (s : StraightTalk) (x : Item) (done' owed' : List Item)
     → (seat : Seat pr p pj F trail g)
     → g < length pr.nodes → Involves pr p g → (slice_get pj.machine.states seat.t ≡ Some Done → ⊥)
     → place_of x ≡ length trail → own p.0 (length trail) s ≡ x ∷ []
     → Kept ((seat.done ++ seat.owed) ++ (x ∷ [])) (done' ++ owed')
     → F (canon p.0 trail ++ (x ∷ [])) done' owed' t' → Covers pr p pj.sets t' g' → Seat pr p pj F (s ∷ trail) g'
-seat-after pr p pj F trail g g' t' s x done' owed' seat hg inv live at own_is kept follows covers =
+seat_after pr p pj F trail g g' t' s x done' owed' seat hg inv live at own_is kept follows covers =
     let pc : Paced pr p g (length trail) (seen 0 (canon p.0 trail)) = elim seat.pace [ inl e ↦ absurd (live e) | inr pc' ↦ pc' ] in
-    let few = pace-few pr p g (length trail) (seen 0 (canon p.0 trail)) hg inv pc in
+    let few = pace_few pr p g (length trail) (seen 0 (canon p.0 trail)) hg inv pc in
     let canon_is : canon p.0 (s ∷ trail) ≡ canon p.0 trail ++ (x ∷ []) = ap (λ (z : List Item). canon p.0 trail ++ z) own_is in
     let P : List Item → Type 0 = λ z. F z done' owed' t' in
     let Q : List Item → Type 0 = λ z. Spaced (length pr.nodes) 0 z in
-    let last : seen 0 (canon p.0 (s ∷ trail)) ≡ suc (length trail) = ap (λ (z : List Item). seen 0 z) canon_is ∙ seen-snoc 0 (canon p.0 trail) x ∙ ap suc at in
+    let last : seen 0 (canon p.0 (s ∷ trail)) ≡ suc (length trail) = ap (λ (z : List Item). seen 0 z) canon_is ∙ seen_snoc 0 (canon p.0 trail) x ∙ ap suc at in
     record {
       done = done';
       owed = owed';
       t = t';
       follows = subst P (sym canon_is) follows;
-      sent = λ q. sent-more p.0 q trail s x (seat.done ++ seat.owed) (done' ++ owed') kept own_is (seat.sent q);
-      got = λ q. got-more p.0 q trail s x (seat.done ++ seat.owed) (done' ++ owed') kept own_is (seat.got q);
-      order = kept.order (ordered-push (seat.done ++ seat.owed) x (let R : ℕ → Type 0 = λ z. Below z (seat.done ++ seat.owed) in subst R (sym at) seat.below) seat.order);
-      below = kept.below (suc (length trail)) (below-push (seat.done ++ seat.owed) x (length trail) at seat.below);
+      sent = λ q. sent_more p.0 q trail s x (seat.done ++ seat.owed) (done' ++ owed') kept own_is (seat.sent q);
+      got = λ q. got_more p.0 q trail s x (seat.done ++ seat.owed) (done' ++ owed') kept own_is (seat.got q);
+      order = kept.order (ordered_push (seat.done ++ seat.owed) x (let R : ℕ → Type 0 = λ z. Below z (seat.done ++ seat.owed) in subst R (sym at) seat.below) seat.order);
+      below = kept.below (suc (length trail)) (below_push (seat.done ++ seat.owed) x (length trail) at seat.below);
       covers = covers;
       size = (let e : length (done' ++ owed') ≡ length ((seat.done ++ seat.owed) ++ (x ∷ [])) = kept.size in
           let c : length (canon p.0 (s ∷ trail)) ≡ length (canon p.0 trail ++ (x ∷ [])) = ap length canon_is in
           let sz = seat.size in
           omega (arith, length-append (seat.done ++ seat.owed) (x ∷ []), length-append (canon p.0 trail) (x ∷ [])));
       spaced = (let far = pc.far in
-          subst Q (sym canon_is) (spaced-snoc (length pr.nodes) 0 (canon p.0 trail) x seat.spaced (omega arith) (omega arith)));
-      pace = inr (pace-anew pr p g' (length trail) (seen 0 (canon p.0 (s ∷ trail))) last);
+          subst Q (sym canon_is) (spaced_snoc (length pr.nodes) 0 (canon p.0 trail) x seat.spaced (omega arith) (omega arith)));
+      pace = inr (pace_anew pr p g' (length trail) (seen 0 (canon p.0 (s ∷ trail))) last);
     }
 
 -- the sender's walk fixes the arm
@@ -162,11 +163,12 @@ pub record Gave (pr : Protocol_data) (p : Role) (pj : Projection_data) (F : Walk
   pub is : slice_get theirs arm ≡ Some to
   pub seat : Seat pr p pj F (said p y to ∷ trail) to.next
 
-pub seat-give : (pr : Protocol_data) (p : Role) (pj : Projection_data) (m : Machine_data) (f : ℕ → ℕ) (bound : ℕ) (fl : Follower m pj.machine f bound) (trail : List StraightTalk) (g : ℕ) (y : Role) (theirs : List Arm)
+pub seat_give : (pr : Protocol_data) (p : Role) (pj : Projection_data) (m : Machine_data) (f : ℕ → ℕ) (bound : ℕ) (fl : Follower m pj.machine f bound) (trail : List StraightTalk) (g : ℕ) (y : Role)
+    (theirs : List Arm)
     → IsProjection pr p pj → p ≢ y → Talks pr g p y theirs → Seat pr p pj fl.F trail g → Gave pr p pj fl.F trail y theirs
-seat-give pr p pj m f bound fl trail g y theirs is ne ng seat =
-    let at = covers-put pr p pj seat.t g y theirs is ne ng seat.covers in
-    let gv = fl.gives (canon p.0 trail) seat.done seat.owed seat.t y (length trail) at.arms seat.follows at.is in
+seat_give pr p pj m f bound fl trail g y theirs is ne ng seat =
+    let at = covers_put pr p pj seat.t g y theirs is ne ng seat.covers in
+    let gv = fl.gives (canon p.0 trail) seat.done seat.owed seat.t y (length trail) at.arms seat.follows at.stands in
     let e = at.each gv.index gv.arm gv.is in
     let P : Label → Sort → Type 0 = λ l so. Kept ((seat.done ++ seat.owed) ++ (Give (length trail) y l so ∷ [])) (gv.done' ++ gv.owed') in
     let Q : Label → Sort → Type 0 = λ l so. fl.F (canon p.0 trail ++ (Give (length trail) y l so ∷ [])) gv.done' gv.owed' gv.arm.next in
@@ -174,66 +176,67 @@ seat-give pr p pj m f bound fl trail g y theirs is ne ng seat =
       arm = e.0;
       to = e.1;
       is = e.2;
-      seat = seat-after pr p pj fl.F trail g e.1.next gv.arm.next (said p y e.1) (Give (length trail) y e.1.label e.1.sort) gv.done' gv.owed' seat
-          (slice_get_within pr.nodes g (Talk p y theirs) ng) (involves-sender pr p g y theirs ng) (λ d. cc (d, at.is)) refl (own-sender p.0 (length trail) (said p y e.1) refl)
+      seat = seat_after pr p pj fl.F trail g e.1.next gv.arm.next (said p y e.1) (Give (length trail) y e.1.label e.1.sort) gv.done' gv.owed' seat
+          (slice_get_within pr.nodes g (Talk p y theirs) ng) (involves_sender pr p g y theirs ng) (λ d. cc (d, at.stands)) refl (own_sender p.0 (length trail) (said p y e.1) refl)
           (subst₂ P (sym e.3) (sym e.4) gv.kept) (subst₂ Q (sym e.3) (sym e.4) gv.follows) e.5;
     }
 
-pub seat-take : (pr : Protocol_data) (p : Role) (pj : Projection_data) (m : Machine_data) (f : ℕ → ℕ) (bound : ℕ) (fl : Follower m pj.machine f bound) (trail : List StraightTalk) (g : ℕ) (x : Role) (theirs : List Arm) (a : ℕ) (to : Arm)
+pub seat_take : (pr : Protocol_data) (p : Role) (pj : Projection_data) (m : Machine_data) (f : ℕ → ℕ) (bound : ℕ) (fl : Follower m pj.machine f bound) (trail : List StraightTalk) (g : ℕ) (x : Role)
+    (theirs : List Arm) (a : ℕ) (to : Arm)
     → IsProjection pr p pj → x ≢ p → Talks pr g x p theirs → slice_get theirs a ≡ Some to → Seat pr p pj fl.F trail g
     → Seat pr p pj fl.F (said x p to ∷ trail) to.next
-seat-take pr p pj m f bound fl trail g x theirs a to is ne ng ha seat =
-    let at = covers-take pr p pj seat.t g x theirs is ne ng seat.covers in
+seat_take pr p pj m f bound fl trail g x theirs a to is ne ng ha seat =
+    let at = covers_take pr p pj seat.t g x theirs is ne ng seat.covers in
     let e = at.each a to ha in
-    let tk = fl.takes (canon p.0 trail) seat.done seat.owed seat.t x (length trail) at.arms e.0 e.1 seat.follows at.is e.2 in
+    let tk = fl.takes (canon p.0 trail) seat.done seat.owed seat.t x (length trail) at.arms e.0 e.1 seat.follows at.stands e.2 in
     let P : Label → Sort → Type 0 = λ l so. Kept ((seat.done ++ seat.owed) ++ (Get (length trail) x l so ∷ [])) (tk.done' ++ tk.owed') in
     let Q : Label → Sort → Type 0 = λ l so. fl.F (canon p.0 trail ++ (Get (length trail) x l so ∷ [])) tk.done' tk.owed' e.1.next in
-    seat-after pr p pj fl.F trail g to.next e.1.next (said x p to) (Get (length trail) x to.label to.sort) tk.done' tk.owed' seat
-    (slice_get_within pr.nodes g (Talk x p theirs) ng) (involves-receiver pr p g x theirs ng) (λ d. cc (d, at.is)) refl (own-receiver p.0 (length trail) (said x p to) (other-number x p ne) refl)
+    seat_after pr p pj fl.F trail g to.next e.1.next (said x p to) (Get (length trail) x to.label to.sort) tk.done' tk.owed' seat
+    (slice_get_within pr.nodes g (Talk x p theirs) ng) (involves_receiver pr p g x theirs ng) (λ d. cc (d, at.stands)) refl (own_receiver p.0 (length trail) (said x p to) (other_number x p ne) refl)
     (subst₂ P e.3 e.4 tk.kept) (subst₂ Q e.3 e.4 tk.follows) e.5
 
-canon-same : (p : ℕ) (trail : List StraightTalk) (s : StraightTalk) → s.sender.0 ≢ p → s.receiver.0 ≢ p → canon p (s ∷ trail) ≡ canon p trail
-canon-same p trail s nx ny = rw (own-other p (length trail) s nx ny, append-nil (canon p trail)) refl
+canon_same : (p : ℕ) (trail : List StraightTalk) (s : StraightTalk) → s.sender.0 ≢ p → s.receiver.0 ≢ p → canon p (s ∷ trail) ≡ canon p trail
+canon_same p trail s nx ny = rw (own_other p (length trail) s nx ny, append-nil (canon p trail)) refl
 
 -- one more node that passes by p
-pace-on : (pr : Protocol_data) (p : Role) (g a g' n last : ℕ) → LeadsTo pr g a g' → PassesBy pr p g → (Round pr p g g → ⊥)
+pace_on : (pr : Protocol_data) (p : Role) (g a g' n last : ℕ) → LeadsTo pr g a g' → PassesBy pr p g → (Round pr p g g → ⊥)
     → Paced pr p g n last → Paced pr p g' (suc n) last
-pace-on pr p g a g' n last goes passes none pc = record {
+pace_on pr p g a g' n last goes passes none pc = record {
   since = g ∷ pc.since;
   fresh = ((λ h. none (pc.rounds g h)), pc.fresh);
   small = (slice_get_within pr.nodes g (Talk goes.sender goes.receiver goes.arms) goes.talks, pc.small);
-  rounds = λ h. elim [ inl e ↦ (let P : ℕ → Type 0 = λ z. Round pr p z g' in subst P e (round-one pr p g a g' passes goes)) | inr among ↦ round-more pr p h g a g' (pc.rounds h among) passes goes ];
+  rounds = λ h. elim [ inl e ↦ (let P : ℕ → Type 0 = λ z. Round pr p z g' in subst P e (round_one pr p g a g' passes goes)) | inr among ↦ round_more pr p h g a g' (pc.rounds h among) passes goes ];
   uninvolved = λ h. elim [ inl e ↦ (let P : ℕ → Type 0 = λ z. Involves pr p z → ⊥ in subst P e passes.uninvolved) | inr among ↦ pc.uninvolved h among ];
   far = (let h = pc.far in omega arith);
 }
 
 -- whether the state is Done
-pub is-done : (o : Option State) → (o ≡ Some Done) ⊎ (o ≡ Some Done → ⊥)
-is-done None = inr (λ e. cc (e))
-is-done (Some Done) = inl refl
-is-done (Some (Puts q arms)) = inr (λ e. cc (e))
-is-done (Some (Takes q arms)) = inr (λ e. cc (e))
+pub is_done : (o : Option State) → (o ≡ Some Done) ⊎ (o ≡ Some Done → ⊥)
+is_done None = inr (λ e. cc (e))
+is_done (Some Done) = inl refl
+is_done (Some (Puts q arms)) = inr (λ e. cc (e))
+is_done (Some (Takes q arms)) = inr (λ e. cc (e))
 
-pace-other : (pr : Protocol_data) (p : Role) (pj : Projection_data) (t g a g' n last : ℕ) → IsProjection pr p pj → LeadsTo pr g a g'
+pace_other : (pr : Protocol_data) (p : Role) (pj : Projection_data) (t g a g' n last : ℕ) → IsProjection pr p pj → LeadsTo pr g a g'
     → (Involves pr p g → ⊥) → IsReached pr g → Covers pr p pj.sets t g
     → (slice_get pj.machine.states t ≡ Some Done) ⊎ Paced pr p g n last
     → (slice_get pj.machine.states t ≡ Some Done) ⊎ Paced pr p g' (suc n) last
-pace-other pr p pj t g a g' n last is goes un reach cov pace = elim (is-done (slice_get pj.machine.states t)) [
+pace_other pr p pj t g a g' n last is goes un reach cov pace = elim (is_done (slice_get pj.machine.states t)) [
   | inl d ↦ inl d
   | inr live ↦ elim pace [
     | inl d ↦ inl d
-    | inr pc ↦ inr (pace-on pr p g a g' n last goes record { uninvolved = un; awaited = covers-awaited pr p pj t g is cov live }
+    | inr pc ↦ inr (pace_on pr p g a g' n last goes record { uninvolved = un; awaited = covers_awaited pr p pj t g is cov live }
         (λ r. is.none_unreached g record { reached = reach; steps = r.steps; some = r.some; cycle = r.path; around = r.around }) pc)
   ]
 ]
 
-pub seat-other : (pr : Protocol_data) (p : Role) (pj : Projection_data) (F : Walk_fact) (trail : List StraightTalk) (g : ℕ) (x y : Role) (theirs : List Arm) (a : ℕ) (to : Arm)
+pub seat_other : (pr : Protocol_data) (p : Role) (pj : Projection_data) (F : Walk_fact) (trail : List StraightTalk) (g : ℕ) (x y : Role) (theirs : List Arm) (a : ℕ) (to : Arm)
     → IsProjection pr p pj → x ≢ p → y ≢ p → Talks pr g x y theirs → slice_get theirs a ≡ Some to → IsReached pr g → Seat pr p pj F trail g
     → Seat pr p pj F (said x y to ∷ trail) to.next
-seat-other pr p pj F trail g x y theirs a to is nx ny ng ha reach seat =
-    let un = involves-neither pr p g x y theirs ng nx ny in
+seat_other pr p pj F trail g x y theirs a to is nx ny ng ha reach seat =
+    let un = involves_neither pr p g x y theirs ng nx ny in
     let goes : LeadsTo pr g a to.next = record { sender = x; receiver = y; arms = theirs; arm = to; talks = ng; stands = ha; leads = refl } in
-    let same : canon p.0 (said x y to ∷ trail) ≡ canon p.0 trail = canon-same p.0 trail (said x y to) (other-number x p nx) (other-number y p ny) in
+    let same : canon p.0 (said x y to ∷ trail) ≡ canon p.0 trail = canon_same p.0 trail (said x y to) (other_number x p nx) (other_number y p ny) in
     record {
       done = seat.done;
       owed = seat.owed;
@@ -242,10 +245,10 @@ seat-other pr p pj F trail g x y theirs a to is nx ny ng ha reach seat =
       sent = λ q. seat.sent q ∙ ap (λ (z : List Item). sends q z) (sym same);
       got = λ q. seat.got q ∙ ap (λ (z : List Item). recvs q z) (sym same);
       order = seat.order;
-      below = each-more (λ z. place_of z < length trail) (λ z. place_of z < suc (length trail)) (seat.done ++ seat.owed) (λ z h. omega arith) seat.below;
-      covers = covers-next pr p pj.sets seat.t g a to.next seat.covers un goes;
+      below = each_more (λ z. place_of z < length trail) (λ z. place_of z < suc (length trail)) (seat.done ++ seat.owed) (λ z h. omega arith) seat.below;
+      covers = covers_next pr p pj.sets seat.t g a to.next seat.covers un goes;
       size = seat.size ∙ ap length (sym same);
       spaced = (let P : List Item → Type 0 = λ z. Spaced (length pr.nodes) 0 z in subst P (sym same) seat.spaced);
       pace = (let P : List Item → Type 0 = λ z. (slice_get pj.machine.states seat.t ≡ Some Done) ⊎ Paced pr p to.next (suc (length trail)) (seen 0 z) in
-          subst P (sym same) (pace-other pr p pj seat.t g a to.next (length trail) (seen 0 (canon p.0 trail)) is goes un reach seat.covers seat.pace));
+          subst P (sym same) (pace_other pr p pj seat.t g a to.next (length trail) (seen 0 (canon p.0 trail)) is goes un reach seat.covers seat.pace));
     }

@@ -20,3 +20,8 @@ pub mod Rounds
 pub mod Refused
 pub mod Buffering
 pub mod Waiting
+pub mod Lag
+pub mod Cut
+pub mod Places
+pub mod NextSteps
+pub mod Walked

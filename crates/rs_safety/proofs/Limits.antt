@@ -17,38 +17,34 @@ pub record Bounds (roles : ℕ) (long top : ℕ → ℕ) (L B : ℕ) : Type 0 wh
   pub lag : (p : ℕ) → p < roles → long p * suc (top p) ≤ B
 
 -- a list has one greatest number
-pub one-greatest : (xs : List ℕ) (m n : ℕ) → IsGreatest xs m → IsGreatest xs n → m ≡ n
-one-greatest [] m n a b = elim a.is [
-  | inl x ↦ elim b.is [ inl y ↦ x.1 ∙ sym y.1 | inr y ↦ absurd (none-some n y.1) ]
+pub one_greatest : (xs : List ℕ) (m n : ℕ) → IsGreatest xs m → IsGreatest xs n → m ≡ n
+one_greatest [] m n a b = elim a.among [
+  | inl x ↦ elim b.among [ inl y ↦ x.1 ∙ sym y.1 | inr y ↦ absurd (none-some n y.1) ]
   | inr x ↦ absurd (none-some m x.1)
 ]
-one-greatest (x ∷ xs) m n a b = elim a.is [
+one_greatest (x ∷ xs) m n a b = elim a.among [
   | inl y ↦ absurd (cc (y.0))
-  | inr y ↦ elim b.is [
+  | inr y ↦ elim b.among [
     | inl z ↦ absurd (cc (z.0))
     | inr z ↦ (let p = b.most y.0 m y.1 in let q = a.most z.0 n z.1 in omega (arith, p, q))
   ]
 ]
 
--- .. which is the one that is computed
-pub is-greatest : (xs : List ℕ) (m : ℕ) → IsGreatest xs m → m ≡ greatest xs 0
-is-greatest xs m g = one-greatest xs m (greatest xs 0) g (greatest.is xs)
-
 -- what stands at a place of a list has at most the greatest figure
-at-most : {A : Type 0} (f : A → ℕ) (xs : List A) (i : ℕ) (x : A) → slice_get xs i ≡ Some x → f x ≤ greatest (map f xs) 0
-at-most f xs i x h =
+at_most : {A : Type 0} (f : A → ℕ) (xs : List A) (i : ℕ) (x : A) → slice_get xs i ≡ Some x → f x ≤ greatest (map f xs) 0
+at_most f xs i x h =
     let g : slice_get (map f xs) i ≡ Some (f x) = rw (slice_get-map f xs i, h) refl in
     (greatest.is (map f xs)).most i (f x) g
 
 pub limits : (d : Derivation_data) → Limits d (longest d) (top_rank d)
 limits d = record {
-  pending = at-most (λ (n : DNode_data). length n.pending) d.nodes;
-  rank = at-most (λ (n : DNode_data). n.rank) d.nodes;
+  pending = at_most (λ (n : DNode_data). length n.pending) d.nodes;
+  rank = at_most (λ (n : DNode_data). n.rank) d.nodes;
 }
 
 pub bounds : (ds : List Derivation_data) (x : Derivation_data) (roles : ℕ) → length ds ≡ roles
     → Bounds roles (λ p. longest (get_or ds p x)) (λ p. top_rank (get_or ds p x)) (greatest (map longest ds) 0) (greatest (map lag ds) 0)
 bounds ds x roles many = record {
-  long' = λ p hp. at-most longest ds p (get_or ds p x) (slice_get-get_or ds p x (omega (arith, many)));
-  lag = λ p hp. at-most lag ds p (get_or ds p x) (slice_get-get_or ds p x (omega (arith, many)));
+  long' = λ p hp. at_most longest ds p (get_or ds p x) (slice_get-get_or ds p x (omega (arith, many)));
+  lag = λ p hp. at_most lag ds p (get_or ds p x) (slice_get-get_or ds p x (omega (arith, many)));
 }

@@ -1,8 +1,8 @@
 -- Members of lists, by recursion.
 use Rattle.std.proofs.Common.{◌≡◌, List, [], subst}
 use Rattle.std.specs.List.{Contains}
-pub use Rattle.rs_project.specs.Marks.{Among}
-pub use Rattle.rs_project.proofs.Lists.{contained, contains, among-left, among-right, among-split}
+pub use Rattle.rs_graph.specs.Lists.{Among}
+pub use Rattle.rs_project.proofs.Lists.{contained, contains, among_left, among_right, among_split}
 
-pub no-member : {A : Type 0} (xs : List A) (x : A) → xs ≡ [] → Contains xs x → ⊥
-no-member {A} xs x e h = let P : List A → Type 0 = λ z. Among z x in subst P e (contained xs x h)
+pub no_member : {A : Type 0} (xs : List A) (x : A) → xs ≡ [] → Contains xs x → ⊥
+no_member {A} xs x e h = let P : List A → Type 0 = λ z. Among z x in subst P e (contained xs x h)

@@ -6,17 +6,17 @@ use Rattle.rs_derive.specs.Moves.{Spot, spot, HasMove, Stops, PaysSend, SendsBot
 use Rattle.rs_safety.specs.Waiting.{projected_a, waiting_a}
 
 -- at the start A waits, where its projection sends and nothing is owed: there is no move
-no-move : (makes : Option ℕ) (results : List Spot) → HasMove waiting_a projected_a (spot 0 [] 0) makes results → ⊥
-no-move makes results (Stops sub none above m r) = cc (sub)
-no-move makes results (PaysSend q arm place so sub found at serves m r) = cc (sub)
-no-move makes results (SendsBoth q arms theirs sub free above m both) = cc (sub)
-no-move makes results (Guesses q r arms theirs place z sub free above ne at m rs) = cc (sub)
-no-move makes results (SendsAhead q r arms theirs sub free above m rs) = cc (sub)
-no-move makes results (PaysReceive q arms place label so arm sub found at of serves m rs) = cc (at)
-no-move makes results (ReceivesAhead q r arms theirs sub free above m rs) = cc (above)
+no_move : (makes : Option ℕ) (results : List Spot) → HasMove waiting_a projected_a (spot 0 [] 0) makes results → ⊥
+no_move makes results (Stops sub none above m r) = cc (sub)
+no_move makes results (PaysSend q arm place so sub found at serves m r) = cc (sub)
+no_move makes results (SendsBoth q arms theirs sub free above m both) = cc (sub)
+no_move makes results (Guesses q r arms theirs place z sub free above ne at m rs) = cc (sub)
+no_move makes results (SendsAhead q r arms theirs sub free above m rs) = cc (sub)
+no_move makes results (PaysReceive q arms place label so arm sub found at of serves m rs) = cc (at)
+no_move makes results (ReceivesAhead q r arms theirs sub free above m rs) = cc (above)
 
-pub no-derivation : (d : Derivation_data) → IsDerivation d waiting_a projected_a → ⊥
-no-derivation d is =
-    let fit = is.each 0 is.first is.is in
+pub no_derivation : (d : Derivation_data) → IsDerivation d waiting_a projected_a → ⊥
+no_derivation d is =
+    let fit = is.each 0 is.first is.stands in
     let P : Spot → Type 0 = λ z. HasMove waiting_a projected_a z fit.makes fit.results in
-    no-move fit.makes fit.results (subst P is.starts fit.move)
+    no_move fit.makes fit.results (subst P is.starts fit.move)

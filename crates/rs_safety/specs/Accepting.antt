@@ -20,7 +20,7 @@ pub record Accepted_data : Type 0 where
 -- all that is known of an accepted session: each role's derivation shows that its machine may stand for its projection,
 -- and so the machines are safe
 pub record IsAcceptedSession (session : Accepted_data) : Type 0 where
-  pub is : IsSession session.protocol session.projections session.machines
+  pub is_session : IsSession session.protocol session.projections session.machines
   pub one_each : AreOneEach session.protocol.roles session.derivations
   pub derived : AreDerivations session.machines session.projections session.derivations
   pub safe : IsSafe session.machines

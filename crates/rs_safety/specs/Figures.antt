@@ -18,6 +18,6 @@ figures_of d = record { nodes = length d.nodes; owed = longest d; rank = top_ran
 abbrev pub lag_by : Figures → ℕ
 lag_by f = f.owed * suc f.rank
 
--- .. and the room
+-- the room
 abbrev pub room_by : List Figures → ℕ
 room_by figures = 1 + greatest (map (λ (f : Figures). f.owed) figures) 0 + greatest (map lag_by figures) 0

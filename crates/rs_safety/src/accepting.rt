@@ -15,26 +15,26 @@ use std::marker::Model;
 
 /// A session whose machines are safe: each has a derivation, which shows that it may stand for its role's projection.
 ///
-/// It owns the machines, one for each role in order, and keeps the protocol, its projections and the derivations.
+/// It has the protocol, and for each role, in order, the projection, the derivation and the machine.
 #[derive(Drop)]
-pub struct Accepted<'a> {
-    protocol: &'a Protocol,
-    projections: &'a [Projection],
-    derivations: &'a [Derivation],
+pub struct Accepted {
+    protocol: Protocol,
+    projections: Vec<Projection>,
+    derivations: Vec<Derivation>,
     machines: Vec<Machine>,
 }
 
-impl<'a> Model for Accepted<'a> {
+impl Model for Accepted {
     ghost use Rattle.rs_safety.specs.Accepting.{Accepted_data, IsAcceptedSession};
 
     ghost Value = { Accepted_data };
 
-    ghost view = { λ a. record { protocol = a.protocol.now; projections = a.projections.now; derivations = a.derivations.now; machines = a.machines.items } };
+    ghost view = { λ a. record { protocol = a.protocol; projections = a.projections.items; derivations = a.derivations.items; machines = a.machines.items } };
 
-    ghost invariant = { λ a. IsAcceptedSession (record { protocol = a.protocol.now; projections = a.projections.now; derivations = a.derivations.now; machines = a.machines.items }) };
+    ghost invariant = { λ a. IsAcceptedSession (record { protocol = a.protocol; projections = a.projections.items; derivations = a.derivations.items; machines = a.machines.items }) };
 }
 
-impl<'a> Accepted<'a> {
+impl Accepted {
     /// The machines, in role order. They are safe, and the session is all that `IsAcceptedSession` says.
     pub fn machines(&self) -> &[Machine]
         ensures machines { result.now ≡ self.now.machines }
@@ -44,12 +44,26 @@ impl<'a> Accepted<'a> {
         self.machines.as_slice()
     }
 
+    /// The protocol.
+    pub fn protocol(&self) -> &Protocol
+        ensures { result.now ≡ self.now.protocol }
+    {
+        &self.protocol
+    }
+
+    /// The projections, in role order.
+    pub fn projections(&self) -> &[Projection]
+        ensures { result.now ≡ self.now.projections }
+    {
+        self.projections.as_slice()
+    }
+
     /// The derivations, in role order.
     pub fn derivations(&self) -> &[Derivation]
         ensures derivations { result.now ≡ self.now.derivations }
         ensures session { IsAcceptedSession self.now }
     {
-        self.derivations
+        self.derivations.as_slice()
     }
 
     /// How many messages each ring must hold, so that no role can be held up by full rings: the [`room`] of its
@@ -57,7 +71,7 @@ impl<'a> Accepted<'a> {
     pub fn room(&self) -> u64
         ensures { result ≡ room_of self.now.derivations }
     {
-        room(self.derivations)
+        room(self.derivations.as_slice())
     }
 }
 
@@ -103,22 +117,26 @@ fn first_refused(
 ///
 /// The error names the first role whose derivation is refused, with its first fault, and hands the machines back. Takes
 /// no memory.
-pub fn accept<'a>(
-    protocol: &'a Protocol,
-    projections: &'a [Projection],
+pub fn accept(
+    protocol: Protocol,
+    projections: Vec<Projection>,
     machines: Vec<Machine>,
-    derivations: &'a [Derivation],
-) -> Result<Accepted<'a>, AcceptRefused>
-    requires session { IsSession protocol.now projections.now machines.items }
-    requires derivations { AreOneEach protocol.now.roles derivations.now }
-    ensures derived { OnOk result (AreDerivations machines.items projections.now derivations.now) }
-    ensures accepted { IfOk result (λ a. a ≡ record { protocol = protocol.now; projections = projections.now; derivations = derivations.now; machines = machines.items }) }
+    derivations: Vec<Derivation>,
+) -> Result<Accepted, AcceptRefused>
+    requires session { IsSession protocol projections.items machines.items }
+    requires derivations { AreOneEach protocol.roles derivations.items }
+    ensures derived { OnOk result (AreDerivations machines.items projections.items derivations.items) }
+    ensures accepted { IfOk result (λ a. a ≡ record { protocol = protocol; projections = projections.items; derivations = derivations.items; machines = machines.items }) }
     ensures session { IfOk result IsAcceptedSession }
     ensures safe { OnOk result (IsSafe machines.items) }
-    ensures refused { IfErr result (λ e. FirstRefused machines.items projections.now derivations.now e.role.0 e.cause) }
+    ensures refused { IfErr result (λ e. FirstRefused machines.items projections.items derivations.items e.role.0 e.cause) }
     ensures back { IfErr result (λ e. e.machines ≡ machines.items) }
 {
-    match first_refused(projections, machines.as_slice(), derivations) {
+    match first_refused(
+        projections.as_slice(),
+        machines.as_slice(),
+        derivations.as_slice(),
+    ) {
         Some((place, cause)) => Err(AcceptRefused {
             role: Role(place as u8),
             cause,

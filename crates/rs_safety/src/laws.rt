@@ -1,6 +1,6 @@
 //! Laws over the definitions: each function does nothing, and its contract is the law.
 
-ghost use Rattle.std.specs.Prelude.{◌≡◌, ◌≢◌, length, map, List};
+ghost use Rattle.std.specs.Prelude.{◌≡◌, ◌≢◌, map, List};
 ghost use Rattle.rs_core.specs.Choices.{AreWellFormed};
 ghost use Rattle.rs_core.specs.Safety.{IsSafe};
 ghost use Rattle.rs_model.specs.Data.{Machine_data, Protocol_data};
@@ -11,7 +11,7 @@ ghost use Rattle.rs_safety.specs.Alike.{AreAlike};
 ghost use Rattle.rs_safety.specs.Buffering.{buffering, derivations_of_buffering, kernel_ahead, machines_of_buffering, projection_for_kernel, projections_of_buffering};
 ghost use Rattle.rs_safety.specs.Waiting.{projected_a, waiting_a};
 ghost use Rattle.rs_safety.specs.Room.{room_of};
-ghost use Rattle.rs_safety.specs.Sessions.{AreDerivations};
+ghost use Rattle.rs_safety.specs.Sessions.{AreDerivations, IsDerivedSession};
 ghost use Rattle.rs_project.specs.Data.{Projection_data};
 ghost use Rattle.rs_safety.specs.Examples.{c, left_waiting, not_told, projections_of_rounds, rounds};
 ghost use Rattle.rs_project.specs.Projection.{AreProjections, IsProjection};
@@ -20,13 +20,14 @@ ghost use Rattle.rs_wellformed.specs.WellFormed.{IsWellFormed};
 /// Machines that have derivations against the projections of a well-formed protocol, in role order, are safe.
 pub fn derived_sessions_are_safe()
     ensures { (protocol : Protocol_data) (projections : List Projection_data) (machines : List Machine_data) (derivations : List Derivation_data)
-        → IsWellFormed protocol → AreProjections protocol projections → length machines ≡ protocol.roles → AreWellFormed machines → AreDerivations machines projections derivations
+        → IsDerivedSession protocol projections machines derivations
         → IsSafe machines }
 {}
 
 /// Machines that are the projections of a well-formed protocol, in role order, are safe.
 pub fn equal_sessions_are_safe()
-    ensures { (protocol : Protocol_data) (projections : List Projection_data) (machines : List Machine_data) → IsWellFormed protocol → AreProjections protocol projections → machines ≡ map (λ p. p.machine) projections → IsSafe machines }
+    ensures { (protocol : Protocol_data) (projections : List Projection_data) (machines : List Machine_data) → IsWellFormed protocol → AreProjections protocol projections
+        → machines ≡ map (λ p. p.machine) projections → IsSafe machines }
 {}
 
 /// A well-formed protocol has one projection onto a role, but for the numbers of its states.
@@ -40,7 +41,7 @@ pub fn rounds_have_projections()
     ensures projections { AreProjections rounds projections_of_rounds }
 {}
 
-/// .. and by a machine that is another than its projection: double buffering, in which the kernel asks for the next
+/// The premises can be met by a machine that is another than its projection: double buffering, in which the kernel asks for the next
 /// block before it hands on the last one.
 pub fn double_buffering_has_derivations()
     ensures well_formed { IsWellFormed buffering }

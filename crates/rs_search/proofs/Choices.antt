@@ -1,28 +1,31 @@
 -- The turns that are computed are the moves of the table.
-use Rattle.std.proofs.Common.{◌≡◌, ◌⊎◌, inl, inr, ℕ, ◌<◌, ◌≤◌, Bool, true, false, List, [], ◌∷◌, ◌++◌, length, refl, sym, ap, ◌∙◌, subst, arith, ◌+◌, suc, zero, Some, None, Option, slice_get, map, cond, if◌then◌else◌, eqb, nat_lt, ◌||◌, ◌&&◌, take, drop, length-append}
+use Rattle.std.proofs.Common.{◌≡◌, ◌⊎◌, inl, inr, ℕ, ◌<◌, ◌≤◌, Bool, true, false, List, [], ◌∷◌, ◌++◌, length, refl, sym, ap, ◌∙◌, subst, arith, ◌+◌, suc, zero, Some, None, Option, slice_get, map}
+use Rattle.std.proofs.Common.{if◌then◌else◌, eqb, nat_lt, ◌||◌, take, drop, length-append}
 use Rattle.std.proofs.lemmas.Bool.{cases_lt, ltb-true, lt-ltb, ne_eqb, and_parts, false≢true}
 use Rattle.std.proofs.lemmas.Option.{none-some, same_Some}
 use Rattle.rs_model.specs.Data.{Machine_data}
-use Rattle.rs_model.specs.Serving.{serves}
 use Rattle.rs_model.specs.declared.graph.Arm.{Arm}
 use Rattle.rs_model.specs.declared.graph.Role.{Role}
 use Rattle.rs_model.specs.declared.machines.Act.{Act}
 use Rattle.rs_model.specs.declared.machines.Act.TheVariants as act
-use Rattle.rs_model.specs.declared.machines.State.{State}
-use Rattle.rs_model.specs.declared.machines.State.TheVariants.{Done, Puts, Takes}
-use Rattle.rs_model.specs.declared.values.Sort.{Sort}
 use Rattle.rs_prefix.specs.Earliest.{without}
-use Rattle.rs_prefix.specs.Search.{earliest}
-use Rattle.rs_prefix.specs.declared.earliest.Found.{Found}
-use Rattle.rs_prefix.specs.declared.earliest.Found.TheVariants.{At, Blocked, Absent}
-use Rattle.rs_prefix.specs.declared.earliest.Kind.TheVariants.{Send, Receive}
-use Rattle.rs_derive.proofs.Rows.{complete, sound, served}
-use Rattle.rs_derive.specs.Due.{Chosen, Due, all_serve, both_at, due, due_at, ends, guesses, follows, due_behind_payment, pays_receive, due_of_send, receives, receives_past, sends, sends_both, sends_past, due_where_served, serves_some, stops}
+use Rattle.rs_derive.proofs.Mapped.{map_at, map_of}
+use Rattle.rs_derive.proofs.Rows.{by_rule, complete, sound, served}
+use Rattle.rs_derive.proofs.Ruled.{fitting}
+use Rattle.rs_derive.specs.Due.{Chosen, Due, both_at, due, nexts_by}
 use Rattle.rs_derive.specs.Moves.{Spot, arm_of, owing_receive, owing_send, spot}
+use Rattle.rs_derive.specs.Rules.{RuleFits, all_serve, arms_at, arms_of, serves_some}
+use Rattle.rs_derive.specs.declared.rules.Rule.{Rule}
+use Rattle.rs_derive.specs.declared.rules.Rule.TheVariants.{Stops, Pays, SendsBoth, Guesses, Follows}
 use Rattle.rs_search.specs.Candidates.{MeetsACut, MoveWithin}
 use Rattle.rs_graph.specs.Graphs.{moves_of}
+use Rattle.rs_graph.proofs.Growth.{at_in, has_left, in_at}
 use Rattle.rs_graph.specs.Lists.{Among, concat}
 use Rattle.rs_search.specs.Turns.{turn_with_cut, no_turn, owes_more, turn_of, turn_within}
+
+-- what a function gives for members
+pub among_map : {X Y : Type 0} (f : X → Y) (xs : List X) (y : Y) → Among (map f xs) y → (i : ℕ) × (x : X) × (slice_get xs i ≡ Some x) × (f x ≡ y)
+among_map f xs y m = let i = at_in (map f xs) y m in let a = map_of f xs i.0 y i.1 in (i.0, a.0, a.1, a.2)
 
 -- one spot for each next
 abbrev pub Single : List (List Spot) → Type 0
@@ -35,193 +38,135 @@ Single ((r ∷ s ∷ ss) ∷ ds) = ⊥
 pub record Level (count : ℕ) (spots : List Spot) : Type 0 where
   pub owes : ℕ
   pub all : (r : Spot) → Among spots r → length r.pending ≡ owes
-  pub few : owes ≤ suc count
+  pub bounded : owes ≤ suc count
 
 pub record IsSimple (count : ℕ) (nexts : List (List Spot)) : Type 0 where
   pub form : Single nexts ⊎ ((ds : List Spot) × (nexts ≡ ds ∷ []))
   pub level : Level count (concat nexts)
 
-abbrev pub Simple : ℕ → Option Due → Type 0
-Simple count None = Unit {0}
-Simple count (Some d) = IsSimple count d.nexts
+one_level : (count : ℕ) (r : Spot) → length r.pending ≤ suc count → Level count (concat ((r ∷ []) ∷ []))
+one_level count r h = record { owes = length r.pending; all = λ x m. elim m [ inl e ↦ ap (λ (z : Spot). length z.pending) (sym e) | inr k ↦ absurd k ]; bounded = h }
 
-simple_if : (count : ℕ) (b : Bool) (o : Option Due) → (b ≡ true → Simple count o) → Simple count (cond b o None)
-simple_if count true o h = h refl
-simple_if count false o h = tt
-
-one-level : (count : ℕ) (r : Spot) → length r.pending ≤ suc count → Level count (concat ((r ∷ []) ∷ []))
-one-level count r h = record { owes = length r.pending; all = λ x m. elim m [ inl e ↦ ap (λ (z : Spot). length z.pending) (sym e) | inr k ↦ absurd k ]; few = h }
-
-split-length : (n : ℕ) (xs : List Act) → length (take n xs) + length (drop (n + 1) xs) ≤ length xs
-split-length zero [] = omega arith
-split-length (suc n) [] = let e : suc n + 1 ≡ suc (n + 1) = omega arith in rw e (omega arith)
-split-length zero (x ∷ xs) = omega arith
-split-length (suc n) (x ∷ xs) = let k = split-length n xs in let e : suc n + 1 ≡ suc (n + 1) = omega arith in rw e (omega arith)
+split_length : (n : ℕ) (xs : List Act) → length (take n xs) + length (drop (n + 1) xs) ≤ length xs
+split_length zero [] = omega arith
+split_length (suc n) [] = let e : suc n + 1 ≡ suc (n + 1) = omega arith in rw e (omega arith)
+split_length zero (x ∷ xs) = omega arith
+split_length (suc n) (x ∷ xs) = let k = split_length n xs in let e : suc n + 1 ≡ suc (n + 1) = omega arith in rw e (omega arith)
 
 pub without_length : (xs : List Act) (n : ℕ) → length (without xs n) ≤ length xs
-without_length xs n = let k = split-length n xs in let l = length-append (take n xs) (drop (n + 1) xs) in omega arith
+without_length xs n = let k = split_length n xs in let l = length-append (take n xs) (drop (n + 1) xs) in omega arith
 
-simple_paid : (p : Spot) (place : ℕ) (a : Arm) → Simple (length p.pending) (Some (due_behind_payment p place a))
-simple_paid p place a = record { form = inl tt; level = one-level (length p.pending) (spot a.next (without p.pending place) p.above) (let k = without_length p.pending place in omega arith) }
+push_length : (p : Spot) (x : Act) → length (p.pending ++ (x ∷ [])) ≡ suc (length p.pending)
+push_length p x = let k = length-append p.pending (x ∷ []) in omega arith
 
-simple_stops : (pending : List Act) (count : ℕ) → Simple count (stops pending)
-simple_stops pending count = simple_if count (eqb (length pending) 0) (Some record { keeps = false; nexts = [] }) (λ e. record { form = inl tt; level = record { owes = 0; all = λ r m. absurd m; few = omega arith } })
+pub among_nil : (xs : List Spot) (r : Spot) → Among (xs ++ []) r → Among xs r
+among_nil [] r h = h
+among_nil (x ∷ xs) r (inl e) = inl e
+among_nil (x ∷ xs) r (inr h) = inr (among_nil xs r h)
 
-simple_ends : (pending : List Act) (t : Option State) (count : ℕ) → Simple count (ends pending t)
-simple_ends pending None count = tt
-simple_ends pending (Some Done) count = simple_stops pending count
-simple_ends pending (Some (Puts r theirs)) count = tt
-simple_ends pending (Some (Takes r theirs)) count = tt
+pub guess_level : (p : Spot) (q : Role) (theirs : List Arm) (r : Spot) → Among (map (λ b. owing_send p q b) theirs) r → length r.pending ≡ suc (length p.pending)
+guess_level p q [] r h = absurd h
+guess_level p q (b ∷ theirs) r (inl e) = ap (λ (z : Spot). length z.pending) (sym e) ∙ push_length p (act.Puts q b.label b.sort)
+guess_level p q (b ∷ theirs) r (inr h) = guess_level p q theirs r h
 
-push-length : (p : Spot) (x : Act) → length (p.pending ++ (x ∷ [])) ≡ suc (length p.pending)
-push-length p x = let k = length-append p.pending (x ∷ []) in omega arith
+pub follow_level : (p : Spot) (q : Role) (theirs : List Arm) (r : Spot) → Among (concat (map (λ b. owing_receive p q b ∷ []) theirs)) r → length r.pending ≡ suc (length p.pending)
+follow_level p q [] r h = absurd h
+follow_level p q (b ∷ theirs) r (inl e) = ap (λ (z : Spot). length z.pending) (sym e) ∙ push_length p (act.Takes q b.label b.sort)
+follow_level p q (b ∷ theirs) r (inr h) = follow_level p q theirs r h
 
-pub among-nil : (xs : List Spot) (r : Spot) → Among (xs ++ []) r → Among xs r
-among-nil [] r h = h
-among-nil (x ∷ xs) r (inl e) = inl e
-among-nil (x ∷ xs) r (inr h) = inr (among-nil xs r h)
+pub follow_single : (p : Spot) (q : Role) (theirs : List Arm) → Single (map (λ b. owing_receive p q b ∷ []) theirs)
+follow_single p q [] = tt
+follow_single p q (b ∷ theirs) = follow_single p q theirs
 
-nil-among : (xs : List Spot) (r : Spot) → Among xs r → Among (xs ++ []) r
-nil-among [] r h = h
-nil-among (x ∷ xs) r (inl e) = inl e
-nil-among (x ∷ xs) r (inr h) = inr (nil-among xs r h)
-
-pub guess-level : (p : Spot) (q : Role) (theirs : List Arm) (r : Spot) → Among (map (λ b. owing_send p q b) theirs) r → length r.pending ≡ suc (length p.pending)
-guess-level p q [] r h = absurd h
-guess-level p q (b ∷ theirs) r (inl e) = ap (λ (z : Spot). length z.pending) (sym e) ∙ push-length p (act.Puts q b.label b.sort)
-guess-level p q (b ∷ theirs) r (inr h) = guess-level p q theirs r h
-
-pub follow-level : (p : Spot) (q : Role) (theirs : List Arm) (r : Spot) → Among (concat (map (λ b. owing_receive p q b ∷ []) theirs)) r → length r.pending ≡ suc (length p.pending)
-follow-level p q [] r h = absurd h
-follow-level p q (b ∷ theirs) r (inl e) = ap (λ (z : Spot). length z.pending) (sym e) ∙ push-length p (act.Takes q b.label b.sort)
-follow-level p q (b ∷ theirs) r (inr h) = follow-level p q theirs r h
-
-pub follow-single : (p : Spot) (q : Role) (theirs : List Arm) → Single (map (λ b. owing_receive p q b ∷ []) theirs)
-follow-single p q [] = tt
-follow-single p q (b ∷ theirs) = follow-single p q theirs
-
-simple_guesses : (p : Spot) (q : Role) (theirs : List Arm) → Simple (length p.pending) (guesses p q theirs)
-simple_guesses p q theirs = record { form = inr (map (λ b. owing_send p q b) theirs, refl); level = record { owes = suc (length p.pending); all = λ r m. guess-level p q theirs r (among-nil (map (λ b. owing_send p q b) theirs) r m); few = omega arith } }
-
-simple_follows : (p : Spot) (q : Role) (theirs : List Arm) → Simple (length p.pending) (follows p q theirs)
-simple_follows p q theirs = record { form = inl (follow-single p q theirs); level = record { owes = suc (length p.pending); all = follow-level p q theirs; few = omega arith } }
-
-pub both-single : (theirs : List Arm) (pending : List Act) (arms : List Arm) → all_serve theirs arms ≡ true → Single (map (λ a. both_at pending a (arm_of theirs a.label)) arms)
-both-single theirs pending [] e = tt
-both-single theirs pending (a ∷ arms) e =
+pub both_single : (theirs : List Arm) (pending : List Act) (arms : List Arm) → all_serve theirs arms ≡ true → Single (map (λ a. both_at pending a (arm_of theirs a.label)) arms)
+both_single theirs pending [] e = tt
+both_single theirs pending (a ∷ arms) e =
     let k = and_parts (serves_some a (arm_of theirs a.label)) (all_serve theirs arms) e in
     let s = served a (arm_of theirs a.label) k.0 in
     let P : Option Arm → Type 0 = λ o. Single (both_at pending a o ∷ map (λ a. both_at pending a (arm_of theirs a.label)) arms) in
-    subst P (sym s.1) (both-single theirs pending arms k.1)
+    subst P (sym s.1) (both_single theirs pending arms k.1)
 
-pub both-level : (theirs : List Arm) (pending : List Act) (arms : List Arm) (r : Spot) → Among (concat (map (λ a. both_at pending a (arm_of theirs a.label)) arms)) r → length r.pending ≡ length pending
-both-level theirs pending [] r h = absurd h
-both-level theirs pending (a ∷ arms) r h = go (arm_of theirs a.label) (λ k. both-level theirs pending arms r k) h
+pub both_level : (theirs : List Arm) (pending : List Act) (arms : List Arm) (r : Spot) → Among (concat (map (λ a. both_at pending a (arm_of theirs a.label)) arms)) r
+    → length r.pending ≡ length pending
+both_level theirs pending [] r h = absurd h
+both_level theirs pending (a ∷ arms) r h = go (arm_of theirs a.label) (λ k. both_level theirs pending arms r k) h
   where
-    go : (o : Option Arm) → (Among (concat (map (λ a. both_at pending a (arm_of theirs a.label)) arms)) r → length r.pending ≡ length pending) → Among (both_at pending a o ++ concat (map (λ a. both_at pending a (arm_of theirs a.label)) arms)) r → length r.pending ≡ length pending
+    go : (o : Option Arm) → (Among (concat (map (λ a. both_at pending a (arm_of theirs a.label)) arms)) r → length r.pending ≡ length pending)
+        → Among (both_at pending a o ++ concat (map (λ a. both_at pending a (arm_of theirs a.label)) arms)) r → length r.pending ≡ length pending
     go None on k = on k
     go (Some b) on (inl e) = ap (λ (z : Spot). length z.pending) (sym e)
     go (Some b) on (inr k) = on k
 
-simple_both : (p : Spot) (theirs arms : List Arm) → Simple (length p.pending) (sends_both p theirs arms)
-simple_both p theirs arms = simple_if (length p.pending) (all_serve theirs arms) _ (λ e. record { form = inl (both-single theirs p.pending arms e); level = record { owes = length p.pending; all = both-level theirs p.pending arms; few = omega arith } })
-
-simple_other : (p : Spot) (r : Role) (arms theirs : List Arm) (b : Bool) → Simple (length p.pending) (cond b (sends_both p theirs arms) (guesses p r theirs))
-simple_other p r arms theirs true = simple_both p theirs arms
-simple_other p r arms theirs false = simple_guesses p r theirs
-
-simple_past : (p : Spot) (q : Role) (arms : List Arm) (t : Option State) → Simple (length p.pending) (sends_past p q arms t)
-simple_past p q arms None = tt
-simple_past p q arms (Some Done) = tt
-simple_past p q arms (Some (Puts r theirs)) = simple_other p r arms theirs (eqb r.0 q.0)
-simple_past p q arms (Some (Takes r theirs)) = simple_follows p r theirs
-
-simple_pays : (p : Spot) (place : ℕ) (arms : List Arm) (o : Option Act) → Simple (length p.pending) (due_of_send p place arms o)
-simple_pays p place [] o = tt
-simple_pays p place (a ∷ b ∷ more) o = tt
-simple_pays p place (a ∷ []) None = tt
-simple_pays p place (a ∷ []) (Some (act.Takes r l so)) = tt
-simple_pays p place (a ∷ []) (Some (act.Puts r l so)) = simple_if (length p.pending) (eqb a.label.0 l.0 && serves a.sort so) (Some (due_behind_payment p place a)) (λ e. simple_paid p place a)
-
-simple_sends : (p : Spot) (q : Role) (arms : List Arm) (t : Option State) (f : Found) → Simple (length p.pending) (sends p q arms t f)
-simple_sends p q arms t (At place) = simple_pays p place arms (slice_get p.pending place)
-simple_sends p q arms t (Blocked place) = tt
-simple_sends p q arms t Absent = simple_past p q arms t
-
-simple_served : (p : Spot) (place : ℕ) (so : Sort) (o : Option Arm) → Simple (length p.pending) (due_where_served p place so o)
-simple_served p place so None = tt
-simple_served p place so (Some a) = simple_if (length p.pending) (serves so a.sort) (Some (due_behind_payment p place a)) (λ e. simple_paid p place a)
-
-simple_takes : (p : Spot) (place : ℕ) (arms : List Arm) (o : Option Act) → Simple (length p.pending) (pays_receive p place arms o)
-simple_takes p place arms None = tt
-simple_takes p place arms (Some (act.Puts r l so)) = tt
-simple_takes p place arms (Some (act.Takes r l so)) = simple_served p place so (arm_of arms l)
-
-simple_receives_past : (p : Spot) (t : Option State) → Simple (length p.pending) (receives_past p t)
-simple_receives_past p None = tt
-simple_receives_past p (Some Done) = tt
-simple_receives_past p (Some (Puts r theirs)) = tt
-simple_receives_past p (Some (Takes r theirs)) = simple_follows p r theirs
-
-simple_receives : (p : Spot) (arms : List Arm) (t : Option State) (f : Found) → Simple (length p.pending) (receives p arms t f)
-simple_receives p arms t (At place) = simple_takes p place arms (slice_get p.pending place)
-simple_receives p arms t (Blocked place) = tt
-simple_receives p arms t Absent = simple_receives_past p t
-
-simple_at : (p : Spot) (s t : Option State) → Simple (length p.pending) (due_at p s t)
-simple_at p None t = tt
-simple_at p (Some Done) t = simple_ends p.pending t (length p.pending)
-simple_at p (Some (Puts q arms)) t = simple_sends p q arms t (earliest p.pending Send q)
-simple_at p (Some (Takes q arms)) t = simple_receives p arms t (earliest p.pending Receive q)
+simple_by : (p : Spot) (arms theirs : List Arm) (rule : Rule) → RuleFits p.pending arms theirs rule → IsSimple (length p.pending) (nexts_by p arms theirs rule)
+simple_by p arms theirs Stops h = record { form = inl tt; level = record { owes = 0; all = λ r m. absurd m; bounded = omega arith } }
+simple_by p arms theirs (Pays place a) h =
+    record { form = inl tt; level = one_level (length p.pending) (spot a.next (without p.pending place) p.above) (let k = without_length p.pending place in omega arith) }
+simple_by p arms theirs SendsBoth h =
+    record { form = inl (both_single theirs p.pending arms h); level = record { owes = length p.pending; all = both_level theirs p.pending arms; bounded = omega arith } }
+simple_by p arms theirs (Guesses q) h =
+    record {
+      form = inr (map (λ b. owing_send p q b) theirs, refl);
+      level = record {
+        owes = suc (length p.pending);
+        all = λ r m. guess_level p q theirs r
+            (among_nil (map (λ b. owing_send p q b) theirs) r m);
+        bounded = omega arith;
+      };
+    }
+simple_by p arms theirs (Follows q) h =
+    record { form = inl (follow_single p q theirs); level = record { owes = suc (length p.pending); all = follow_level p q theirs; bounded = omega arith } }
 
 -- what is due of the nexts of a spot is simple
 pub simple : (sub above : Machine_data) (p : Spot) (d : Due) → due sub above p ≡ Some d → IsSimple (length p.pending) d.nexts
-simple sub above p d e = subst (λ (o : Option Due). Simple (length p.pending) o) e (simple_at p (slice_get sub.states p.state) (slice_get above.states p.above))
+simple sub above p d e =
+    let t = slice_get above.states p.above in
+    let b = by_rule p (slice_get sub.states p.state) t d e in
+    subst (λ (x : Due). IsSimple (length p.pending) x.nexts) (sym b.is) (simple_by p (arms_at b.state) (arms_of t) b.rule (fitting p.pending b.state t b.rule b.row))
 
-single-chosen : (ds : List (List Spot)) → Single ds → Chosen ds (concat ds)
-single-chosen [] h = tt
-single-chosen ([] ∷ ds) h = absurd h
-single-chosen ((r ∷ []) ∷ ds) h = ((zero, refl), single-chosen ds h)
-single-chosen ((r ∷ s ∷ ss) ∷ ds) h = absurd h
+single_chosen : (ds : List (List Spot)) → Single ds → Chosen ds (concat ds)
+single_chosen [] h = tt
+single_chosen ([] ∷ ds) h = absurd h
+single_chosen ((r ∷ []) ∷ ds) h = ((zero, refl), single_chosen ds h)
+single_chosen ((r ∷ s ∷ ss) ∷ ds) h = absurd h
 
-pub single-is : (ds : List (List Spot)) (rs : List Spot) → Single ds → Chosen ds rs → rs ≡ concat ds
-single-is [] [] h c = refl
-single-is [] (r ∷ rs) h c = absurd c
-single-is ([] ∷ ds) rs h c = absurd h
-single-is ((s ∷ []) ∷ ds) [] h c = absurd c
-single-is ((s ∷ []) ∷ ds) (r ∷ rs) h c = (let e : s ≡ r = first c.0.0 c.0.1 in ap (λ (z : Spot). z ∷ rs) (sym e) ∙ ap (λ (z : List Spot). s ∷ z) (single-is ds rs h c.1))
+single_is : (ds : List (List Spot)) (rs : List Spot) → Single ds → Chosen ds rs → rs ≡ concat ds
+single_is [] [] h c = refl
+single_is [] (r ∷ rs) h c = absurd c
+single_is ([] ∷ ds) rs h c = absurd h
+single_is ((s ∷ []) ∷ ds) [] h c = absurd c
+single_is ((s ∷ []) ∷ ds) (r ∷ rs) h c = (let e : s ≡ r = first c.0.0 c.0.1 in ap (λ (z : Spot). z ∷ rs) (sym e) ∙ ap (λ (z : List Spot). s ∷ z) (single_is ds rs h c.1))
   where
     first : (i : ℕ) → slice_get (s ∷ []) i ≡ Some r → s ≡ r
     first zero g = same_Some s r g
     first (suc i) g = absurd (none-some r g)
-single-is ((s ∷ t ∷ ss) ∷ ds) rs h c = absurd h
+single_is ((s ∷ t ∷ ss) ∷ ds) rs h c = absurd h
+
+pub single_same : (ds : List (List Spot)) (rs rs' : List Spot) → Single ds → Chosen ds rs → Chosen ds rs' → rs ≡ rs'
+single_same ds rs rs' h c c' = single_is ds rs h c ∙ sym (single_is ds rs' h c')
 
 -- the moves that stand in the list are the choices
-singles-have : (ds : List Spot) (rs : List Spot) → Among (map (λ (x : Spot). x ∷ []) ds) rs → (r : Spot) × (rs ≡ r ∷ []) × ((i : ℕ) × (slice_get ds i ≡ Some r))
-singles-have [] rs h = absurd h
-singles-have (d ∷ ds) rs (inl e) = (d, sym e, (zero, refl))
-singles-have (d ∷ ds) rs (inr h) = let k = singles-have ds rs h in (k.0, k.1, (suc k.2.0, k.2.1))
+singles_have : (ds : List Spot) (rs : List Spot) → Among (map (λ (x : Spot). x ∷ []) ds) rs → (r : Spot) × (rs ≡ r ∷ []) × ((i : ℕ) × (slice_get ds i ≡ Some r))
+singles_have ds rs h = let k = among_map (λ (x : Spot). x ∷ []) ds rs h in (k.1, sym k.3, (k.0, k.2))
 
-have-singles : (ds : List Spot) (r : Spot) (i : ℕ) → slice_get ds i ≡ Some r → Among (map (λ (x : Spot). x ∷ []) ds) (r ∷ [])
-have-singles [] r i e = absurd (none-some r e)
-have-singles (d ∷ ds) r zero e = inl (ap (λ (x : Spot). x ∷ []) (same_Some d r e))
-have-singles (d ∷ ds) r (suc i) e = inr (have-singles ds r i e)
+have_singles : (ds : List Spot) (r : Spot) (i : ℕ) → slice_get ds i ≡ Some r → Among (map (λ (x : Spot). x ∷ []) ds) (r ∷ [])
+have_singles ds r i e = in_at (map (λ (x : Spot). x ∷ []) ds) i (r ∷ []) (map_at (λ (x : Spot). x ∷ []) ds i r e)
 
 pub append_nil : (xs : List Spot) → xs ++ [] ≡ xs
 append_nil [] = refl
 append_nil (x ∷ xs) = ap (λ (z : List Spot). x ∷ z) (append_nil xs)
 
-two-more : (n : ℕ) → eqb (suc (suc n)) 1 ≡ false
-two-more n = ne_eqb (suc (suc n)) 1 (λ e. let bad : ⊥ = omega arith in bad)
+two_more : (n : ℕ) → eqb (suc (suc n)) 1 ≡ false
+two_more n = ne_eqb (suc (suc n)) 1 (λ e. let bad : ⊥ = omega arith in bad)
 
 pub to_chosen : (count : ℕ) (ds : List (List Spot)) (rs : List Spot) → IsSimple count ds → Among (moves_of (eqb (length ds) 1) (concat ds)) rs → Chosen ds rs
 to_chosen count [] rs s (inl e) = subst (λ (z : List Spot). Chosen [] z) e tt
 to_chosen count [] rs s (inr k) = absurd k
 to_chosen count (d ∷ []) rs s h =
     let h' : Among (map (λ (x : Spot). x ∷ []) d) rs = subst (λ (z : List Spot). Among (map (λ (x : Spot). x ∷ []) z) rs) (append_nil d) h in
-    let k = singles-have d rs h' in subst (λ (z : List Spot). Chosen (d ∷ []) z) (sym k.1) ((k.2.0, k.2.1), tt)
+    let k = singles_have d rs h' in subst (λ (z : List Spot). Chosen (d ∷ []) z) (sym k.1) ((k.2.0, k.2.1), tt)
 to_chosen count (d ∷ e ∷ ds) rs s h = elim s.form [
-  | inl f ↦ (let h' : Among (concat (d ∷ e ∷ ds) ∷ []) rs = subst (λ (b : Bool). Among (moves_of b (concat (d ∷ e ∷ ds))) rs) (two-more (length ds)) h in elim h' [ inl q ↦ subst (λ (z : List Spot). Chosen (d ∷ e ∷ ds) z) q (single-chosen (d ∷ e ∷ ds) f) | inr k ↦ absurd k ])
+  | inl f ↦ (let h' : Among (concat (d ∷ e ∷ ds) ∷ []) rs = subst (λ (b : Bool). Among (moves_of b (concat (d ∷ e ∷ ds))) rs)
+      (two_more (length ds)) h in elim h' [ inl q ↦ subst (λ (z : List Spot). Chosen (d ∷ e ∷ ds) z) q (single_chosen (d ∷ e ∷ ds) f) | inr k ↦ absurd k ])
   | inr f ↦ (let bad : length (d ∷ e ∷ ds) ≡ 1 = ap (λ (z : List (List Spot)). length z) f.1 in let no : ⊥ = omega arith in absurd no)
 ]
 
@@ -230,9 +175,9 @@ from_chosen count [] [] s c = inl refl
 from_chosen count [] (r ∷ rs) s c = absurd c
 from_chosen count (d ∷ []) [] s c = absurd c
 from_chosen count (d ∷ []) (r ∷ t ∷ rs) s c = absurd c.1
-from_chosen count (d ∷ []) (r ∷ []) s c = subst (λ (z : List Spot). Among (map (λ (x : Spot). x ∷ []) z) (r ∷ [])) (sym (append_nil d)) (have-singles d r c.0.0 c.0.1)
+from_chosen count (d ∷ []) (r ∷ []) s c = subst (λ (z : List Spot). Among (map (λ (x : Spot). x ∷ []) z) (r ∷ [])) (sym (append_nil d)) (have_singles d r c.0.0 c.0.1)
 from_chosen count (d ∷ e ∷ ds) rs s c = elim s.form [
-  | inl f ↦ subst (λ (b : Bool). Among (moves_of b (concat (d ∷ e ∷ ds))) rs) (sym (two-more (length ds))) (inl (sym (single-is (d ∷ e ∷ ds) rs f c)))
+  | inl f ↦ subst (λ (b : Bool). Among (moves_of b (concat (d ∷ e ∷ ds))) rs) (sym (two_more (length ds))) (inl (sym (single_is (d ∷ e ∷ ds) rs f c)))
   | inr f ↦ (let bad : length (d ∷ e ∷ ds) ≡ 1 = ap (λ (z : List (List Spot)). length z) f.1 in let no : ⊥ = omega arith in absurd no)
 ]
 
@@ -241,17 +186,7 @@ pub chosen_among : (ds : List (List Spot)) (rs : List Spot) → Chosen ds rs →
 chosen_among [] [] c r m = absurd m
 chosen_among [] (x ∷ rs) c r m = absurd c
 chosen_among (d ∷ ds) [] c r m = absurd c
-chosen_among (d ∷ ds) (x ∷ rs) c r (inl e) = left d (concat ds) r (at-among d c.0.0 x r c.0.1 e)
-  where
-    at-among : (ys : List Spot) (i : ℕ) (y r : Spot) → slice_get ys i ≡ Some y → y ≡ r → Among ys r
-    at-among [] i y r g e = absurd (none-some y g)
-    at-among (z ∷ ys) zero y r g e = inl (same_Some z y g ∙ e)
-    at-among (z ∷ ys) (suc i) y r g e = inr (at-among ys i y r g e)
-
-    left : (xs ys : List Spot) (x : Spot) → Among xs x → Among (xs ++ ys) x
-    left [] ys x h = absurd h
-    left (z ∷ xs) ys x (inl e) = inl e
-    left (z ∷ xs) ys x (inr h) = inr (left xs ys x h)
+chosen_among (d ∷ ds) (x ∷ rs) c r (inl e) = has_left d (concat ds) r (in_at d c.0.0 r (c.0.1 ∙ ap Some e))
 chosen_among (d ∷ ds) (x ∷ rs) c r (inr m) = right d (concat ds) r (chosen_among ds rs c.1 r m)
   where
     right : (xs ys : List Spot) (x : Spot) → Among ys x → Among (xs ++ ys) x
@@ -259,38 +194,33 @@ chosen_among (d ∷ ds) (x ∷ rs) c r (inr m) = right d (concat ds) r (chosen_a
     right (y ∷ xs) ys x h = inr (right xs ys x h)
 
 -- a spot stands among the results of some move
-among-chosen : (count : ℕ) (ds : List (List Spot)) (r : Spot) → IsSimple count ds → Among (concat ds) r → (rs : List Spot) × Chosen ds rs × Among rs r
-among-chosen count ds r s m = elim s.form [
-  | inl f ↦ (concat ds, single-chosen ds f, m)
-  | inr f ↦ (let m' : Among f.0 r = among-nil f.0 r (subst (λ (z : List (List Spot)). Among (concat z) r) f.1 m) in
-      let p = place f.0 r m' in (r ∷ [], subst (λ (z : List (List Spot)). Chosen z (r ∷ [])) (sym f.1) ((p.0, p.1), tt), inl refl))
+among_chosen : (count : ℕ) (ds : List (List Spot)) (r : Spot) → IsSimple count ds → Among (concat ds) r → (rs : List Spot) × Chosen ds rs × Among rs r
+among_chosen count ds r s m = elim s.form [
+  | inl f ↦ (concat ds, single_chosen ds f, m)
+  | inr f ↦ (let m' : Among f.0 r = among_nil f.0 r (subst (λ (z : List (List Spot)). Among (concat z) r) f.1 m) in
+      let p = at_in f.0 r m' in (r ∷ [], subst (λ (z : List (List Spot)). Chosen z (r ∷ [])) (sym f.1) ((p.0, p.1), tt), inl refl))
 ]
-  where
-    place : (xs : List Spot) (r : Spot) → Among xs r → (i : ℕ) × (slice_get xs i ≡ Some r)
-    place [] r h = absurd h
-    place (x ∷ xs) r (inl e) = (zero, ap Some e)
-    place (x ∷ xs) r (inr h) = let k = place xs r h in (suc k.0, k.1)
 
 -- owes_more is what it says
-or-no : (a b : Bool) → (a || b) ≡ false → (a ≡ false) × (b ≡ false)
-or-no true b e = absurd (false≢true (sym e))
-or-no false b e = (refl, e)
+or_no : (a b : Bool) → (a || b) ≡ false → (a ≡ false) × (b ≡ false)
+or_no true b e = absurd (false≢true (sym e))
+or_no false b e = (refl, e)
 
-pub or-yes : (a b : Bool) → (a || b) ≡ true → (a ≡ true) ⊎ (b ≡ true)
-or-yes true b e = inl refl
-or-yes false b e = inr e
+pub or_yes : (a b : Bool) → (a || b) ≡ true → (a ≡ true) ⊎ (b ≡ true)
+or_yes true b e = inl refl
+or_yes false b e = inr e
 
 pub more_no : (bound : ℕ) (spots : List Spot) → owes_more bound spots ≡ false → (r : Spot) → Among spots r → length r.pending ≤ bound
 more_no bound [] e r m = absurd m
 more_no bound (s ∷ spots) e r (inl q) = elim (cases_lt bound (length s.pending)) [
-  | inl a ↦ (let t = lt-ltb bound (length s.pending) a in let k = or-no (nat_lt bound (length s.pending)) (owes_more bound spots) e in absurd (false≢true (sym k.0 ∙ t)))
+  | inl a ↦ (let t = lt-ltb bound (length s.pending) a in let k = or_no (nat_lt bound (length s.pending)) (owes_more bound spots) e in absurd (false≢true (sym k.0 ∙ t)))
   | inr a ↦ subst (λ (z : Spot). length z.pending ≤ bound) q a
 ]
-more_no bound (s ∷ spots) e r (inr m) = more_no bound spots (or-no (nat_lt bound (length s.pending)) (owes_more bound spots) e).1 r m
+more_no bound (s ∷ spots) e r (inr m) = more_no bound spots (or_no (nat_lt bound (length s.pending)) (owes_more bound spots) e).1 r m
 
 pub more_yes : (bound : ℕ) (spots : List Spot) → owes_more bound spots ≡ true → (r : Spot) × Among spots r × (bound < length r.pending)
 more_yes bound [] e = absurd (false≢true e)
-more_yes bound (s ∷ spots) e = elim (or-yes (nat_lt bound (length s.pending)) (owes_more bound spots) e) [
+more_yes bound (s ∷ spots) e = elim (or_yes (nat_lt bound (length s.pending)) (owes_more bound spots) e) [
   | inl a ↦ (s, inl refl, ltb-true bound (length s.pending) a)
   | inr a ↦ (let k = more_yes bound spots a in (k.0, inr k.1, k.2))
 ]
@@ -310,31 +240,36 @@ to_move sub above bound p rs h = go (due sub above p) refl h
     go : (o : Option Due) → due sub above p ≡ o → Among (moves_of (turn_with_cut bound (turn_of o)).any (turn_with_cut bound (turn_of o)).spots) rs → MoveWithin sub above bound p rs
     go None e m = absurd m
     go (Some d) e m = elim (bool_cases (owes_more bound (concat d.nexts))) [
-      | inl t ↦ (let m' : Among (moves_of (no_turn true).any (no_turn true).spots) rs = subst (λ (b : Bool). Among (moves_of (if b then no_turn true else turn_of (Some d)).any (if b then no_turn true else turn_of (Some d)).spots) rs) t m in absurd m')
-      | inr f ↦ (let m' : Among (moves_of (eqb (length d.nexts) 1) (concat d.nexts)) rs = subst (λ (b : Bool). Among (moves_of (if b then no_turn true else turn_of (Some d)).any (if b then no_turn true else turn_of (Some d)).spots) rs) f m in
+      | inl t ↦ (let m' : Among (moves_of (no_turn true).any (no_turn true).spots) rs = subst
+          (λ (b : Bool). Among (moves_of (if b then no_turn true else turn_of (Some d)).any (if b then no_turn true else turn_of (Some d)).spots) rs) t m in absurd m')
+      | inr f ↦ (let m' : Among (moves_of (eqb (length d.nexts) 1) (concat d.nexts)) rs = subst
+          (λ (b : Bool). Among (moves_of (if b then no_turn true else turn_of (Some d)).any (if b then no_turn true else turn_of (Some d)).spots) rs) f m in
           let c = to_chosen (length p.pending) d.nexts rs (simple sub above p d e) m' in
           let s = sound sub above p d rs e c in
           record { makes = s.makes; move = s.move; short = λ r k. more_no bound (concat d.nexts) f r (chosen_among d.nexts rs c r k) })
     ]
 
-no-results : (ds : List (List Spot)) (x : Spot) → Chosen ds [] → Among (concat ds) x → ⊥
-no-results [] x c m = m
-no-results (d ∷ ds) x c m = c
+no_results : (ds : List (List Spot)) (x : Spot) → Chosen ds [] → Among (concat ds) x → ⊥
+no_results [] x c m = m
+no_results (d ∷ ds) x c m = c
 
-too-long : (bound owes : ℕ) (ds : List (List Spot)) (rs : List Spot) → Chosen ds rs → ((r : Spot) → Among rs r → length r.pending ≡ owes) → ((r : Spot) → Among rs r → length r.pending ≤ bound) → bound < owes
+too_long : (bound owes : ℕ) (ds : List (List Spot)) (rs : List Spot) → Chosen ds rs → ((r : Spot) → Among rs r → length r.pending ≡ owes) → ((r : Spot) → Among rs r → length r.pending ≤ bound)
+    → bound < owes
     → (x : Spot) → Among (concat ds) x → ⊥
-too-long bound owes ds [] c all short lt x m = no-results ds x c m
-too-long bound owes ds (r ∷ rs) c all short lt x m = let a = all r (inl refl) in let b = short r (inl refl) in let bad : ⊥ = omega arith in bad
+too_long bound owes ds [] c all short lt x m = no_results ds x c m
+too_long bound owes ds (r ∷ rs) c all short lt x m = let a = all r (inl refl) in let b = short r (inl refl) in let bad : ⊥ = omega arith in bad
 
--- .. and each such move is there
+-- each move of the table within the bound is there
 pub from_move : (sub above : Machine_data) (bound : ℕ) (p : Spot) (rs : List Spot) → MoveWithin sub above bound p rs → Among (moves_at sub above bound p) rs
 from_move sub above bound p rs m =
     let t = complete sub above p m.makes rs m.move in
     let s = simple sub above p t.d t.is' in
     subst (λ (o : Option Due). Among (moves_of (turn_with_cut bound (turn_of o)).any (turn_with_cut bound (turn_of o)).spots) rs) (sym t.is') (elim (bool_cases (owes_more bound (concat t.d.nexts))) [
       | inl y ↦ (let k = more_yes bound (concat t.d.nexts) y in
-          let q = s.level.all k.0 k.1 in absurd (too-long bound s.level.owes t.d.nexts rs t.picks (λ r h. s.level.all r (chosen_among t.d.nexts rs t.picks r h)) m.short (let a = k.2 in omega arith) k.0 k.1))
-      | inr f ↦ subst (λ (b : Bool). Among (moves_of (if b then no_turn true else turn_of (Some t.d)).any (if b then no_turn true else turn_of (Some t.d)).spots) rs) (sym f) (from_chosen (length p.pending) t.d.nexts rs s t.picks)
+          let q = s.level.all k.0 k.1 in absurd
+          (too_long bound s.level.owes t.d.nexts rs t.picks (λ r h. s.level.all r (chosen_among t.d.nexts rs t.picks r h)) m.short (let a = k.2 in omega arith) k.0 k.1))
+      | inr f ↦ subst (λ (b : Bool). Among (moves_of (if b then no_turn true else turn_of (Some t.d)).any (if b then no_turn true else turn_of (Some t.d)).spots) rs) (sym f)
+          (from_chosen (length p.pending) t.d.nexts rs s t.picks)
     ])
 
 -- a cut is what it says
@@ -346,9 +281,9 @@ to_cut sub above bound p le h = go (due sub above p) refl h
     go (Some d) e m = elim (bool_cases (owes_more bound (concat d.nexts))) [
       | inl y ↦ (let k = more_yes bound (concat d.nexts) y in
           let s = simple sub above p d e in
-          let r = among-chosen (length p.pending) d.nexts k.0 s k.1 in
+          let r = among_chosen (length p.pending) d.nexts k.0 s k.1 in
           let t = sound sub above p d r.0 e r.1 in
-          let q = s.level.all k.0 k.1 in let f = s.level.few in let l = k.2 in
+          let q = s.level.all k.0 k.1 in let f = s.level.bounded in let l = k.2 in
           record { full = omega arith; makes = t.makes; results = r.0; move = t.move; result = k.0; among = r.2; longer = k.2 })
       | inr n ↦ (let m' : false ≡ true = subst (λ (b : Bool). (if b then no_turn true else turn_of (Some d)).cut ≡ true) n m in absurd (false≢true m'))
     ]

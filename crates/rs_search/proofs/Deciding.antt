@@ -1,6 +1,7 @@
 -- Two well-formed machines have a canonical derivation, or there is a reason why they have none: the search, carried out on the
 -- definitions.
-use Rattle.std.proofs.Common.{◌≡◌, ◌≢◌, ◌⊎◌, ◌↔◌, inl, inr, ℕ, ◌<◌, ◌≤◌, Bool, true, false, List, [], ◌∷◌, ◌++◌, length, get_or, map, refl, sym, ap, ◌∙◌, subst, arith, ◌+◌, suc, zero, Some, slice_get, if◌then◌else◌}
+use Rattle.std.proofs.Common.{◌≡◌, ◌≢◌, ◌⊎◌, ◌↔◌, inl, inr, ℕ, ◌<◌, ◌≤◌, Bool, true, false, List, [], ◌∷◌, ◌++◌, length, get_or, map, refl, sym, ap, ◌∙◌, subst, arith, ◌+◌, suc, zero, Some}
+use Rattle.std.proofs.Common.{slice_get, if◌then◌else◌}
 use Rattle.std.specs.List.{list_any}
 use Rattle.std.proofs.lemmas.Bool.{cases_lt}
 use Rattle.std.proofs.lemmas.List.{get_or_past}
@@ -16,9 +17,9 @@ use Rattle.rs_graph.proofs.Growth.{at_short, at_within, growing_begin, not_both}
 use Rattle.rs_graph.proofs.Kept.{Pictures}
 use Rattle.rs_graph.specs.Discovery.{IsDiscovery, Reached, Begin, Step}
 use Rattle.rs_graph.specs.Graphs.{moves_of}
-use Rattle.rs_graph.specs.Lists.{Among, Names}
+use Rattle.rs_graph.specs.Lists.{Among, ArePlacesOf}
 use Rattle.rs_graph.specs.Places.{next_of}
-use Rattle.rs_graph.specs.Removal.{IsRemoval, Leads, at}
+use Rattle.rs_graph.specs.Removal.{Leads, at}
 use Rattle.rs_graph.specs.Removal as removal
 use Rattle.rs_search.proofs.Assembled.{Worked_out, forgets, is_found, kept_within}
 use Rattle.rs_search.proofs.Choices.{moves_at}
@@ -31,13 +32,13 @@ use Rattle.rs_search.proofs.Same.{not_spot, spot_is}
 use Rattle.rs_search.proofs.Verdicts.{cut_from, cut_to, dies, less_than, more_than, names_length, rows_within}
 use Rattle.rs_search.specs.Candidates.{start_spot}
 use Rattle.rs_search.specs.Canonical.{IsDerivable, IsCanonical, IsNotFound, SearchRefuses}
-use Rattle.rs_search.specs.Nodes.{AreKept, AreNodes, node_of}
+use Rattle.rs_search.specs.Nodes.{AreKept, AreNodes, node_at_spot}
 use Rattle.rs_search.specs.Turns.{is_any, is_cut, is_keeping, nexts_within}
 use Rattle.rs_search.specs.declared.faults.SearchFault.{SearchFault}
 use Rattle.rs_search.specs.declared.faults.SearchFault.TheVariants.{NotFound, Forgets, TooLarge, NoMemory}
 
-same-spots : Tells Spot
-same-spots p q = told (same_spot p q) refl
+same_spots : Tells Spot
+same_spots p q = told (same_spot p q) refl
   where
     told : (b : Bool) → same_spot p q ≡ b → (p ≡ q) ⊎ (p ≡ q → ⊥)
     told true e = inl (spot_is p q e)
@@ -49,40 +50,43 @@ outs_of any [] rows = []
 outs_of any (x ∷ found) [] = []
 outs_of any (x ∷ found) (row ∷ rows) = moves_of (any x) row ∷ outs_of any found rows
 
-pub outs-length : (any : Spot → Bool) (found : List Spot) (rows : List (List ℕ)) → length rows ≡ length found → length (outs_of any found rows) ≡ length found
-outs-length any [] rows e = refl
-outs-length any (x ∷ found) [] e = let bad : ⊥ = omega arith in absurd bad
-outs-length any (x ∷ found) (row ∷ rows) e = ap suc (outs-length any found rows (omega arith))
+pub outs_length : (any : Spot → Bool) (found : List Spot) (rows : List (List ℕ)) → length rows ≡ length found → length (outs_of any found rows) ≡ length found
+outs_length any [] rows e = refl
+outs_length any (x ∷ found) [] e = let bad : ⊥ = omega arith in absurd bad
+outs_length any (x ∷ found) (row ∷ rows) e = ap suc (outs_length any found rows (omega arith))
 
-pub outs-at : (any : Spot → Bool) (found : List Spot) (rows : List (List ℕ)) (n : ℕ) (x : Spot) (row : List ℕ) → slice_get found n ≡ Some x → slice_get rows n ≡ Some row → get_or (outs_of any found rows) n [] ≡ moves_of (any x) row
-outs-at any [] rows n x row a b = absurd (none-some x a)
-outs-at any (y ∷ found) [] n x row a b = absurd (none-some row b)
-outs-at any (y ∷ found) (r ∷ rows) zero x row a b = ap (λ (z : Spot). moves_of (any z) r) (same_Some y x a) ∙ ap (λ (z : List ℕ). moves_of (any x) z) (same_Some r row b)
-outs-at any (y ∷ found) (r ∷ rows) (suc n) x row a b = outs-at any found rows n x row a b
+pub outs_at : (any : Spot → Bool) (found : List Spot) (rows : List (List ℕ)) (n : ℕ) (x : Spot) (row : List ℕ) → slice_get found n ≡ Some x → slice_get rows n ≡ Some row
+    → get_or (outs_of any found rows) n [] ≡ moves_of (any x) row
+outs_at any [] rows n x row a b = absurd (none-some x a)
+outs_at any (y ∷ found) [] n x row a b = absurd (none-some row b)
+outs_at any (y ∷ found) (r ∷ rows) zero x row a b = ap (λ (z : Spot). moves_of (any z) r) (same_Some y x a) ∙ ap (λ (z : List ℕ). moves_of (any x) z) (same_Some r row b)
+outs_at any (y ∷ found) (r ∷ rows) (suc n) x row a b = outs_at any found rows n x row a b
 
-moves-count : (any : Bool) (row : List ℕ) (xs : List Spot) → length row ≡ length xs → length (moves_of any row) ≡ length (moves_of any xs)
-moves-count true [] [] e = refl
-moves-count true [] (x ∷ xs) e = let bad : ⊥ = omega arith in absurd bad
-moves-count true (n ∷ row) [] e = let bad : ⊥ = omega arith in absurd bad
-moves-count true (n ∷ row) (x ∷ xs) e = ap suc (moves-count true row xs (omega arith))
-moves-count false row xs e = refl
+moves_count : (any : Bool) (row : List ℕ) (xs : List Spot) → length row ≡ length xs → length (moves_of any row) ≡ length (moves_of any xs)
+moves_count true [] [] e = refl
+moves_count true [] (x ∷ xs) e = let bad : ⊥ = omega arith in absurd bad
+moves_count true (n ∷ row) [] e = let bad : ⊥ = omega arith in absurd bad
+moves_count true (n ∷ row) (x ∷ xs) e = ap suc (moves_count true row xs (omega arith))
+moves_count false row xs e = refl
 
-moves-name : (found : List Spot) (any : Bool) (row : List ℕ) (xs : List Spot) (place : ℕ) (rs : List Spot) → Names found row xs → slice_get (moves_of any xs) place ≡ Some rs → Names found (get_or (moves_of any row) place []) rs
-moves-name found true [] [] place rs h e = absurd (none-some rs e)
-moves-name found true [] (x ∷ xs) place rs h e = absurd h
-moves-name found true (n ∷ row) [] place rs h e = absurd h
-moves-name found true (n ∷ row) (x ∷ xs) zero rs h e = subst (λ (z : List Spot). Names found (n ∷ []) z) (same_Some (x ∷ []) rs e) (h.0, tt)
-moves-name found true (n ∷ row) (x ∷ xs) (suc place) rs h e = moves-name found true row xs place rs h.1 e
-moves-name found false row xs zero rs h e = subst (λ (z : List Spot). Names found row z) (same_Some xs rs e) h
-moves-name found false row xs (suc place) rs h e = absurd (none-some rs e)
+moves_name : (found : List Spot) (any : Bool) (row : List ℕ) (xs : List Spot) (place : ℕ) (rs : List Spot) → ArePlacesOf found row xs → slice_get (moves_of any xs) place ≡ Some rs
+    → ArePlacesOf found (get_or (moves_of any row) place []) rs
+moves_name found true [] [] place rs h e = absurd (none-some rs e)
+moves_name found true [] (x ∷ xs) place rs h e = absurd h
+moves_name found true (n ∷ row) [] place rs h e = absurd h
+moves_name found true (n ∷ row) (x ∷ xs) zero rs h e = subst (λ (z : List Spot). ArePlacesOf found (n ∷ []) z) (same_Some (x ∷ []) rs e) (h.0, tt)
+moves_name found true (n ∷ row) (x ∷ xs) (suc place) rs h e = moves_name found true row xs place rs h.1 e
+moves_name found false row xs zero rs h e = subst (λ (z : List Spot). ArePlacesOf found row z) (same_Some xs rs e) h
+moves_name found false row xs (suc place) rs h e = absurd (none-some rs e)
 
-moves-in : (any : Bool) (row : List ℕ) (place r : ℕ) → Among (get_or (moves_of any row) place []) r → Among row r
-moves-in true [] place r h = (let e : get_or {A = List ℕ} [] place [] ≡ [] = get_or_past [] place [] (omega arith) in let bad : Among [] r = subst (λ (z : List ℕ). Among z r) e h in absurd bad)
-moves-in true (n ∷ row) zero r (inl e) = inl e
-moves-in true (n ∷ row) zero r (inr h) = absurd h
-moves-in true (n ∷ row) (suc place) r h = inr (moves-in true row place r h)
-moves-in false row zero r h = h
-moves-in false row (suc place) r h = (let e : get_or {A = List ℕ} [] place [] ≡ [] = get_or_past [] place [] (omega arith) in let bad : Among [] r = subst (λ (z : List ℕ). Among z r) e h in absurd bad)
+moves_in : (any : Bool) (row : List ℕ) (place r : ℕ) → Among (get_or (moves_of any row) place []) r → Among row r
+moves_in true [] place r h = (let e : get_or {A = List ℕ} [] place [] ≡ [] = get_or_past [] place [] (omega arith) in let bad : Among [] r = subst (λ (z : List ℕ). Among z r) e h in absurd bad)
+moves_in true (n ∷ row) zero r (inl e) = inl e
+moves_in true (n ∷ row) zero r (inr h) = absurd h
+moves_in true (n ∷ row) (suc place) r h = inr (moves_in true row place r h)
+moves_in false row zero r h = h
+moves_in false row (suc place) r h = (let e : get_or {A = List ℕ} [] place [] ≡ [] = get_or_past [] place [] (omega arith) in let bad : Among [] r = subst (λ (z : List ℕ). Among z r)
+    e h in absurd bad)
 
 -- the graph of the candidates
 abbrev pub graph_outs : Machine_data → Machine_data → ℕ → List Spot → List (List ℕ) → List (List (List ℕ))
@@ -95,12 +99,13 @@ row_at sub above bound found rows d n x e = at_within rows n (let a = at_short f
 pub graph_pictures : (sub above : Machine_data) (bound : ℕ) (found : List Spot) (rows : List (List ℕ)) → IsDiscovery (nexts_within sub above bound) (start_spot sub above) found rows
     → Pictures (moves_at sub above bound) found (graph_outs sub above bound found rows)
 graph_pictures sub above bound found rows d = record {
-  size = outs-length any found rows d.all;
+  size = outs_length any found rows d.all;
   count = λ n x e. (let r = row_at sub above bound found rows d n x e in let nm = d.names n x r.0 e r.1 in
-      ap (λ (z : List (List ℕ)). length z) (outs-at any found rows n x r.0 e r.1) ∙ moves-count (any x) r.0 (nexts_within sub above bound x) (names_length found r.0 (nexts_within sub above bound x) nm));
+      ap (λ (z : List (List ℕ)). length z) (outs_at any found rows n x r.0 e r.1)
+      ∙ moves_count (any x) r.0 (nexts_within sub above bound x) (names_length found r.0 (nexts_within sub above bound x) nm));
   names = λ n place x rs e m. (let r = row_at sub above bound found rows d n x e in let nm = d.names n x r.0 e r.1 in
-      subst (λ (z : List (List ℕ)). Names found (get_or z place []) rs) (sym (outs-at any found rows n x r.0 e r.1))
-      (moves-name found (any x) r.0 (nexts_within sub above bound x) place rs nm m));
+      subst (λ (z : List (List ℕ)). ArePlacesOf found (get_or z place []) rs) (sym (outs_at any found rows n x r.0 e r.1))
+      (moves_name found (any x) r.0 (nexts_within sub above bound x) place rs nm m));
 }
   where
     any : Spot → Bool
@@ -113,7 +118,7 @@ graph_within sub above bound found rows d n p r h = elim (cases_lt n (length fou
       let q : get_or {A = List ℕ} [] p [] ≡ [] = get_or_past [] p [] (omega arith) in
       let bad : Among [] r = subst (λ (z : List ℕ). Among z r) (ap (λ (z : List (List ℕ)). get_or z p []) e ∙ q) h in absurd bad)
   | inl a ↦ (let x = at_within found n a in let row = row_at sub above bound found rows d n x.0 x.1 in
-      let m = moves-in (any x.0) row.0 p r (subst (λ (z : List (List ℕ)). Among (get_or z p []) r) (outs-at any found rows n x.0 row.0 x.1 row.1) h) in
+      let m = moves_in (any x.0) row.0 p r (subst (λ (z : List (List ℕ)). Among (get_or z p []) r) (outs_at any found rows n x.0 row.0 x.1 row.1) h) in
       let k = rows_within (nexts_within sub above bound) (start_spot sub above) found rows d n r (subst (λ (z : List ℕ). Among z r) (sym (got rows n row.0 [] row.1)) m) in
       let s = pictures.size in let l = d.all in omega arith)
 ]
@@ -142,41 +147,45 @@ explored sub above bound w = record {
   left = left (graph_outs sub above bound w.found w.rows) (graph_within sub above bound w.found w.rows w.discovery);
 }
 
-not-found : (sub above : Machine_data) (bound : ℕ) (x : Explored sub above bound) → removal.moves_at x.outs 0 ≤ at x.left.current 0 → (cut : Bool) × IsNotFound sub above bound cut
-not-found sub above bound x le =
+not_found : (sub above : Machine_data) (bound : ℕ) (x : Explored sub above bound) → removal.moves_at x.outs 0 ≤ at x.left.current 0 → (cut : Bool) × IsNotFound sub above bound cut
+not_found sub above bound x le =
     let found = x.whole.found in let rows = x.whole.rows in let d = x.whole.discovery in (
       list_any (is_cut sub above bound) found,
       record {
-        few = λ m. not_both (nexts_within sub above bound) (start_spot sub above) found rows MOST_CANDIDATES d x.whole.few (less_than sub above bound MOST_CANDIDATES m);
+        bounded = λ m. not_both (nexts_within sub above bound) (start_spot sub above) found rows MOST_CANDIDATES d x.whole.bounded (less_than sub above bound MOST_CANDIDATES m);
         dies = dies sub above bound found (record { outs = x.outs; intos = [] }) x.left.current x.left.order x.pictures x.left.removal 0 (start_spot sub above) d.first le;
         cuts = (cut_to sub above bound found rows d, cut_from sub above bound found rows d);
       },
     )
 
 -- the edges that keep their head, and the nodes of the derivation
-kept-all : (keeps : List Bool) (items : List ℕ) (nexts : List (List ℕ)) → length nexts ≡ length items → (n i : ℕ) → i + n ≡ length items → (kept : List (List ℕ)) → AreKept keeps items nexts i kept → (all : List (List ℕ)) × AreKept keeps items nexts (length items) all
-kept-all keeps items nexts e zero i s kept a = (kept, (let k : i ≡ length items = omega arith in subst (λ (z : ℕ). AreKept keeps items nexts z kept) k a))
-kept-all keeps items nexts e (suc n) i s kept a =
+kept_all : (keeps : List Bool) (items : List ℕ) (nexts : List (List ℕ)) → length nexts ≡ length items → (n i : ℕ) → i + n ≡ length items → (kept : List (List ℕ)) → AreKept keeps items nexts i kept
+    → (all : List (List ℕ)) × AreKept keeps items nexts (length items) all
+kept_all keeps items nexts e zero i s kept a = (kept, (let k : i ≡ length items = omega arith in subst (λ (z : ℕ). AreKept keeps items nexts z kept) k a))
+kept_all keeps items nexts e (suc n) i s kept a =
     let m = at_within items i (omega arith) in
     let row = at_within nexts i (omega arith) in
     let this : List ℕ = if get_or keeps m.0 false then row.0 else [] in
-    kept-all keeps items nexts e n (i + 1) (omega arith) (kept ++ (this ∷ [])) (kept_on keeps items nexts i m.0 (get_or keeps m.0 false) row.0 this kept (kept ++ (this ∷ [])) a m.1 row.1 refl refl refl)
+    kept_all keeps items nexts e n (i + 1) (omega arith) (kept ++ (this ∷ []))
+    (kept_on keeps items nexts i m.0 (get_or keeps m.0 false) row.0 this kept (kept ++ (this ∷ [])) a m.1 row.1 refl refl refl)
 
-nodes-all : (found : List Spot) (items : List ℕ) (nexts : List (List ℕ)) (ranks : List ℕ) → length nexts ≡ length items → ((i n : ℕ) → slice_get items i ≡ Some n → n < length found) → (n i : ℕ) → i + n ≡ length items → (nodes : List DNode_data)
+nodes_all : (found : List Spot) (items : List ℕ) (nexts : List (List ℕ)) (ranks : List ℕ) → length nexts ≡ length items → ((i n : ℕ) → slice_get items i ≡ Some n → n < length found) → (n i : ℕ)
+    → i + n ≡ length items → (nodes : List DNode_data)
     → AreNodes found items nexts ranks i nodes → (all : List DNode_data) × AreNodes found items nexts ranks (length items) all
-nodes-all found items nexts ranks e inside zero i s nodes a = (nodes, (let k : i ≡ length items = omega arith in subst (λ (z : ℕ). AreNodes found items nexts ranks z nodes) k a))
-nodes-all found items nexts ranks e inside (suc n) i s nodes a =
+nodes_all found items nexts ranks e inside zero i s nodes a = (nodes, (let k : i ≡ length items = omega arith in subst (λ (z : ℕ). AreNodes found items nexts ranks z nodes) k a))
+nodes_all found items nexts ranks e inside (suc n) i s nodes a =
     let m = at_within items i (omega arith) in
     let p = at_within found m.0 (inside i m.0 m.1) in
     let row = at_within nexts i (omega arith) in
-    let node = node_of p.0 (get_or ranks i 0) row.0 in
-    nodes-all found items nexts ranks e inside n (i + 1) (omega arith) (nodes ++ (node ∷ [])) (nodes_on found items nexts ranks i m.0 (get_or ranks i 0) p.0 row.0 nodes (nodes ++ (node ∷ [])) node a m.1 p.1 row.1 refl refl refl)
+    let node = node_at_spot p.0 (get_or ranks i 0) row.0 in
+    nodes_all found items nexts ranks e inside n (i + 1) (omega arith) (nodes ++ (node ∷ []))
+    (nodes_on found items nexts ranks i m.0 (get_or ranks i 0) p.0 row.0 nodes (nodes ++ (node ∷ [])) node a m.1 p.1 row.1 refl refl refl)
 
 abbrev pub Decision : Machine_data → Machine_data → ℕ → Type 0
 Decision sub above bound = ((d : Derivation_data) × IsCanonical sub above bound d) ⊎ ((fault : SearchFault) × (fault ≢ NoMemory) × SearchRefuses sub above bound fault)
 
-stays-on : (sub above : Machine_data) (bound : ℕ) → IsProper above → (x : Explored sub above bound) → at x.left.current 0 < removal.moves_at x.outs 0 → Decision sub above bound
-stays-on sub above bound proper x start =
+stays_on : (sub above : Machine_data) (bound : ℕ) → IsProper above → (x : Explored sub above bound) → at x.left.current 0 < removal.moves_at x.outs 0 → Decision sub above bound
+stays_on sub above bound proper x start =
     elim (ranks_or_cycle kept.0 (kept_within next keeps w.found w.rows kept.0 w.discovery kept.1)) [
       | inl r ↦ (let o = worked r.0 in inl (record { role = sub.role; bound = bound; nodes = o.nodes }, is_found sub above bound o kept.0 kept.1 r.1))
       | inr c ↦ inr (Forgets c.0, (λ e. cc (e)), forgets sub above bound (worked []) kept.0 c.0 kept.1 c.1)
@@ -205,10 +214,11 @@ stays-on sub above bound proper x start =
     stay i n e = stays n (w.discovery.reached i n e)
 
     kept : (all : List (List ℕ)) × AreKept keeps w.found w.rows (length w.found) all
-    kept = kept-all keeps w.found w.rows w.discovery.all (length w.found) 0 (omega arith) [] (kept_none keeps w.found w.rows)
+    kept = kept_all keeps w.found w.rows w.discovery.all (length w.found) 0 (omega arith) [] (kept_none keeps w.found w.rows)
 
     nodes : (ranks : List ℕ) → (all : List DNode_data) × AreNodes x.whole.found w.found w.rows ranks (length w.found) all
-    nodes ranks = nodes-all x.whole.found w.found w.rows ranks w.discovery.all (λ i n e. let a = inside n (w.discovery.reached i n e) in let s = x.pictures.size in omega arith) (length w.found) 0 (omega arith) [] (nodes_none x.whole.found w.found w.rows ranks)
+    nodes ranks = nodes_all x.whole.found w.found w.rows ranks w.discovery.all (λ i n e. let a = inside n (w.discovery.reached i n e) in let s = x.pictures.size in omega arith) (length w.found) 0
+        (omega arith) [] (nodes_none x.whole.found w.found w.rows ranks)
 
     worked : (ranks : List ℕ) → Worked_out sub above bound
     worked ranks = record {
@@ -223,7 +233,7 @@ stays-on sub above bound proper x start =
       nodes = (nodes ranks).0;
       proper = proper;
       discovery = x.whole.discovery;
-      few = x.whole.few;
+      bounded = x.whole.bounded;
       pictures = x.pictures;
       left = x.left.removal;
       numbers = w.discovery;
@@ -232,23 +242,24 @@ stays-on sub above bound proper x start =
     }
 
 pub decided : (sub above : Machine_data) (bound : ℕ) → IsProper sub → IsProper above → Decision sub above bound
-decided sub above bound ws wa = elim (discovered same-spots (nexts_within sub above bound) (start_spot sub above) MOST_CANDIDATES (suc MOST_CANDIDATES) (start_spot sub above ∷ []) [] (omega arith) (omega arith) (growing_begin (nexts_within sub above bound) (start_spot sub above))) [
-  | inr m ↦ inr (TooLarge, (λ e. cc (e)), more_than sub above bound MOST_CANDIDATES m)
-  | inl w ↦ (let x = explored sub above bound w in
-      elim (cases_lt (at x.left.current 0) (removal.moves_at x.outs 0)) [
-        | inl s ↦ stays-on sub above bound wa x s
-        | inr g ↦ (let r = not-found sub above bound x g in inr (NotFound r.0, (λ e. cc (e)), r.1))
-      ])
-]
+decided sub above bound ws wa = elim (discovered same_spots (nexts_within sub above bound) (start_spot sub above) MOST_CANDIDATES (suc MOST_CANDIDATES) (start_spot sub above ∷ []) [] (omega arith)
+    (omega arith) (growing_begin (nexts_within sub above bound) (start_spot sub above))) [
+      | inr m ↦ inr (TooLarge, (λ e. cc (e)), more_than sub above bound MOST_CANDIDATES m)
+      | inl w ↦ (let x = explored sub above bound w in
+          elim (cases_lt (at x.left.current 0) (removal.moves_at x.outs 0)) [
+            | inl s ↦ stays_on sub above bound wa x s
+            | inr g ↦ (let r = not_found sub above bound x g in inr (NotFound r.0, (λ e. cc (e)), r.1))
+          ])
+    ]
 
 pub is_derivable : (sub above : Machine_data) (bound : ℕ) (d : Derivation_data) → IsCanonical sub above bound d → IsDerivable sub above bound
-is_derivable sub above bound d f = record { few = f.few; survives = starts_survive sub above bound d f.canonical; remembers = no_answer_is_forgetful sub above bound d f }
+is_derivable sub above bound d f = record { bounded = f.bounded; survives = starts_survive sub above bound d f.canonical; remembers = no_answer_is_forgetful sub above bound d f }
 
 -- what may be derived isn't refused
 pub not_refused : (sub above : Machine_data) (bound : ℕ) → IsDerivable sub above bound → (fault : SearchFault) → fault ≢ NoMemory → SearchRefuses sub above bound fault → ⊥
 not_refused sub above bound h (NotFound cut) ne r = r.dies h.survives
 not_refused sub above bound h (Forgets node) ne r = h.remembers (is_forgetful sub above bound node r)
-not_refused sub above bound h TooLarge ne r = h.few r
+not_refused sub above bound h TooLarge ne r = h.bounded r
 not_refused sub above bound h NoMemory ne r = ne refl
 
 pub derivable : (sub above : Machine_data) (bound : ℕ) → IsProper sub → IsProper above → ((d : Derivation_data) × IsCanonical sub above bound d) ↔ IsDerivable sub above bound

@@ -1,10 +1,10 @@
 -- All that is reached is discovered, or more than so many are: the discovery, carried out on the definitions.
-use Rattle.std.proofs.Common.{◌≡◌, ◌⊎◌, inl, inr, ℕ, ◌<◌, ◌≤◌, List, [], ◌∷◌, ◌++◌, length, refl, ap, subst, arith, ◌+◌, suc, zero, take, take_all, length-append}
+use Rattle.std.proofs.Common.{◌≡◌, ◌⊎◌, inl, inr, ℕ, ◌<◌, ◌≤◌, List, [], ◌∷◌, ◌++◌, length, refl, subst, arith, ◌+◌, suc, zero, take, take_all, length-append}
 use Rattle.std.proofs.lemmas.Bool.{cases_lt}
 use Rattle.std.proofs.lemmas.Bool.Decides.{eqb_tells}
-use Rattle.rs_graph.proofs.Growth.{at_in, at_short, at_within, grown_all, grown_none, grown_on, growing_done, growing_large, growing_on, named_on, push_new}
-use Rattle.rs_graph.specs.Discovery.{Grown, Growing, IsDiscovery, MoreThan, NoMore, Numbered}
-use Rattle.rs_graph.specs.Lists.{Among, Names}
+use Rattle.rs_graph.proofs.Growth.{at_in, at_within, growing_done, growing_large, growing_on, named_known, named_new, named_none, named_on}
+use Rattle.rs_graph.specs.Discovery.{AreNamed, Growing, IsDiscovery, MoreThan}
+use Rattle.rs_graph.specs.Lists.{Among}
 
 -- any two are the same or aren't
 abbrev pub Tells : Type 0 → Type 0
@@ -27,10 +27,7 @@ among_or_not same (y ∷ xs) x = elim (same y x) [
 record Named {X : Type 0} (old ys : List X) (i : ℕ) : Type 0 where
   pub new : List X
   pub row : List ℕ
-  pub grown : Grown old (take i ys) new
-  pub names : Names new row (take i ys)
-  pub numbered : Numbered (length old) row (length new)
-  pub longer : length old ≤ length new
+  pub are : AreNamed old (take i ys) new row
 
 named : {X : Type 0} → Tells X → (old ys : List X) (n i : ℕ) → i + n ≡ length ys → Named old ys i → Named old ys (length ys)
 named same old ys zero i e a = let k : i ≡ length ys = omega arith in subst (λ (z : ℕ). Named old ys z) k a
@@ -38,19 +35,16 @@ named {X = X} same old ys (suc n) i e a =
     let y = at_within ys i (omega arith) in
     elim (among_or_not same a.new y.0) [
       | inl m ↦ (let p = at_in a.new y.0 m in
-          let k = named_on old ys a.new i y.0 p.0 a.row a.new y.1 (inl refl) p.1 (λ q. at_short a.new p.0 y.0 p.1) (λ other. absurd (other refl)) a.names a.numbered in
-          named same old ys n (i + 1) (omega arith) record { new = a.new; row = a.row ++ (p.0 ∷ []); grown = grown_on old ys a.new i y.0 a.new y.1 a.grown (inl refl); names = k.0; numbered = k.1; longer = a.longer })
-      | inr out ↦ (let l = length-append a.new (y.0 ∷ []) in
-          let k = named_on old ys a.new i y.0 (length a.new) a.row (a.new ++ (y.0 ∷ [])) y.1 (inr (out, refl)) (push_new a.new y.0)
-          (λ q. let s : length (a.new ++ (y.0 ∷ [])) ≡ length a.new = ap (λ (z : List X). length z) q in let bad : ⊥ = omega arith in absurd bad) (λ new. refl) a.names a.numbered in
           named same old ys n (i + 1) (omega arith) record {
-            new = a.new ++ (y.0 ∷ []);
-            row = a.row ++ (length a.new ∷ []);
-            grown = grown_on old ys a.new i y.0 (a.new ++ (y.0 ∷ [])) y.1 a.grown (inr (out, refl));
-            names = k.0;
-            numbered = k.1;
-            longer = (let o = a.longer in omega arith);
+            new = a.new;
+            row = a.row ++ (p.0 ∷ []);
+            are = named_on old ys a.new a.new i y.0 p.0 a.row _ y.1 a.are (named_known a.new y.0 p.0 p.1) refl;
           })
+      | inr out ↦ named same old ys n (i + 1) (omega arith) record {
+        new = a.new ++ (y.0 ∷ []);
+        row = a.row ++ (length a.new ∷ []);
+        are = named_on old ys a.new (a.new ++ (y.0 ∷ [])) i y.0 (length a.new) a.row _ y.1 a.are (named_new a.new (a.new ++ (y.0 ∷ [])) y.0 (length a.new) out refl refl) refl;
+      }
     ]
 
 -- all that is reached, no more than so many
@@ -58,25 +52,26 @@ pub record IsWhole {X : Type 0} (next : X → List X) (start : X) (limit : ℕ) 
   pub found : List X
   pub rows : List (List ℕ)
   pub discovery : IsDiscovery next start found rows
-  pub few : length found ≤ limit
+  pub bounded : length found ≤ limit
 
-pub discovered : {X : Type 0} → Tells X → (next : X → List X) (start : X) (limit k : ℕ) (found : List X) (rows : List (List ℕ)) → limit < length rows + k → length found ≤ limit → Growing next start found rows
+pub discovered : {X : Type 0} → Tells X → (next : X → List X) (start : X) (limit k : ℕ) (found : List X) (rows : List (List ℕ)) → limit < length rows + k → length found ≤ limit
+    → Growing next start found rows
     → IsWhole next start limit ⊎ MoreThan limit next start
 discovered same next start limit zero found rows lt few g = let a = g.ahead in let bad : ⊥ = omega arith in absurd bad
 discovered {X = X} same next start limit (suc k) found rows lt few g = elim (cases_lt (length rows) (length found)) [
-  | inr done ↦ inl record { found = found; rows = rows; discovery = growing_done next start found rows g done; few = few }
+  | inr done ↦ inl record { found = found; rows = rows; discovery = growing_done next start found rows g done; bounded = few }
   | inl h ↦ (
       let x = at_within found (length rows) h in
-      let a = named same found (next x.0) (length (next x.0)) 0 (omega arith) record { new = found; row = []; grown = grown_none found (next x.0); names = none (next x.0); numbered = NoMore (length found); longer = omega arith } in
-      let gr = grown_all found (next x.0) a.new (length (next x.0)) a.grown in
-      let na = subst (λ (z : List X). Names a.new a.row z) (take_all (length (next x.0)) (next x.0) (omega arith)) a.names in
+      let a = named same found (next x.0) (length (next x.0)) 0
+      (omega arith) record { new = found; row = []; are = subst (λ (z : List X). AreNamed found z found []) (none (next x.0)) (named_none found) } in
+      let all = subst (λ (z : List X). AreNamed found z a.new a.row) (take_all (length (next x.0)) (next x.0) (omega arith)) a.are in
       let l = length-append rows (a.row ∷ []) in
       elim (cases_lt limit (length a.new)) [
-        | inl many ↦ inr (growing_large next start found rows x.0 limit a.new g x.1 gr many)
-        | inr fits ↦ discovered same next start limit k a.new (rows ++ (a.row ∷ [])) (omega arith) fits (growing_on next start found rows x.0 a.new a.row g x.1 gr na a.numbered a.longer)
+        | inl many ↦ inr (growing_large next start found rows x.0 limit a.new g x.1 all.grown many)
+        | inr fits ↦ discovered same next start limit k a.new (rows ++ (a.row ∷ [])) (omega arith) fits (growing_on next start found rows x.0 a.new a.row g x.1 all)
       ])
 ]
   where
-    none : (ys : List X) → Names found [] (take 0 ys)
-    none [] = tt
-    none (y ∷ ys) = tt
+    none : {X : Type 0} (ys : List X) → [] ≡ take 0 ys
+    none [] = refl
+    none (y ∷ ys) = refl

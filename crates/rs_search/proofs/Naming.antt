@@ -1,16 +1,16 @@
 -- Several spots are named one by one.
-use Rattle.std.proofs.Common.{◌≡◌, ◌⊎◌, inl, inr, ℕ, ◌<◌, ◌≤◌, ◌+◌, List, [], ◌∷◌, ◌++◌, length, map, refl, sym, ap, ◌∙◌, subst, arith, zero, suc, None, Some, Option, slice_get, get_or, take, Result, Ok, Err, OnErr, ◌^◌, append_assoc, length-append}
+use Rattle.std.proofs.Common.{◌≡◌, ◌⊎◌, inl, inr, ℕ, ◌<◌, ◌≤◌, ◌+◌, List, [], ◌∷◌, ◌++◌, length, map, refl, sym, ap, ◌∙◌, subst, arith, zero, suc, None, Some, Option, slice_get, get_or, take, Result}
+use Rattle.std.proofs.Common.{Ok, Err, OnErr, ◌^◌, append_assoc, length-append}
 use Rattle.std.proofs.lemmas.Option.{none-some, same_Some}
 use Rattle.rs_model.specs.declared.graph.Arm.{Arm}
 use Rattle.rs_model.specs.declared.machines.Act.{Act}
+use Rattle.rs_derive.proofs.Mapped.{map_at}
 use Rattle.rs_derive.specs.Due.{both_at}
 use Rattle.rs_derive.specs.Moves.{Spot, arm_of, spot}
-use Rattle.rs_graph.specs.Discovery.{Adds, Grown}
+use Rattle.rs_graph.specs.Discovery.{Adds, AreNamed, Grown}
 use Rattle.rs_graph.specs.Lists.{Among, concat}
 use Rattle.rs_graph.proofs.Growth.{in_at, take_on}
-use Rattle.rs_search.specs.Itself.{AreNamed}
 use Rattle.rs_search.proofs.Alike.{grown_all_of}
-use Rattle.rs_search.proofs.Assembled.{map-at}
 use Rattle.rs_search.proofs.Turning.{arm_at, map_step}
 use Rattle.rs_search.proofs.Verdicts.{names_length}
 
@@ -37,18 +37,21 @@ pub grown_one : (old new : List Spot) (r : Spot) → Adds old r new → Grown ol
 grown_one old new r adds = grown_all_of old [] old new r (r ∷ []) (grown_none old) adds (λ x m. absurd m) (inl refl)
 
 -- one arm more; its label is told first, so that it is known which arm it is
-pub named_arm : (f : Spot → Arm → Spot) (old cur new : List Spot) (xs : List Arm) (i : ℕ) (d : Arm) → (get_or xs i d).label.0 < 2 ^ 16 → (p q r : Spot) (row row' : List ℕ) → i < length xs → r ≡ f q (get_or xs i d) → q ≡ p
+pub named_arm : (f : Spot → Arm → Spot) (old cur new : List Spot) (xs : List Arm) (i : ℕ) (d : Arm) → (get_or xs i d).label.0 < 2 ^ 16 → (p q r : Spot) (row row' : List ℕ) → i < length xs
+    → r ≡ f q (get_or xs i d) → q ≡ p
     → ((ys : List Spot) → AreNamed old ys cur row → AreNamed old (ys ++ r ∷ []) new row') → AreNamed old (map (f p) (take i xs)) cur row → AreNamed old (map (f p) (take (i + 1) xs)) new row'
 named_arm f old cur new xs i d lab p q r row row' lt e eq h n =
     subst (λ (z : List Spot). AreNamed old z new row')
     (map_step (f p) xs i (get_or xs i d) (map (f p) (take i xs)) (map (f p) (take i xs) ++ r ∷ []) r (arm_at xs i d lt) refl (e ∙ ap (λ (z : Spot). f z (get_or xs i d)) eq) refl)
     (h (map (f p) (take i xs)) n)
 
-pub grown_arm : (f : Spot → Arm → Spot) (old cur new : List Spot) (xs : List Arm) (i : ℕ) (d : Arm) → (get_or xs i d).label.0 < 2 ^ 16 → (p q r : Spot) → i < length xs → r ≡ f q (get_or xs i d) → q ≡ p
+pub grown_arm : (f : Spot → Arm → Spot) (old cur new : List Spot) (xs : List Arm) (i : ℕ) (d : Arm) → (get_or xs i d).label.0 < 2 ^ 16 → (p q r : Spot) → i < length xs → r ≡ f q (get_or xs i d)
+    → q ≡ p
     → Adds cur r new → Grown old (map (f p) (take i xs)) cur → Grown old (map (f p) xs) new
 grown_arm f old cur new xs i d lab p q r lt e eq adds n =
     grown_all_of old (map (f p) (take i xs)) cur new r (map (f p) xs) n adds (among_take (f p) xs i)
-    (subst (λ (z : Spot). Among (map (f p) xs) z) (sym (e ∙ ap (λ (z : Spot). f z (get_or xs i d)) eq)) (in_at (map (f p) xs) i (f p (get_or xs i d)) (map-at (f p) xs i (get_or xs i d) (arm_at xs i d lt))))
+    (subst (λ (z : Spot). Among (map (f p) xs) z) (sym (e ∙ ap (λ (z : Spot). f z (get_or xs i d)) eq))
+    (in_at (map (f p) xs) i (f p (get_or xs i d)) (map_at (f p) xs i (get_or xs i d) (arm_at xs i d lt))))
 
 -- several lists, one after the other
 concat_push : (f : Arm → List Spot) (xs : List Arm) (x : Arm) → concat (map f (xs ++ x ∷ [])) ≡ concat (map f xs) ++ f x
@@ -64,33 +67,33 @@ pub named_arms : (f : Arm → List Spot) (old cur new : List Spot) (xs : List Ar
 named_arms f old cur new xs i a row row' g h n =
     subst (λ (z : List Spot). AreNamed old z new row') (sym (ap (λ (z : List Arm). concat (map f z)) (take_on xs i a g) ∙ concat_push f (take i xs) a)) (h (concat (map f (take i xs))) n)
 
-among-or : (xs ys : List Spot) (x : Spot) → Among (xs ++ ys) x → Among xs x ⊎ Among ys x
-among-or [] ys x h = inr h
-among-or (y ∷ xs) ys x (inl e) = inl (inl e)
-among-or (y ∷ xs) ys x (inr h) = elim (among-or xs ys x h) [ inl a ↦ inl (inr a) | inr a ↦ inr a ]
+among_or : (xs ys : List Spot) (x : Spot) → Among (xs ++ ys) x → Among xs x ⊎ Among ys x
+among_or [] ys x h = inr h
+among_or (y ∷ xs) ys x (inl e) = inl (inl e)
+among_or (y ∷ xs) ys x (inr h) = elim (among_or xs ys x h) [ inl a ↦ inl (inr a) | inr a ↦ inr a ]
 
-in-front : (xs ys : List Spot) (x : Spot) → Among xs x → Among (xs ++ ys) x
-in-front [] ys x h = absurd h
-in-front (y ∷ xs) ys x (inl e) = inl e
-in-front (y ∷ xs) ys x (inr h) = inr (in-front xs ys x h)
+in_front : (xs ys : List Spot) (x : Spot) → Among xs x → Among (xs ++ ys) x
+in_front [] ys x h = absurd h
+in_front (y ∷ xs) ys x (inl e) = inl e
+in_front (y ∷ xs) ys x (inr h) = inr (in_front xs ys x h)
 
-in-back : (xs ys : List Spot) (x : Spot) → Among ys x → Among (xs ++ ys) x
-in-back [] ys x h = h
-in-back (y ∷ xs) ys x h = inr (in-back xs ys x h)
+in_back : (xs ys : List Spot) (x : Spot) → Among ys x → Among (xs ++ ys) x
+in_back [] ys x h = h
+in_back (y ∷ xs) ys x h = inr (in_back xs ys x h)
 
 among_taken : (f : Arm → List Spot) (xs : List Arm) (i : ℕ) (x : Spot) → Among (concat (map f (take i xs))) x → Among (concat (map f xs)) x
 among_taken f [] zero x m = absurd m
 among_taken f [] (suc i) x m = absurd m
 among_taken f (y ∷ xs) zero x m = absurd m
-among_taken f (y ∷ xs) (suc i) x m = elim (among-or (f y) (concat (map f (take i xs))) x m) [
-  | inl a ↦ in-front (f y) (concat (map f xs)) x a
-  | inr a ↦ in-back (f y) (concat (map f xs)) x (among_taken f xs i x a)
+among_taken f (y ∷ xs) (suc i) x m = elim (among_or (f y) (concat (map f (take i xs))) x m) [
+  | inl a ↦ in_front (f y) (concat (map f xs)) x a
+  | inr a ↦ in_back (f y) (concat (map f xs)) x (among_taken f xs i x a)
 ]
 
 among_one : (f : Arm → List Spot) (xs : List Arm) (i : ℕ) (a : Arm) (x : Spot) → slice_get xs i ≡ Some a → Among (f a) x → Among (concat (map f xs)) x
 among_one f [] i a x e m = absurd (none-some a e)
-among_one f (y ∷ xs) zero a x e m = in-front (f y) (concat (map f xs)) x (subst (λ (z : Arm). Among (f z) x) (sym (same_Some y a e)) m)
-among_one f (y ∷ xs) (suc i) a x e m = in-back (f y) (concat (map f xs)) x (among_one f xs i a x e m)
+among_one f (y ∷ xs) zero a x e m = in_front (f y) (concat (map f xs)) x (subst (λ (z : Arm). Among (f z) x) (sym (same_Some y a e)) m)
+among_one f (y ∷ xs) (suc i) a x e m = in_back (f y) (concat (map f xs)) x (among_one f xs i a x e m)
 
 -- what grew by some and then by others
 pub grown_arms : (f : Arm → List Spot) (old cur new : List Spot) (xs : List Arm) (i : ℕ) (a : Arm) → slice_get xs i ≡ Some a
@@ -102,14 +105,6 @@ grown_arms f old cur new xs i a g h n = record {
     | inr m ↦ inr (among_one f xs i a x g m)
   ];
   kept = λ j x e. h.kept j x (n.kept j x e);
-}
-
--- what grew by the first of them grew by them
-pub grown_taken : (f : Arm → Spot) (old cur : List Spot) (xs : List Arm) (i : ℕ) → Grown old (map f (take i xs)) cur → Grown old (map f xs) cur
-grown_taken f old cur xs i n = record {
-  once = n.once;
-  only = λ j x e. elim (n.only j x e) [ inl o ↦ inl o | inr m ↦ inr (among_take f xs i x m) ];
-  kept = n.kept;
 }
 
 -- how many numbers there are
@@ -128,7 +123,8 @@ concat_take_short f h [] (suc i) = omega arith
 concat_take_short f h (x ∷ xs) zero = omega arith
 concat_take_short f h (x ∷ xs) (suc i) = let k = concat_take_short f h xs i in let l = length-append (f x) (concat (map f (take i xs))) in let o = h x in omega arith
 
-pub rows_of_arms_short : (f : Arm → List Spot) → ((a : Arm) → length (f a) ≤ 1) → (old new : List Spot) (xs : List Arm) (i : ℕ) (row : List ℕ) → AreNamed old (concat (map f (take i xs))) new row → length row ≤ i
+pub rows_of_arms_short : (f : Arm → List Spot) → ((a : Arm) → length (f a) ≤ 1) → (old new : List Spot) (xs : List Arm) (i : ℕ) (row : List ℕ) → AreNamed old (concat (map f (take i xs))) new row
+    → length row ≤ i
 rows_of_arms_short f h old new xs i row n = let e = names_length new row (concat (map f (take i xs))) n.names in let k = concat_take_short f h xs i in omega arith
 
 pub both_short : (pending : List Act) (a : Arm) (o : Option Arm) → length (both_at pending a o) ≤ 1
@@ -139,9 +135,11 @@ both_short pending a (Some b) = omega arith
 pub both_is : (pending : List Act) (a b : Arm) (o : Option Arm) (r : Spot) → o ≡ Some b → r ≡ spot a.next pending b.next → both_at pending a o ≡ r ∷ []
 both_is pending a b o r eo er = ap (λ (z : Option Arm). both_at pending a z) eo ∙ ap (λ (z : Spot). z ∷ []) (sym er)
 
-pub named_both : (pending : List Act) (theirs : List Arm) (old cur new : List Spot) (xs : List Arm) (i : ℕ) (d : Arm) → (get_or xs i d).label.0 < 2 ^ 16 → (o : Option Arm) (row row' : List ℕ) → i < length xs
+pub named_both : (pending : List Act) (theirs : List Arm) (old cur new : List Spot) (xs : List Arm) (i : ℕ) (d : Arm) → (get_or xs i d).label.0 < 2 ^ 16 → (o : Option Arm) (row row' : List ℕ)
+    → i < length xs
     → o ≡ arm_of theirs (get_or xs i d).label → ((ys : List Spot) → AreNamed old ys cur row → AreNamed old (ys ++ both_at pending (get_or xs i d) o) new row')
-    → AreNamed old (concat (map (λ a. both_at pending a (arm_of theirs a.label)) (take i xs))) cur row → AreNamed old (concat (map (λ a. both_at pending a (arm_of theirs a.label)) (take (i + 1) xs))) new row'
+    → AreNamed old (concat (map (λ a. both_at pending a (arm_of theirs a.label)) (take i xs))) cur row
+    → AreNamed old (concat (map (λ a. both_at pending a (arm_of theirs a.label)) (take (i + 1) xs))) new row'
 named_both pending theirs old cur new xs i d lab o row row' lt eo h n =
     named_arms (λ a. both_at pending a (arm_of theirs a.label)) old cur new xs i (get_or xs i d) row row' (arm_at xs i d lt)
     (λ ys a. subst (λ (z : Option Arm). AreNamed old (ys ++ both_at pending (get_or xs i d) z) new row') eo (h ys a)) n

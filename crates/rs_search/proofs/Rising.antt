@@ -1,5 +1,6 @@
 -- Ranks along edges that all lead to greater numbers.
-use Rattle.std.proofs.Common.{◌≡◌, ◌≢◌, inl, inr, ℕ, ◌<◌, ◌≤◌, ◌+◌, Bool, true, false, List, [], ◌∷◌, length, get_or, set, map, refl, sym, ap, ◌∙◌, subst, arith, zero, suc, Some, slice_get, not, eqb, ◌&&◌, ◌||◌}
+use Rattle.std.proofs.Common.{◌≡◌, ◌≢◌, inl, inr, ℕ, ◌<◌, ◌≤◌, ◌+◌, Bool, true, false, List, [], ◌∷◌, length, get_or, set, map, refl, sym, ap, ◌∙◌, subst, arith, zero, suc, Some, slice_get, not, eqb}
+use Rattle.std.proofs.Common.{◌&&◌, ◌||◌}
 use Rattle.std.specs.List.{list_any}
 use Rattle.std.proofs.lemmas.Bool.{cases_lt, eqb-true, false≢true}
 use Rattle.std.proofs.lemmas.List.{get_or-set_same, get_or-set_other, length-set, get_or_past}
@@ -71,43 +72,44 @@ kept_rows keeps [] = []
 kept_rows [] (row ∷ rows) = [] ∷ kept_rows [] rows
 kept_rows (b ∷ keeps) (row ∷ rows) = kept_row b row ∷ kept_rows keeps rows
 
-kept-length : (keeps : List Bool) (rows : List (List ℕ)) → length (kept_rows keeps rows) ≡ length rows
-kept-length keeps [] = refl
-kept-length [] (row ∷ rows) = ap suc (kept-length [] rows)
-kept-length (b ∷ keeps) (row ∷ rows) = ap suc (kept-length keeps rows)
+kept_length : (keeps : List Bool) (rows : List (List ℕ)) → length (kept_rows keeps rows) ≡ length rows
+kept_length keeps [] = refl
+kept_length [] (row ∷ rows) = ap suc (kept_length [] rows)
+kept_length (b ∷ keeps) (row ∷ rows) = ap suc (kept_length keeps rows)
 
-kept-get : (keeps : List Bool) (rows : List (List ℕ)) (n : ℕ) (row : List ℕ) → slice_get rows n ≡ Some row → slice_get (kept_rows keeps rows) n ≡ Some (kept_row (get_or keeps n false) row)
-kept-get keeps [] n row e = absurd (none-some row e)
-kept-get [] (r ∷ rows) zero row e = refl
-kept-get [] (r ∷ rows) (suc n) row e = kept-get [] rows n row e ∙ ap (λ (b : Bool). Some (kept_row b row)) (none n)
+kept_get : (keeps : List Bool) (rows : List (List ℕ)) (n : ℕ) (row : List ℕ) → slice_get rows n ≡ Some row → slice_get (kept_rows keeps rows) n ≡ Some (kept_row (get_or keeps n false) row)
+kept_get keeps [] n row e = absurd (none-some row e)
+kept_get [] (r ∷ rows) zero row e = refl
+kept_get [] (r ∷ rows) (suc n) row e = kept_get [] rows n row e ∙ ap (λ (b : Bool). Some (kept_row b row)) (none n)
   where
     none : (n : ℕ) → get_or {A = Bool} [] n false ≡ false
     none zero = refl
     none (suc n) = refl
-kept-get (b ∷ keeps) (r ∷ rows) zero row e = ap (λ (z : List ℕ). Some (kept_row b z)) (same_Some r row e)
-kept-get (b ∷ keeps) (r ∷ rows) (suc n) row e = kept-get keeps rows n row e
+kept_get (b ∷ keeps) (r ∷ rows) zero row e = ap (λ (z : List ℕ). Some (kept_row b z)) (same_Some r row e)
+kept_get (b ∷ keeps) (r ∷ rows) (suc n) row e = kept_get keeps rows n row e
 
-kept-edge : (keeps : List Bool) (rows : List (List ℕ)) (n : ℕ) → n < length rows → get_or (kept_rows keeps rows) n [] ≡ kept_row_of keeps rows n
-kept-edge keeps rows n h =
+kept_edge : (keeps : List Bool) (rows : List (List ℕ)) (n : ℕ) → n < length rows → get_or (kept_rows keeps rows) n [] ≡ kept_row_of keeps rows n
+kept_edge keeps rows n h =
     let r = at_within rows n h in
-    got (kept_rows keeps rows) n (kept_row (get_or keeps n false) r.0) [] (kept-get keeps rows n r.0 r.1)
+    got (kept_rows keeps rows) n (kept_row (get_or keeps n false) r.0) [] (kept_get keeps rows n r.0 r.1)
     ∙ ap (λ (z : List ℕ). kept_row (get_or keeps n false) z) (sym (got rows n r.0 [] r.1))
 
-pub rows_kept : {X : Type 0} (found : List X) (keeps : List Bool) (rows : List (List ℕ)) → length rows ≡ length found → AreKept keeps (places_of 0 found) rows (length (places_of 0 found)) (kept_rows keeps rows)
+pub rows_kept : {X : Type 0} (found : List X) (keeps : List Bool) (rows : List (List ℕ)) → length rows ≡ length found
+    → AreKept keeps (places_of 0 found) rows (length (places_of 0 found)) (kept_rows keeps rows)
 rows_kept found keeps rows l = record {
-  size = kept-length keeps rows ∙ l ∙ sym (places_length 0 found);
+  size = kept_length keeps rows ∙ l ∙ sym (places_length 0 found);
   each = λ i n row lt a b. (let p = place_is found i n a in
-      kept-get keeps rows i row b ∙ ap (λ (z : ℕ). Some (kept_row (get_or keeps z false) row)) p.0);
+      kept_get keeps rows i row b ∙ ap (λ (z : ℕ). Some (kept_row (get_or keeps z false) row)) p.0);
 }
 
 pub forward_fit : (keeps : List Bool) (rows : List (List ℕ)) (ranks : List ℕ) → AreForward keeps rows ranks 0 → (i : ℕ) → IsRank (Edge (kept_rows keeps rows)) i (get_or ranks i 0)
 forward_fit keeps rows ranks f = fit_ranks (Edge (kept_rows keeps rows)) (λ n. get_or ranks n 0) record {
   falls = λ i j e. (let h = inside i j e in
-      (f.fits i (omega arith) h).falls j (subst (λ (z : List ℕ). Among z j) (kept-edge keeps rows i h) e));
+      (f.fits i (omega arith) h).falls j (subst (λ (z : List ℕ). Among z j) (kept_edge keeps rows i h) e));
   tight = λ i. elim (cases_lt i (length rows)) [
     | inl h ↦ elim (f.fits i (omega arith) h).tight [
       | inl z ↦ inl z
-      | inr p ↦ inr (p.0, subst (λ (z : List ℕ). Among z p.0) (sym (kept-edge keeps rows i h)) p.1, p.2)
+      | inr p ↦ inr (p.0, subst (λ (z : List ℕ). Among z p.0) (sym (kept_edge keeps rows i h)) p.1, p.2)
     ]
     | inr h ↦ inl (get_or_past ranks i 0 (let s = f.size in omega arith))
   ];
@@ -116,38 +118,40 @@ forward_fit keeps rows ranks f = fit_ranks (Edge (kept_rows keeps rows)) (λ n. 
     inside : (i j : ℕ) → Edge (kept_rows keeps rows) i j → i < length rows
     inside i j e = elim (cases_lt i (length rows)) [
       | inl a ↦ a
-      | inr a ↦ (let z = get_or_past (kept_rows keeps rows) i [] (let l = kept-length keeps rows in omega arith) in let bad : Among [] j = subst (λ (w : List ℕ). Among w j) z e in absurd bad)
+      | inr a ↦ (let z = get_or_past (kept_rows keeps rows) i [] (let l = kept_length keeps rows in omega arith) in let bad : Among [] j = subst (λ (w : List ℕ). Among w j) z e in absurd bad)
     ]
 
 -- the answer where no spot chooses, and all edges that keep their head lead to greater numbers
 
-not-any : (f : Spot → Bool) (xs : List Spot) → list_any f xs ≡ false → (n : ℕ) (x : Spot) → slice_get xs n ≡ Some x → f x ≡ false
-not-any f [] e n x h = absurd (none-some x h)
-not-any f (y ∷ xs) e zero x h = elim (bool_cases (f y)) [
+not_any : (f : Spot → Bool) (xs : List Spot) → list_any f xs ≡ false → (n : ℕ) (x : Spot) → slice_get xs n ≡ Some x → f x ≡ false
+not_any f [] e n x h = absurd (none-some x h)
+not_any f (y ∷ xs) e zero x h = elim (bool_cases (f y)) [
   | inl t ↦ absurd (false≢true (sym e ∙ subst (λ (b : Bool). (b || list_any f xs) ≡ true) (sym t) refl))
   | inr t ↦ subst (λ (z : Spot). f z ≡ false) (same_Some y x h) t
 ]
-not-any f (y ∷ xs) e (suc n) x h = elim (bool_cases (f y)) [
+not_any f (y ∷ xs) e (suc n) x h = elim (bool_cases (f y)) [
   | inl t ↦ absurd (false≢true (sym e ∙ subst (λ (b : Bool). (b || list_any f xs) ≡ true) (sym t) refl))
-  | inr t ↦ not-any f xs (subst (λ (b : Bool). (b || list_any f xs) ≡ false) t e) n x h
+  | inr t ↦ not_any f xs (subst (λ (b : Bool). (b || list_any f xs) ≡ false) t e) n x h
 ]
 
-one-spot : (t : Turn_data) → has_choice t ≡ false → t.any ≡ true → length t.spots ≡ 1
-one-spot t e any = elim (bool_cases (eqb (length t.spots) 1)) [
+one_spot : (t : Turn_data) → has_choice t ≡ false → t.any ≡ true → length t.spots ≡ 1
+one_spot t e any = elim (bool_cases (eqb (length t.spots) 1)) [
   | inl y ↦ eqb-true (length t.spots) 1 y
   | inr n ↦ (let a : (true && not (eqb (length t.spots) 1)) ≡ false = subst (λ (b : Bool). (b && not (eqb (length t.spots) 1)) ≡ false) any e in
       absurd (false≢true (sym (subst (λ (b : Bool). not b ≡ false) n a))))
 ]
 
 pub forward_found : (sub above : Machine_data) (bound : ℕ) (found : List Spot) (rows : List (List ℕ)) (keeps : List Bool) (ranks : List ℕ) (nodes : List DNode_data) (choosing : Bool) → IsProper above
-    → IsDiscovery (nexts_within sub above bound) (start_spot sub above) found rows → length found ≤ MOST_CANDIDATES → keeps ≡ map (is_keeping sub above bound) found → choosing ≡ list_any (is_choosing sub above bound) found
-    → choosing ≡ false → AreForward keeps rows ranks 0 → AreNodes found (places_of 0 found) rows ranks (length found) nodes → IsCanonical sub above bound (record { role = sub.role; bound = bound; nodes = nodes })
+    → IsDiscovery (nexts_within sub above bound) (start_spot sub above) found rows → length found ≤ MOST_CANDIDATES → keeps ≡ map (is_keeping sub above bound) found
+    → choosing ≡ list_any (is_choosing sub above bound) found
+    → choosing ≡ false → AreForward keeps rows ranks 0 → AreNodes found (places_of 0 found) rows ranks (length found) nodes
+    → IsCanonical sub above bound (record { role = sub.role; bound = bound; nodes = nodes })
 forward_found sub above bound found rows keeps ranks nodes choosing w d few ek ec none f made =
     let forced : IsForced sub above bound found rows = record {
       proper = w;
       discovery = d;
-      few = few;
-      forced = λ n x e any. one-spot (turn_within sub above bound x) (not-any (is_choosing sub above bound) found (sym ec ∙ none) n x e) any;
+      bounded = few;
+      forced = λ n x e any. one_spot (turn_within sub above bound x) (not_any (is_choosing sub above bound) found (sym ec ∙ none) n x e) any;
     } in
     let are : AreKept (map (is_keeping sub above bound) found) (places_of 0 found) rows (length (places_of 0 found)) (kept_rows keeps rows) =
     subst (λ (z : List Bool). AreKept z (places_of 0 found) rows (length (places_of 0 found)) (kept_rows keeps rows)) ek (rows_kept found keeps rows d.all) in

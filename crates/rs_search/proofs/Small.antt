@@ -22,14 +22,14 @@ ends_survive bound = record {
   among = inl refl;
 }
 
-no-move : (makes : Option ℕ) (rs : List Spot) → HasMove ended_machine waiting (start_spot ended_machine waiting) makes rs → ⊥
-no-move makes rs (Stops st pe gt mk re) = cc
-no-move makes rs (PaysSend q arm place so st found g sv mk re) = cc
-no-move makes rs (SendsBoth q arms theirs st none gt mk both) = cc
-no-move makes rs (Guesses q r arms theirs place b st none gt ne g mk re) = cc
-no-move makes rs (SendsAhead q r arms theirs st none gt mk re) = cc
-no-move makes rs (PaysReceive q arms place label so arm st found g ch sv mk re) = cc
-no-move makes rs (ReceivesAhead q r arms theirs st none gt mk re) = cc
+no_move : (makes : Option ℕ) (rs : List Spot) → HasMove ended_machine waiting (start_spot ended_machine waiting) makes rs → ⊥
+no_move makes rs (Stops st pe gt mk re) = cc
+no_move makes rs (PaysSend q arm place so st found g sv mk re) = cc
+no_move makes rs (SendsBoth q arms theirs st none gt mk both) = cc
+no_move makes rs (Guesses q r arms theirs place b st none gt ne g mk re) = cc
+no_move makes rs (SendsAhead q r arms theirs st none gt mk re) = cc
+no_move makes rs (PaysReceive q arms place label so arm st found g ch sv mk re) = cc
+no_move makes rs (ReceivesAhead q r arms theirs st none gt mk re) = cc
 
 pub stuck_dies : (bound : ℕ) → Survives ended_machine waiting bound (start_spot ended_machine waiting) → ⊥
-stuck_dies bound s = let k = s.stand.each (start_spot ended_machine waiting) s.among in no-move k.move.makes k.results k.move.move
+stuck_dies bound s = let k = s.stand.each (start_spot ended_machine waiting) s.among in no_move k.move.makes k.results k.move.move

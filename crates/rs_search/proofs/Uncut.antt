@@ -20,11 +20,11 @@ use Rattle.rs_search.specs.declared.faults.SearchFault.{SearchFault}
 use Rattle.rs_search.specs.declared.faults.SearchFault.TheVariants.{NotFound, Forgets, TooLarge, NoMemory}
 
 -- a result owes at most one act more
-one-more : (sub above : Machine_data) (p : Spot) (makes : Option ℕ) (rs : List Spot) → HasMove sub above p makes rs → (r : Spot) → Among rs r → length r.pending ≤ suc (length p.pending)
-one-more sub above p makes rs m r a =
+one_more : (sub above : Machine_data) (p : Spot) (makes : Option ℕ) (rs : List Spot) → HasMove sub above p makes rs → (r : Spot) → Among rs r → length r.pending ≤ suc (length p.pending)
+one_more sub above p makes rs m r a =
     let t = complete sub above p makes rs m in
     let s = simple sub above p t.d t.is' in
-    let e = s.level.all r (chosen_among t.d.nexts rs t.picks r a) in let f = s.level.few in omega arith
+    let e = s.level.all r (chosen_among t.d.nexts rs t.picks r a) in let f = s.level.bounded in omega arith
 
 -- to a greater bound
 
@@ -48,12 +48,13 @@ survives_up sub above bound more le p s = record {
 pub more_up : (sub above : Machine_data) (bound more limit : ℕ) → bound ≤ more → AreMoreThan sub above bound limit → AreMoreThan sub above more limit
 more_up sub above bound more limit le m = record { spots = m.spots; each = λ p a. candidate_up sub above bound more le p (m.each p a); once = m.once; many = m.many }
 
--- .. and back, where no candidate meets a cut
+-- from a greater bound back, where no candidate meets a cut
 
-move-down : (sub above : Machine_data) (bound : ℕ) → (SomeCut sub above bound → ⊥) → (p : Spot) → IsCandidate sub above bound p → (makes : Option ℕ) (rs : List Spot) → HasMove sub above p makes rs → (r : Spot) → Among rs r → length r.pending ≤ bound
-move-down sub above bound never p c makes rs m r a = elim (cases_lt bound (length r.pending)) [
+move_down : (sub above : Machine_data) (bound : ℕ) → (SomeCut sub above bound → ⊥) → (p : Spot) → IsCandidate sub above bound p → (makes : Option ℕ) (rs : List Spot) → HasMove sub above p makes rs
+    → (r : Spot) → Among rs r → length r.pending ≤ bound
+move_down sub above bound never p c makes rs m r a = elim (cases_lt bound (length r.pending)) [
   | inr le ↦ le
-  | inl lt ↦ (let s = candidate_short sub above bound p c in let o = one-more sub above p makes rs m r a in
+  | inl lt ↦ (let s = candidate_short sub above bound p c in let o = one_more sub above p makes rs m r a in
       absurd (never record { spot = p; candidate = c; cut = record { full = omega arith; makes = makes; results = rs; move = m; result = r; among = a; longer = lt } }))
 ]
 
@@ -61,16 +62,16 @@ pub candidate_down : (sub above : Machine_data) (bound more : ℕ) → (SomeCut 
 candidate_down sub above bound more never _ Start = Start
 candidate_down sub above bound more never _ (Onward p rs r c m k) =
     let c' = candidate_down sub above bound more never p c in
-    Onward p rs r c' (record { makes = m.makes; move = m.move; short = move-down sub above bound never p c' m.makes rs m.move }) k
+    Onward p rs r c' (record { makes = m.makes; move = m.move; short = move_down sub above bound never p c' m.makes rs m.move }) k
 
-survives-down : (sub above : Machine_data) (bound more : ℕ) → (SomeCut sub above bound → ⊥) → (p : Spot) → Survives sub above more p → Survives sub above bound p
-survives-down sub above bound more never p s = record {
+survives_down : (sub above : Machine_data) (bound more : ℕ) → (SomeCut sub above bound → ⊥) → (p : Spot) → Survives sub above more p → Survives sub above bound p
+survives_down sub above bound more never p s = record {
   set = s.set;
   stand = record {
     candidates = down;
     each = λ q a. (let g = s.stand.each q a in record {
       results = g.results;
-      move = record { makes = g.move.makes; move = g.move.move; short = move-down sub above bound never q (down q a) g.move.makes g.results g.move.move };
+      move = record { makes = g.move.makes; move = g.move.move; short = move_down sub above bound never q (down q a) g.move.makes g.results g.move.move };
       all = g.all;
     });
   };
@@ -88,16 +89,16 @@ pub same_candidates : (sub above : Machine_data) (bound more : ℕ) → (SomeCut
 same_candidates sub above bound more never le p = ((λ c. candidate_down sub above bound more never p c), (λ c. candidate_up sub above bound more le p c))
 
 pub same_survivors : (sub above : Machine_data) (bound more : ℕ) → (SomeCut sub above bound → ⊥) → bound ≤ more → (p : Spot) → Survives sub above more p ↔ Survives sub above bound p
-same_survivors sub above bound more never le p = ((λ s. survives-down sub above bound more never p s), (λ s. survives_up sub above bound more le p s))
+same_survivors sub above bound more never le p = ((λ s. survives_down sub above bound more never p s), (λ s. survives_up sub above bound more le p s))
 
 pub not_found_on : (sub above : Machine_data) (bound more : ℕ) → bound ≤ more → IsNotFound sub above bound false → IsNotFound sub above more false
 not_found_on sub above bound more le n = record {
-  few = λ m. n.few (record { spots = m.spots; each = λ p a. candidate_down sub above bound more (uncut sub above bound n) p (m.each p a); once = m.once; many = m.many });
-  dies = λ s. n.dies (survives-down sub above bound more (uncut sub above bound n) (start_spot sub above) s);
+  bounded = λ m. n.bounded (record { spots = m.spots; each = λ p a. candidate_down sub above bound more (uncut sub above bound n) p (m.each p a); once = m.once; many = m.many });
+  dies = λ s. n.dies (survives_down sub above bound more (uncut sub above bound n) (start_spot sub above) s);
   cuts = (
     (λ e. absurd (false≢true e)),
     (λ c. (let d = candidate_down sub above bound more (uncut sub above bound n) c.spot c.candidate in
-        let s = move-down sub above bound (uncut sub above bound n) c.spot d c.cut.makes c.cut.results c.cut.move c.cut.result c.cut.among in
+        let s = move_down sub above bound (uncut sub above bound n) c.spot d c.cut.makes c.cut.results c.cut.move c.cut.result c.cut.among in
         let l = c.cut.longer in let bad : ⊥ = omega arith in absurd bad)),
   );
 }
@@ -113,12 +114,9 @@ none_at_all sub above bound d n v = elim (cases_lt d.bound bound) [
   | inr le ↦ none_within sub above d.bound false d (not_found_on sub above bound d.bound le n) v (omega arith)
 ]
 
--- some derivation within the bound
-abbrev Derives : Machine_data → Machine_data → ℕ → Type 0
-Derives sub above bound = (d : Derivation_data) × IsDerivation d sub above × (d.bound ≤ bound)
-
 -- where there is none, and there aren't too many candidates, the search says so
-pub none_is_not_found : (sub above : Machine_data) (bound : ℕ) → IsProper sub → IsProper above → (AreMoreThan sub above bound MOST_CANDIDATES → ⊥) → ((d : Derivation_data) → IsDerivation d sub above → d.bound ≤ bound → ⊥)
+pub none_is_not_found : (sub above : Machine_data) (bound : ℕ) → IsProper sub → IsProper above → (AreMoreThan sub above bound MOST_CANDIDATES → ⊥)
+    → ((d : Derivation_data) → IsDerivation d sub above → d.bound ≤ bound → ⊥)
     → (cut : Bool) × IsNotFound sub above bound cut
 none_is_not_found sub above bound ws wa few none = elim (decided sub above bound ws wa) [
   | inl f ↦ (let q = f.1.canonical.bound' in absurd (none f.0 (derives sub above bound f.0 ws wa f.1.canonical) (omega arith)))

@@ -2,7 +2,8 @@
 use Rattle.std.specs.Prelude.{◌≡◌, ℕ, ◌<◌, ◌≤◌, List, [], length, Option}
 use Rattle.rs_model.specs.Data.{Machine_data}
 use Rattle.rs_derive.specs.Moves.{Spot, spot, HasMove}
-use Rattle.rs_graph.specs.Lists.{Among, Once}
+use Rattle.rs_graph.specs.Lists.{Among}
+use Rattle.rs_graph.specs.Order.{Once}
 
 -- both at their starts, with nothing owed
 abbrev pub start_spot : Machine_data → Machine_data → Spot

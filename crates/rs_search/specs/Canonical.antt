@@ -6,8 +6,8 @@ use Rattle.rs_derive.specs.Data.{DNode_data, Derivation_data}
 use Rattle.rs_derive.specs.Derivations.{IsDerivation, KeepsItsHead, Remembers, spot_of}
 use Rattle.rs_derive.specs.Moves.{Spot, HasMove}
 use Rattle.rs_search.specs.Candidates.{start_spot, IsCandidate, MeetsACut, AreMoreThan}
-use Rattle.rs_graph.specs.Discovery.{Worked}
-use Rattle.rs_graph.specs.Lists.{Among, Once, Names}
+use Rattle.rs_graph.specs.Order.{Once, Worked}
+use Rattle.rs_graph.specs.Lists.{Among, ArePlacesOf}
 use Rattle.rs_search.specs.Survives.{Survives, IsChosen}
 use Rattle.rs_graph.specs.Walks.{IsRank, IsOnCycle, IsLeastOnCycle}
 use Rattle.rs_search.specs.declared.faults.SearchFault.{SearchFault}
@@ -17,7 +17,7 @@ use Rattle.rs_search.specs.declared.faults.SearchFault.TheVariants.{NotFound, Fo
 pub record FollowsTheChoice (sub above : Machine_data) (bound : ℕ) (nodes : List DNode_data) (n : DNode_data) : Type 0 where
   pub results : List Spot
   pub chosen : IsChosen sub above bound (spot_of n) results
-  pub names : Names (map (λ (m : DNode_data). spot_of m) nodes) n.next results
+  pub names : ArePlacesOf (map (λ (m : DNode_data). spot_of m) nodes) n.next results
 
 -- the canonical derivation, but for its ranks: from the start by the chosen moves, numbered in order of first discovery
 pub record HasCanonicalNodes (sub above : Machine_data) (bound : ℕ) (d : Derivation_data) : Type 0 where
@@ -31,7 +31,7 @@ pub record HasCanonicalNodes (sub above : Machine_data) (bound : ℕ) (d : Deriv
 -- an edge of the derivation that keeps the oldest act that is owed
 pub record KeepsHead (sub above : Machine_data) (nodes : List DNode_data) (i j : ℕ) : Type 0 where
   pub node : DNode_data
-  pub is : slice_get nodes i ≡ Some node
+  pub stands : slice_get nodes i ≡ Some node
   pub makes : Option ℕ
   pub results : List Spot
   pub move : HasMove sub above (spot_of node) makes results
@@ -40,7 +40,7 @@ pub record KeepsHead (sub above : Machine_data) (nodes : List DNode_data) (i j :
 
 -- the canonical derivation: with it each rank is the greatest length of a walk of edges that keep their head
 pub record IsCanonical (sub above : Machine_data) (bound : ℕ) (d : Derivation_data) : Type 0 where
-  pub few : AreMoreThan sub above bound MOST_CANDIDATES → ⊥
+  pub bounded : AreMoreThan sub above bound MOST_CANDIDATES → ⊥
   pub canonical : HasCanonicalNodes sub above bound d
   pub ranks : (i : ℕ) (n : DNode_data) → slice_get d.nodes i ≡ Some n → IsRank (KeepsHead sub above d.nodes) i n.rank
 
@@ -52,13 +52,13 @@ pub record SomeCut (sub above : Machine_data) (bound : ℕ) : Type 0 where
 
 -- the start doesn't survive; cut tells whether some candidate meets a cut
 pub record IsNotFound (sub above : Machine_data) (bound : ℕ) (cut : Bool) : Type 0 where
-  pub few : AreMoreThan sub above bound MOST_CANDIDATES → ⊥
+  pub bounded : AreMoreThan sub above bound MOST_CANDIDATES → ⊥
   pub dies : Survives sub above bound (start_spot sub above) → ⊥
   pub cuts : (cut ≡ true) ↔ SomeCut sub above bound
 
 -- the canonical derivation has a cycle of edges that keep their head, and the node is the least on one
 pub record IsForgets (sub above : Machine_data) (bound node : ℕ) : Type 0 where
-  pub few : AreMoreThan sub above bound MOST_CANDIDATES → ⊥
+  pub bounded : AreMoreThan sub above bound MOST_CANDIDATES → ⊥
   pub derivation : Derivation_data
   pub canonical : HasCanonicalNodes sub above bound derivation
   pub cycle : IsLeastOnCycle (KeepsHead sub above derivation.nodes) node
@@ -72,14 +72,14 @@ pub record IsForgetful (sub above : Machine_data) (bound : ℕ) : Type 0 where
 
 -- there are at most 65,536 candidates, the start survives, and the canonical derivation has no such cycle
 pub record IsDerivable (sub above : Machine_data) (bound : ℕ) : Type 0 where
-  pub few : AreMoreThan sub above bound MOST_CANDIDATES → ⊥
+  pub bounded : AreMoreThan sub above bound MOST_CANDIDATES → ⊥
   pub survives : Survives sub above bound (start_spot sub above)
   pub remembers : IsForgetful sub above bound → ⊥
 
 -- some derivation within the bound forgets nothing that is owed
 pub record CanFollow (sub above : Machine_data) (bound : ℕ) : Type 0 where
   pub derivation : Derivation_data
-  pub is : IsDerivation derivation sub above
+  pub is_derivation : IsDerivation derivation sub above
   pub remembers : Remembers derivation sub above
   pub within : derivation.bound ≤ bound
 

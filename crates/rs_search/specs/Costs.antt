@@ -3,7 +3,8 @@ use Rattle.std.specs.Prelude.{◌≡◌, ℕ, ◌+◌, ◌*◌, ◌≤◌, List,
 use Rattle.std.specs.List.{sum_by}
 use Rattle.rs_model.specs.Data.{Machine_data}
 use Rattle.rs_derive.specs.Moves.{Spot}
-use Rattle.rs_graph.specs.Lists.{Among, Once}
+use Rattle.rs_graph.specs.Lists.{Among}
+use Rattle.rs_graph.specs.Order.{Once}
 use Rattle.rs_search.specs.Candidates.{IsCandidate}
 use Rattle.rs_search.specs.Turns.{nexts_within}
 use Rattle.rs_search.specs.declared.faults.SearchFault.{SearchFault}

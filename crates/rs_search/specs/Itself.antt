@@ -4,11 +4,11 @@ use Rattle.rs_model.specs.Data.{Machine_data}
 use Rattle.rs_model.specs.declared.graph.Arm.{Arm}
 use Rattle.rs_model.specs.declared.graph.Role.{Role}
 use Rattle.rs_model.specs.declared.machines.Act.{Act}
+use Rattle.rs_model.specs.declared.limits.TheConstants.{MOST_CANDIDATES}
 use Rattle.rs_model.specs.declared.machines.State.{State}
 use Rattle.rs_model.specs.declared.machines.State.TheVariants.{Done, Puts, Takes}
 use Rattle.rs_derive.specs.Moves.{Spot, owing_receive, spot}
-use Rattle.rs_graph.specs.Discovery.{Grown, Numbered}
-use Rattle.rs_graph.specs.Lists.{Names}
+use Rattle.rs_graph.specs.Discovery.{AreNamed, Grown}
 
 -- what is owed: an act, or nothing
 abbrev pub owed_list : Option Act → List Act
@@ -26,7 +26,7 @@ even_nexts s (Some Done) = []
 even_nexts s (Some (Puts q arms)) = map (λ (a : Arm). even a.next) arms
 even_nexts s (Some (Takes q arms)) = map (λ (b : Arm). owing_receive (even s) q b) arms
 
--- .. and with what is owed: the act is made, and both stand at one state again
+-- what a spot leads to, by what is owed: where an act is, it is made, and both stand at one state again
 abbrev pub onward : List Act → ℕ → Option State → ℕ → List Spot
 onward [] s state above = even_nexts s state
 onward (a ∷ later) s state above = even above ∷ []
@@ -48,17 +48,16 @@ pub record ArePlaced (found : List Spot) (places : List (Option ℕ)) : Type 0 w
   pub to : (n s : ℕ) → slice_get found n ≡ Some (even s) → slice_get places s ≡ Some (Some n)
   pub from : (s n : ℕ) → slice_get places s ≡ Some (Some n) → slice_get found n ≡ Some (even s)
 
--- several spots were named by these numbers, and the new ones added
-pub record AreNamed (old spots new : List Spot) (row : List ℕ) : Type 0 where
-  pub grown : Grown old spots new
-  pub names : Names new row spots
-  pub numbered : Numbered (length old) row (length new)
-  pub longer : length old ≤ length new
+-- the positions that are found, no more than there may be candidates, with the numbers of the even ones by their states
+pub record ArePositions (found : List Spot) (places : List (Option ℕ)) (states : ℕ) : Type 0 where
+  pub bounded : length found ≤ MOST_CANDIDATES
+  pub placed : ArePlaced found places
+  pub size : length places ≡ states
 
--- .. those to which the one at the place leads
+-- the spots to which the one at the place leads were named by these numbers
 abbrev pub AreNamedAt : (Spot → List Spot) → List Spot → ℕ → List Spot → List ℕ → Type 0
 AreNamedAt spots old k new row = (p : Spot) → slice_get old k ≡ Some p → AreNamed old (spots p) new row
 
--- .. and no others were added
+-- those spots were named, as far as it went, and no others were added
 abbrev pub GrowsBy : (Spot → List Spot) → List Spot → ℕ → List Spot → Type 0
 GrowsBy spots old k new = (p : Spot) → slice_get old k ≡ Some p → Grown old (spots p) new

@@ -5,7 +5,6 @@ pub mod Costs
 pub mod Examples
 pub mod Forward
 pub mod Found
-pub mod Index
 pub mod Itself
 pub mod Nodes
 pub mod Survives

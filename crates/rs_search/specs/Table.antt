@@ -1,17 +1,17 @@
 -- Steps: spots that are numbered in order of first sight, and what they lead to.
-use Rattle.std.specs.Prelude.{◌≡◌, ℕ, ◌<◌, ◌≤◌, ◌^◌, List, [], ◌∷◌, length, map, slice_get, Some}
+use Rattle.std.specs.Prelude.{◌≡◌, ℕ, ◌<◌, ◌≤◌, ◌+◌, ◌^◌, List, [], ◌∷◌, ◌++◌, length, map, slice_get, slice_index_or, Some}
 use Rattle.rs_derive.specs.Checks.{target_spot}
 use Rattle.rs_derive.specs.Data.{DNode_data}
 use Rattle.rs_derive.specs.Derivations.{spot_of}
 use Rattle.rs_derive.specs.Moves.{Spot}
 use Rattle.rs_derive.specs.Within.{IsPlaceWithin}
-use Rattle.rs_derive.specs.declared.targets.Target.{Target}
-use Rattle.rs_graph.specs.Discovery.{Adds}
-use Rattle.rs_search.specs.Buckets.{bucket_of, codes_of}
+use Rattle.rs_derive.specs.declared.targets.EdgeTarget.{EdgeTarget}
+use Rattle.rs_graph.specs.Discovery.{Adds, AreNamed, IsNamed}
+use Rattle.rs_search.specs.Buckets.{bucket_of_spot, codes_of}
 use Rattle.rs_search.specs.declared.found.Nexts.{Nexts}
 use Rattle.rs_search.specs.declared.found.Nexts.TheVariants.{One, Several}
 use Rattle.rs_search.specs.declared.table.Entry.{Entry}
-use Rattle.rs_search.specs.Index.{AreChained}
+use Rattle.rs_model.specs.Chains.{AllAreChained}
 
 -- the spots by their numbers, of the first of them the numbers of what each leads to, and their ranks
 pub record SpotTable_data : Type 0 where
@@ -24,8 +24,8 @@ abbrev pub spots_of : List DNode_data → List Spot
 spots_of nodes = map spot_of nodes
 
 -- their nexts
-abbrev pub nexts_of : List DNode_data → List (List ℕ)
-nexts_of nodes = map (λ (n : DNode_data). n.next) nodes
+abbrev pub nexts_of_nodes : List DNode_data → List (List ℕ)
+nexts_of_nodes nodes = map (λ (n : DNode_data). n.next) nodes
 
 -- their ranks
 abbrev pub ranks_of : List DNode_data → List ℕ
@@ -44,20 +44,53 @@ pub record IsTable (nodes : List DNode_data) (heads : List ℕ) (entries : List 
   pub within : known ≤ length nodes
   pub coded : codes_in entries ≡ codes_of (spots_of nodes)
   pub some : 0 < length heads
-  pub few : length heads < 2 ^ 32
-  pub chained : AreChained (bucket_of (length heads)) (spots_of nodes) heads (links_of entries)
+  pub bounded : length heads < 2 ^ 32
+  pub chained : AllAreChained (bucket_of_spot (length heads)) (spots_of nodes) heads (links_of entries)
+
+-- so many buckets may be made
+pub record IsBucketCount (size : ℕ) : Type 0 where
+  pub some : 0 < size
+  pub bounded : size < 2 ^ 32
+
+-- what is filed of the node goes before the head of its bucket
+pub record GoesBefore (heads : List ℕ) (bucket : ℕ) (node : DNode_data) (entry : Entry) : Type 0 where
+  pub within : bucket < length heads
+  pub its : bucket ≡ bucket_of_spot (length heads) (spot_of node)
+  pub link : entry.link ≡ slice_index_or heads bucket 0
+
+-- the node was added, and filed in one of so many buckets
+pub record IsFiled (nodes new : List DNode_data) (entries entries' : List Entry) (heads : List ℕ) (size : ℕ) (node : DNode_data) (entry : Entry) : Type 0 where
+  pub nodes_are : new ≡ nodes ++ node ∷ []
+  pub codes : codes_in entries' ≡ codes_in entries ++ entry.code ∷ []
+  pub chained : AllAreChained (bucket_of_spot size) (spots_of new) heads (links_of entries')
+
+-- nothing was added
+pub record StaysFiled (nodes new : List DNode_data) (heads heads' : List ℕ) (entries entries' : List Entry) : Type 0 where
+  pub nodes_stay : new ≡ nodes
+  pub heads_stay : heads' ≡ heads
+  pub entries_stay : entries' ≡ entries
+
+-- the spot k is there, among no more than the limit, which a number can say
+pub record StandsWithin (spots : List Spot) (k limit : ℕ) : Type 0 where
+  pub limit_fits : limit + 1 < 2 ^ 32
+  pub bounded : length spots ≤ limit
+  pub present : k < length spots
 
 -- an act that the target takes out of what the spot k owes is there
-abbrev pub IsWithinAt : List Spot → ℕ → Target → Type 0
+abbrev pub IsWithinAt : List Spot → ℕ → EdgeTarget → Type 0
 IsWithinAt spots k target = (p : Spot) → slice_get spots k ≡ Some p → IsPlaceWithin (length p.pending) target.change
 
 -- the spot of the target from spot k was named: it was there, or stands at the end
-abbrev pub AddsAt : List Spot → ℕ → Target → List Spot → Type 0
+abbrev pub AddsAt : List Spot → ℕ → EdgeTarget → List Spot → Type 0
 AddsAt old k target new = (p : Spot) → slice_get old k ≡ Some p → Adds old (target_spot p.pending target) new
 
--- .. and has this number
-abbrev pub IsAddedAt : List Spot → ℕ → Target → List Spot → ℕ → Type 0
-IsAddedAt old k target new n = (p : Spot) → slice_get old k ≡ Some p → slice_get new n ≡ Some (target_spot p.pending target)
+-- the spot of the target from spot k was named by this number
+abbrev pub IsNamedAt : List Spot → ℕ → EdgeTarget → List Spot → ℕ → Type 0
+IsNamedAt old k target new n = (p : Spot) → slice_get old k ≡ Some p → IsNamed old (target_spot p.pending target) new n
+
+-- what is named by the old row is named by the new one, and behind it those to which the spot k leads
+abbrev pub NamesMore : (Spot → List Spot) → List Spot → ℕ → List Spot → List ℕ → List ℕ → Type 0
+NamesMore more old k new row row' = (p : Spot) → slice_get old k ≡ Some p → (first named : List Spot) → AreNamed first named old row → AreNamed first (named ++ more p) new row'
 
 -- the numbers of what a spot leads to
 abbrev pub numbers_of : Nexts → List ℕ

@@ -2,19 +2,24 @@
 use Rattle.std.specs.Prelude.{ℕ, List, [], length, Bool, true, false, not, ◌==◌, ◌&&◌, nat_lt, nat_le, if◌then◌else◌, slice_get, Option, None, Some}
 use Rattle.std.specs.List.{list_any}
 use Rattle.rs_model.specs.Data.{Machine_data}
-use Rattle.rs_derive.specs.Due.{Due, due}
+use Rattle.rs_derive.specs.Due.{Due, due, nexts_by}
 use Rattle.rs_derive.specs.Moves.{Spot, owing_receive, owing_send}
-use Rattle.rs_derive.specs.Rules.{arms_at, nexts_by, pushes}
+use Rattle.rs_derive.specs.Rules.{arms_of, pushes}
 use Rattle.rs_derive.specs.declared.rules.Rule.{Rule}
 use Rattle.rs_derive.specs.declared.rules.Rule.TheVariants.{Stops, Pays, SendsBoth, Guesses, Follows}
+use Rattle.rs_derive.specs.Within.{HasLabelsOnce}
 use Rattle.rs_model.specs.declared.graph.Arm.{Arm}
 use Rattle.rs_model.specs.declared.machines.Act.{Act}
 use Rattle.rs_graph.specs.Lists.{concat}
 use Rattle.rs_model.specs.declared.graph.Role.{Role}
-use Rattle.rs_model.specs.declared.machines.State.{State}
-use Rattle.rs_prefix.specs.declared.earliest.Kind.{Kind}
-use Rattle.rs_prefix.specs.declared.earliest.Kind.TheVariants.{Send, Receive}
-use Rattle.rs_search.specs.declared.turns.Turn.{Turn}
+use Rattle.rs_prefix.specs.declared.earliest.ActKind.{ActKind}
+use Rattle.rs_prefix.specs.declared.earliest.ActKind.TheVariants.{Send, Receive}
+use Rattle.rs_search.specs.declared.turns.SpotMoves.{SpotMoves}
+
+-- no label stands at two arms, of the machine and of the projection
+pub record BothHaveLabelsOnce (arms theirs : List Arm) : Type 0 where
+  pub ours : HasLabelsOnce arms
+  pub theirs_too : HasLabelsOnce theirs
 
 -- any: each of the spots is a move of its own; else all together are the one move. keeps: its edges keep the oldest act that is owed. cut: the bound takes the moves away
 pub record Turn_data : Type 0 where
@@ -80,14 +85,9 @@ may_choose arms theirs (Follows r) = length theirs == 1
 abbrev pub cuts : ℕ → List Act → List Arm → Rule → Bool
 cuts bound pending theirs rule = pushes rule && (nat_le bound (length pending) && nat_lt 0 (length theirs))
 
--- the arms of a state, where there is one
-abbrev pub arms_or : Option State → List Arm
-arms_or None = []
-arms_or (Some s) = arms_at s
-
 -- the arms of a state of the machine
-abbrev pub arms_in : Machine_data → ℕ → List Arm
-arms_in m s = arms_or (slice_get m.states s)
+abbrev pub arms_of_state : Machine_data → ℕ → List Arm
+arms_of_state m s = arms_of (slice_get m.states s)
 
 -- the spots to which a rule leads, if one applies
 abbrev pub spots_by : Spot → List Arm → List Arm → Option Rule → List Spot
@@ -95,10 +95,10 @@ spots_by p arms theirs None = []
 spots_by p arms theirs (Some rule) = concat (nexts_by p arms theirs rule)
 
 -- the turn of a spot by what the code tells of it
-abbrev pub turn_by_code : Spot → List Arm → List Arm → Turn → Turn_data
+abbrev pub turn_by_code : Spot → List Arm → List Arm → SpotMoves → Turn_data
 turn_by_code p arms theirs t = record { cut = t.cut; any = t.any; keeps = t.keeps; spots = spots_by p arms theirs t.rule }
 
 -- the spot behind an arm by which the projection has sent or received
-abbrev pub owing_by : Kind → Spot → Role → Arm → Spot
+abbrev pub owing_by : ActKind → Spot → Role → Arm → Spot
 owing_by Send p r b = owing_send p r b
 owing_by Receive p r b = owing_receive p r b

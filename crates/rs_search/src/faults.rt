@@ -1,3 +1,4 @@
+//! The answers of the search that are no derivation.
 /// Why there is no derivation that the search could answer.
 #[derive(Clone, Copy, Debug, PartialEq, Eq)]
 pub enum SearchFault {

@@ -8,7 +8,7 @@ use crate::table::SpotTable;
 
 // One more than the greatest rank of the row; none where it leads to a number that isn't greater.
 fn rank_behind(row: &[u32], number: usize, table: &SpotTable) -> Option<u32>
-    requires few { length table.now.ranks < 2 ^ 32 }
+    requires bounded { length table.now.ranks < 2 ^ 32 }
     requires here { number < length table.now.ranks }
     requires within { (j : ℕ) → Among row.now j → j < length table.now.ranks }
     requires low { (j : ℕ) → number < j → j < length table.now.ranks → slice_index_or table.now.ranks j 0 + j < length table.now.ranks }
@@ -29,7 +29,7 @@ fn rank_behind(row: &[u32], number: usize, table: &SpotTable) -> Option<u32>
 
 // The same where the row is kept; 0 where it isn't.
 fn rank_of(keeps: bool, number: usize, table: &SpotTable) -> Option<u32>
-    requires few { length table.now.ranks < 2 ^ 32 }
+    requires bounded { length table.now.ranks < 2 ^ 32 }
     requires here { number < length table.now.ranks }
     requires known { number < length table.now.rows }
     requires within { (j : ℕ) → Among (slice_index_or table.now.rows number []) j → j < length table.now.ranks }
@@ -48,7 +48,7 @@ fn rank_of(keeps: bool, number: usize, table: &SpotTable) -> Option<u32>
 /// Gives each spot the greatest length of a walk of kept edges from it, where all of these lead to greater numbers; else
 /// no rank means anything.
 pub fn forward_ranks(keeps: &[bool], table: &mut SpotTable) -> bool
-    requires few { length table.old.rows < 2 ^ 32 }
+    requires bounded { length table.old.rows < 2 ^ 32 }
     requires known { length table.old.rows ≡ length table.old.spots }
     requires keeps { length keeps.now ≡ length table.old.rows }
     requires within { (n j : ℕ) → Edge table.old.rows n j → j < length table.old.rows }

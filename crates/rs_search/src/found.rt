@@ -1,65 +1,65 @@
 //! The candidates: the spots that are reached within the bound, numbered in order of first sight.
-ghost use Rattle.std.specs.Prelude.{◌*◌, ◌≡◌, ◌<◌, ◌≤◌, ◌+◌, ◌^◌, [], ◌∷◌, ◌++◌, List, ℕ, OnOk, OnErr, IfOk, IfErr, IfSome, length, map, slice_get, slice_index_or, Some, ◌||◌};
+ghost use Rattle.std.specs.Prelude.{◌*◌, ◌≡◌, ◌<◌, ◌≤◌, ◌+◌, ◌^◌, [], ◌∷◌, ◌++◌, List, ℕ, OnOk, OnErr, IfOk, IfErr, IfSome, MatchResult, length, map, slice_get, slice_index_or, Some, ◌||◌};
 ghost use Rattle.rs_derive.specs.Checks.{target_spot};
 ghost use Rattle.rs_derive.specs.Derivations.{IsProper, spot_of};
-ghost use Rattle.rs_derive.specs.Due.{both_at};
+ghost use Rattle.rs_derive.specs.Due.{both_at, nexts_by};
 ghost use Rattle.rs_derive.specs.Moves.{Spot, arm_of, spot};
-ghost use Rattle.rs_derive.specs.Rules.{RuleFits, nexts_by};
+ghost use Rattle.rs_derive.specs.Rules.{RuleFits};
 ghost use Rattle.rs_derive.specs.Within.{HasLabelsOnce};
 ghost use Rattle.rs_prefix.specs.Earliest.{without};
 ghost use Rattle.rs_search.specs.Candidates.{start_spot};
-ghost use Rattle.rs_search.specs.Found.{AreFound, AreFoundSoFar};
-ghost use Rattle.rs_search.specs.Itself.{AreNamed, AreNamedAt, GrowsBy};
-ghost use Rattle.rs_search.specs.Table.{AddsAt, IsWithinAt, numbers_of};
+ghost use Rattle.rs_search.specs.Found.{AreFoundCandidates, AreFoundSoFar};
+ghost use Rattle.rs_search.specs.Itself.{AreNamedAt, GrowsBy};
+ghost use Rattle.rs_search.specs.Table.{AddsAt, IsBucketCount, IsWithinAt, NamesMore, StandsWithin, numbers_of};
 ghost use Rattle.rs_graph.specs.Discovery.{MoreThan};
 ghost use Rattle.rs_graph.specs.Lists.{concat};
-ghost use Rattle.rs_search.specs.Turns.{nexts_within, owing_by, spots_by};
+ghost use Rattle.rs_search.specs.Turns.{BothHaveLabelsOnce, nexts_within, owing_by, spots_by};
 ghost use Rattle.rs_model.specs.declared.limits.TheConstants.{MOST_CANDIDATES, MOST_STATES};
-ghost use Rattle.rs_search.specs.declared.found.Fault.TheVariants.{TooLarge, Memory};
+ghost use Rattle.rs_search.specs.declared.found.SearchStop.TheVariants.{TooLarge, Memory};
 
 use crate::table::SpotTable;
 use crate::turns::{
-    arms_in, has_choice, target_behind_payment, target_of_both, target_owing, turn_within,
+    arms_of_state, has_choice, target_behind_payment, target_of_both, target_owing, turn_within,
 };
-use rs_derive::{Rule, Target, arm_of};
-use rs_graph::Row;
+use rs_derive::{EdgeTarget, Rule, arm_of};
+use rs_graph::NodeRow;
 use rs_model::{Arm, MOST_CANDIDATES, MOST_STATES, Machine, NoMemory, Role};
-use rs_prefix::Kind;
+use rs_prefix::ActKind;
 use std::alloc::{AllocError, AllocFailed, Global};
 
 #[derive(Drop, Debug)]
-pub enum Fault {
+pub enum SearchStop {
     TooLarge,
     Memory,
 }
 
-impl From<AllocError> for Fault {
-    ghost use Rattle.rs_search.specs.declared.found.Fault.TheVariants.{Memory};
+impl From<AllocError> for SearchStop {
+    ghost use Rattle.rs_search.specs.declared.found.SearchStop.TheVariants.{Memory};
 
     ghost from_gives = { λ _ e. e ≡ Memory };
 
-    fn from(_e: AllocError) -> Fault {
-        Fault::Memory
+    fn from(_e: AllocError) -> SearchStop {
+        SearchStop::Memory
     }
 }
 
-impl<T: Drop> From<AllocFailed<T>> for Fault {
-    ghost use Rattle.rs_search.specs.declared.found.Fault.TheVariants.{Memory};
+impl<T: Drop> From<AllocFailed<T>> for SearchStop {
+    ghost use Rattle.rs_search.specs.declared.found.SearchStop.TheVariants.{Memory};
 
     ghost from_gives = { λ _ e. e ≡ Memory };
 
-    fn from(_e: AllocFailed<T>) -> Fault {
-        Fault::Memory
+    fn from(_e: AllocFailed<T>) -> SearchStop {
+        SearchStop::Memory
     }
 }
 
-impl From<NoMemory> for Fault {
-    ghost use Rattle.rs_search.specs.declared.found.Fault.TheVariants.{Memory};
+impl From<NoMemory> for SearchStop {
+    ghost use Rattle.rs_search.specs.declared.found.SearchStop.TheVariants.{Memory};
 
     ghost from_gives = { λ _ e. e ≡ Memory };
 
-    fn from(_e: NoMemory) -> Fault {
-        Fault::Memory
+    fn from(_e: NoMemory) -> SearchStop {
+        SearchStop::Memory
     }
 }
 
@@ -78,7 +78,7 @@ pub struct Candidates {
 #[derive(Drop, Debug)]
 pub enum Nexts {
     One(u32),
-    Several(Row),
+    Several(NodeRow),
 }
 
 #[inline(always)]
@@ -92,11 +92,11 @@ fn count_of(nexts: &Nexts) -> usize
 }
 
 #[inline(always)]
-fn row_of(alloc: Global, nexts: Nexts) -> Row
+fn row_of(alloc: Global, nexts: Nexts) -> NodeRow
     ensures { result ≡ numbers_of nexts }
 {
     match nexts {
-        Nexts::One(n) => Row::of_one(alloc, n),
+        Nexts::One(n) => NodeRow::of_one(alloc, n),
         Nexts::Several(row) => row,
     }
 }
@@ -106,20 +106,17 @@ fn row_of(alloc: Global, nexts: Nexts) -> Row
 fn name(
     alloc: Global,
     table: &mut SpotTable,
-    row: &mut Row,
+    row: &mut NodeRow,
     k: usize,
-    target: Target,
+    target: EdgeTarget,
     limit: usize,
-) -> Result<(), Fault>
-    requires limit { limit + 1 < 2 ^ 32 }
-    requires few { length table.old.spots ≤ limit }
-    requires there { k < length table.old.spots }
+) -> Result<(), SearchStop>
+    requires within { StandsWithin table.old.spots k limit }
     requires place { IsWithinAt table.old.spots k target }
     ensures longer { length table.old.spots ≤ length table.new.spots }
-    ensures named { OnOk result ((p : Spot) → slice_get table.old.spots k ≡ Some p → (old ys : List Spot) → AreNamed old ys table.old.spots row.old → AreNamed old (ys ++ target_spot p.pending target ∷ []) table.new.spots row.new) }
-    ensures large { IfErr result (λ e. e ≡ TooLarge → limit < length table.new.spots) }
+    ensures named { OnOk result (NamesMore (λ p. target_spot p.pending target ∷ []) table.old.spots k table.new.spots row.old row.new) }
     ensures adds { AddsAt table.old.spots k target table.new.spots }
-    ensures few { OnOk result (length table.new.spots ≤ limit) }
+    ensures limit { MatchResult result (λ _. length table.new.spots ≤ limit) (λ e. e ≡ TooLarge → limit < length table.new.spots) }
     ensures rows { table.new.rows ≡ table.old.rows }
 {
     let n = table.number_of(alloc, k, target, limit)?;
@@ -133,17 +130,14 @@ fn name_one(
     alloc: Global,
     table: &mut SpotTable,
     k: usize,
-    target: Target,
+    target: EdgeTarget,
     limit: usize,
-) -> Result<u32, Fault>
-    requires limit { limit + 1 < 2 ^ 32 }
-    requires few { length table.old.spots ≤ limit }
-    requires there { k < length table.old.spots }
+) -> Result<u32, SearchStop>
+    requires within { StandsWithin table.old.spots k limit }
     requires place { IsWithinAt table.old.spots k target }
     ensures named { IfOk result (λ n. AreNamedAt (λ p. target_spot p.pending target ∷ []) table.old.spots k table.new.spots (n ∷ [])) }
-    ensures large { IfErr result (λ e. e ≡ TooLarge → limit < length table.new.spots) }
     ensures grown { OnErr result (GrowsBy (λ p. target_spot p.pending target ∷ []) table.old.spots k table.new.spots) }
-    ensures few { OnOk result (length table.new.spots ≤ limit) }
+    ensures limit { MatchResult result (λ _. length table.new.spots ≤ limit) (λ e. e ≡ TooLarge → limit < length table.new.spots) }
     ensures rows { table.new.rows ≡ table.old.rows }
 {
     let n = table.number_of(alloc, k, target, limit)?;
@@ -159,15 +153,12 @@ fn name_paid(
     place: usize,
     arm: Arm,
     limit: usize,
-) -> Result<u32, Fault>
-    requires limit { limit + 1 < 2 ^ 32 }
-    requires few { length table.old.spots ≤ limit }
-    requires there { k < length table.old.spots }
+) -> Result<u32, SearchStop>
+    requires within { StandsWithin table.old.spots k limit }
     requires owed { (p : Spot) → slice_get table.old.spots k ≡ Some p → place < length p.pending }
     ensures named { IfOk result (λ n. AreNamedAt (λ p. spot arm.next (without p.pending place) p.above ∷ []) table.old.spots k table.new.spots (n ∷ [])) }
-    ensures large { IfErr result (λ e. e ≡ TooLarge → limit < length table.new.spots) }
     ensures grown { OnErr result (GrowsBy (λ p. spot arm.next (without p.pending place) p.above ∷ []) table.old.spots k table.new.spots) }
-    ensures few { OnOk result (length table.new.spots ≤ limit) }
+    ensures limit { MatchResult result (λ _. length table.new.spots ≤ limit) (λ e. e ≡ TooLarge → limit < length table.new.spots) }
     ensures rows { table.new.rows ≡ table.old.rows }
 {
     let target = target_behind_payment(table.node(k), place, arm);
@@ -180,20 +171,17 @@ fn name_owing(
     alloc: Global,
     table: &mut SpotTable,
     k: usize,
-    kind: Kind,
+    kind: ActKind,
     peer: Role,
     theirs: &[Arm],
     limit: usize,
-) -> Result<Nexts, Fault>
-    requires limit { limit + 1 < 2 ^ 32 }
-    requires few { length table.old.spots ≤ limit }
-    requires there { k < length table.old.spots }
+) -> Result<Nexts, SearchStop>
+    requires within { StandsWithin table.old.spots k limit }
     requires once { HasLabelsOnce theirs.now }
     ensures named { IfOk result (λ nexts. AreNamedAt (λ p. map (λ b. owing_by kind p peer b) theirs.now) table.old.spots k table.new.spots (numbers_of nexts)) }
     ensures short { IfOk result (λ nexts. length (numbers_of nexts) ≤ 2 ^ 16) }
-    ensures large { IfErr result (λ e. e ≡ TooLarge → limit < length table.new.spots) }
     ensures grown { OnErr result (GrowsBy (λ p. map (λ b. owing_by kind p peer b) theirs.now) table.old.spots k table.new.spots) }
-    ensures few { OnOk result (length table.new.spots ≤ limit) }
+    ensures limit { MatchResult result (λ _. length table.new.spots ≤ limit) (λ e. e ≡ TooLarge → limit < length table.new.spots) }
     ensures rows { table.new.rows ≡ table.old.rows }
 {
     match theirs {
@@ -214,23 +202,20 @@ fn name_each_owing(
     alloc: Global,
     table: &mut SpotTable,
     k: usize,
-    kind: Kind,
+    kind: ActKind,
     peer: Role,
     theirs: &[Arm],
     limit: usize,
-) -> Result<Row, Fault>
-    requires limit { limit + 1 < 2 ^ 32 }
-    requires few { length table.old.spots ≤ limit }
-    requires there { k < length table.old.spots }
+) -> Result<NodeRow, SearchStop>
+    requires within { StandsWithin table.old.spots k limit }
     requires once { HasLabelsOnce theirs.now }
     ensures named { IfOk result (λ row. AreNamedAt (λ p. map (λ b. owing_by kind p peer b) theirs.now) table.old.spots k table.new.spots row) }
     ensures short { IfOk result (λ row. length row ≤ 2 ^ 16) }
-    ensures large { IfErr result (λ e. e ≡ TooLarge → limit < length table.new.spots) }
     ensures grown { OnErr result (GrowsBy (λ p. map (λ b. owing_by kind p peer b) theirs.now) table.old.spots k table.new.spots) }
-    ensures few { OnOk result (length table.new.spots ≤ limit) }
+    ensures limit { MatchResult result (λ _. length table.new.spots ≤ limit) (λ e. e ≡ TooLarge → limit < length table.new.spots) }
     ensures rows { table.new.rows ≡ table.old.rows }
 {
-    let mut row = Row::new(alloc);
+    let mut row = NodeRow::new(alloc);
     for arm in theirs {
         let target = target_owing(table.node(k), kind, peer, *arm);
         name(alloc, table, &mut row, k, target, limit)?;
@@ -243,20 +228,17 @@ fn name_each_owing(
 fn name_if(
     alloc: Global,
     table: &mut SpotTable,
-    row: &mut Row,
+    row: &mut NodeRow,
     k: usize,
     arm: Arm,
     their: Option<Arm>,
     limit: usize,
-) -> Result<(), Fault>
-    requires limit { limit + 1 < 2 ^ 32 }
-    requires few { length table.old.spots ≤ limit }
-    requires there { k < length table.old.spots }
+) -> Result<(), SearchStop>
+    requires within { StandsWithin table.old.spots k limit }
     ensures longer { length table.old.spots ≤ length table.new.spots }
-    ensures named { OnOk result ((p : Spot) → slice_get table.old.spots k ≡ Some p → (old ys : List Spot) → AreNamed old ys table.old.spots row.old → AreNamed old (ys ++ both_at p.pending arm their) table.new.spots row.new) }
-    ensures large { IfErr result (λ e. e ≡ TooLarge → limit < length table.new.spots) }
+    ensures named { OnOk result (NamesMore (λ p. both_at p.pending arm their) table.old.spots k table.new.spots row.old row.new) }
     ensures grown { OnErr result (GrowsBy (λ p. both_at p.pending arm their) table.old.spots k table.new.spots) }
-    ensures few { OnOk result (length table.new.spots ≤ limit) }
+    ensures limit { MatchResult result (λ _. length table.new.spots ≤ limit) (λ e. e ≡ TooLarge → limit < length table.new.spots) }
     ensures rows { table.new.rows ≡ table.old.rows }
 {
     match their {
@@ -276,19 +258,16 @@ fn name_both(
     arms: &[Arm],
     theirs: &[Arm],
     limit: usize,
-) -> Result<Row, Fault>
-    requires limit { limit + 1 < 2 ^ 32 }
-    requires few { length table.old.spots ≤ limit }
-    requires there { k < length table.old.spots }
+) -> Result<NodeRow, SearchStop>
+    requires within { StandsWithin table.old.spots k limit }
     requires once { HasLabelsOnce arms.now }
     ensures named { IfOk result (λ row. AreNamedAt (λ p. concat (map (λ a. both_at p.pending a (arm_of theirs.now a.label)) arms.now)) table.old.spots k table.new.spots row) }
     ensures short { IfOk result (λ row. length row ≤ 2 ^ 16) }
-    ensures large { IfErr result (λ e. e ≡ TooLarge → limit < length table.new.spots) }
     ensures grown { OnErr result (GrowsBy (λ p. concat (map (λ a. both_at p.pending a (arm_of theirs.now a.label)) arms.now)) table.old.spots k table.new.spots) }
-    ensures few { OnOk result (length table.new.spots ≤ limit) }
+    ensures limit { MatchResult result (λ _. length table.new.spots ≤ limit) (λ e. e ≡ TooLarge → limit < length table.new.spots) }
     ensures rows { table.new.rows ≡ table.old.rows }
 {
-    let mut row = Row::new(alloc);
+    let mut row = NodeRow::new(alloc);
     for arm in arms {
         let their = arm_of(theirs, arm.label);
         name_if(alloc, table, &mut row, k, *arm, their, limit)?;
@@ -306,23 +285,19 @@ fn name_by(
     arms: &[Arm],
     theirs: &[Arm],
     limit: usize,
-) -> Result<Nexts, Fault>
-    requires limit { limit + 1 < 2 ^ 32 }
-    requires few { length table.old.spots ≤ limit }
-    requires there { k < length table.old.spots }
-    requires ours { HasLabelsOnce arms.now }
-    requires theirs { HasLabelsOnce theirs.now }
+) -> Result<Nexts, SearchStop>
+    requires within { StandsWithin table.old.spots k limit }
+    requires once { BothHaveLabelsOnce arms.now theirs.now }
     requires fits { (p : Spot) → slice_get table.old.spots k ≡ Some p → RuleFits p.pending arms.now theirs.now rule }
     ensures named { IfOk result (λ nexts. AreNamedAt (λ p. concat (nexts_by p arms.now theirs.now rule)) table.old.spots k table.new.spots (numbers_of nexts)) }
     ensures short { IfOk result (λ nexts. length (numbers_of nexts) ≤ 2 ^ 16) }
-    ensures large { IfErr result (λ e. e ≡ TooLarge → limit < length table.new.spots) }
     ensures grown { OnErr result (GrowsBy (λ p. concat (nexts_by p arms.now theirs.now rule)) table.old.spots k table.new.spots) }
-    ensures few { OnOk result (length table.new.spots ≤ limit) }
+    ensures limit { MatchResult result (λ _. length table.new.spots ≤ limit) (λ e. e ≡ TooLarge → limit < length table.new.spots) }
     ensures rows { table.new.rows ≡ table.old.rows }
 {
     match rule {
         Rule::Stops => {
-            let none = Row::new(alloc);
+            let none = NodeRow::new(alloc);
             Ok(Nexts::Several(none))
         }
         Rule::Pays { place, arm } => {
@@ -333,8 +308,16 @@ fn name_by(
             let row = name_both(alloc, table, k, arms, theirs, limit)?;
             Ok(Nexts::Several(row))
         }
-        Rule::Guesses { peer } => name_owing(alloc, table, k, Kind::Send, peer, theirs, limit),
-        Rule::Follows { peer } => name_owing(alloc, table, k, Kind::Receive, peer, theirs, limit),
+        Rule::Guesses { peer } => name_owing(alloc, table, k, ActKind::Send, peer, theirs, limit),
+        Rule::Follows { peer } => name_owing(
+            alloc,
+            table,
+            k,
+            ActKind::Receive,
+            peer,
+            theirs,
+            limit,
+        ),
     }
 }
 
@@ -348,23 +331,19 @@ fn name_all(
     arms: &[Arm],
     theirs: &[Arm],
     limit: usize,
-) -> Result<Nexts, Fault>
-    requires limit { limit + 1 < 2 ^ 32 }
-    requires few { length table.old.spots ≤ limit }
-    requires there { k < length table.old.spots }
-    requires ours { HasLabelsOnce arms.now }
-    requires theirs { HasLabelsOnce theirs.now }
+) -> Result<Nexts, SearchStop>
+    requires within { StandsWithin table.old.spots k limit }
+    requires once { BothHaveLabelsOnce arms.now theirs.now }
     requires fits { (p : Spot) → slice_get table.old.spots k ≡ Some p → IfSome rule (λ r. RuleFits p.pending arms.now theirs.now r) }
     ensures named { IfOk result (λ nexts. AreNamedAt (λ p. spots_by p arms.now theirs.now rule) table.old.spots k table.new.spots (numbers_of nexts)) }
     ensures short { IfOk result (λ nexts. length (numbers_of nexts) ≤ 2 ^ 16) }
-    ensures large { IfErr result (λ e. e ≡ TooLarge → limit < length table.new.spots) }
     ensures grown { OnErr result (GrowsBy (λ p. spots_by p arms.now theirs.now rule) table.old.spots k table.new.spots) }
-    ensures few { OnOk result (length table.new.spots ≤ limit) }
+    ensures limit { MatchResult result (λ _. length table.new.spots ≤ limit) (λ e. e ≡ TooLarge → limit < length table.new.spots) }
     ensures rows { table.new.rows ≡ table.old.rows }
 {
     match rule {
         None => {
-            let none = Row::new(alloc);
+            let none = NodeRow::new(alloc);
             Ok(Nexts::Several(none))
         }
         Some(one) => name_by(alloc, table, k, one, arms, theirs, limit),
@@ -396,7 +375,7 @@ fn first_room(sub: &Machine, above: &Machine) -> usize
 // How many buckets there are at first: some for each state.
 fn few_buckets(sub: &Machine, above: &Machine) -> usize
     ensures some { 0 < result }
-    ensures few { result ≤ MOST_STATES * 2 + 1 }
+    ensures bounded { result ≤ MOST_STATES * 2 + 1 }
 {
     state_count(sub) + state_count(above) + 1
 }
@@ -404,7 +383,7 @@ fn few_buckets(sub: &Machine, above: &Machine) -> usize
 // How many there are once the candidates are more: one for two pairs of states, as far as these are few.
 fn many_buckets(sub: &Machine, above: &Machine) -> usize
     ensures some { 0 < result }
-    ensures few { result < 2 ^ 32 }
+    ensures bounded { result < 2 ^ 32 }
 {
     first_room(sub, above) / 2 + few_buckets(sub, above)
 }
@@ -419,25 +398,21 @@ fn visit_next(
     buckets: usize,
     limit: usize,
     found: &mut Candidates,
-) -> Result<(), Fault>
-    requires some { 0 < buckets }
-    requires buckets { buckets < 2 ^ 32 }
-    requires limit { limit + 1 < 2 ^ 32 }
+) -> Result<(), SearchStop>
+    requires buckets { IsBucketCount buckets }
     requires ours { IsProper sub.now }
     requires theirs { IsProper above.now }
-    requires next { length found.old.table.rows < length found.old.table.spots }
-    requires few { length found.old.table.spots ≤ limit }
+    requires next { StandsWithin found.old.table.spots (length found.old.table.rows) limit }
     requires found { AreFoundSoFar sub.now above.now bound found.old }
     ensures next { OnOk result (length found.new.table.rows ≡ length found.old.table.rows + 1) }
-    ensures few { OnOk result (length found.new.table.spots ≤ limit) }
     ensures found { OnOk result (AreFoundSoFar sub.now above.now bound found.new) }
-    ensures large { IfErr result (λ e. e ≡ TooLarge → MoreThan limit (nexts_within sub.now above.now bound) (start_spot sub.now above.now)) }
+    ensures limit { MatchResult result (λ _. length found.new.table.spots ≤ limit) (λ e. e ≡ TooLarge → MoreThan limit (nexts_within sub.now above.now bound) (start_spot sub.now above.now)) }
 {
     found.table.spread(alloc, buckets)?;
     let k = found.table.known();
     let node = found.table.node(k);
-    let arms = arms_in(sub, node.state);
-    let theirs = arms_in(above, node.above);
+    let arms = arms_of_state(sub, node.state);
+    let theirs = arms_of_state(above, node.above);
     let turn = turn_within(sub, above, bound, node, arms, theirs);
     found.anys.push(turn.any)?;
     found.keeps.push(turn.keeps)?;
@@ -458,13 +433,13 @@ pub fn find_all(
     above: &Machine,
     bound: u8,
     limit: usize,
-) -> Result<Candidates, Fault>
+) -> Result<Candidates, SearchStop>
     requires some { 0 < limit }
     requires limit { limit + 1 < 2 ^ 32 }
     requires ours { IsProper sub.now }
     requires theirs { IsProper above.now }
-    ensures found { IfOk result (AreFound sub.now above.now bound) }
-    ensures few { IfOk result (λ d. length d.table.spots ≤ limit) }
+    ensures found { IfOk result (AreFoundCandidates sub.now above.now bound) }
+    ensures bounded { IfOk result (λ d. length d.table.spots ≤ limit) }
     ensures large { IfErr result (λ e. e ≡ TooLarge → MoreThan limit (nexts_within sub.now above.now bound) (start_spot sub.now above.now)) }
 {
     let room = first_room(sub, above);

@@ -4,15 +4,15 @@ ghost use Rattle.rs_model.specs.declared.limits.TheConstants.{MOST_CANDIDATES};
 ghost use Rattle.rs_derive.specs.Derivations.{IsProper};
 ghost use Rattle.rs_derive.specs.Moves.{Spot, owing_receive};
 ghost use Rattle.rs_derive.specs.Within.{HasLabelsOnce};
-ghost use Rattle.rs_graph.specs.Discovery.{Adds};
+ghost use Rattle.rs_graph.specs.Discovery.{AreNamed, IsNamed};
 ghost use Rattle.rs_graph.specs.Lists.{Among};
 ghost use Rattle.rs_search.specs.Canonical.{IsCanonical};
-ghost use Rattle.rs_search.specs.Itself.{AreNamed, ArePlaced, IsOfItself, even, nexts_itself, owed_list};
-ghost use Rattle.rs_search.specs.Nodes.{node_of};
+ghost use Rattle.rs_search.specs.Itself.{ArePositions, IsOfItself, even, nexts_itself, owed_list};
+ghost use Rattle.rs_search.specs.Nodes.{node_at_spot};
 
-use crate::found::Fault;
+use crate::found::SearchStop;
 use rs_derive::{DNode, Derivation};
-use rs_graph::Row;
+use rs_graph::NodeRow;
 use rs_model::{Act, Arm, MOST_CANDIDATES, Machine, NoMemory, Role, State};
 use rs_prefix::Pending;
 use std::alloc::Global;
@@ -73,8 +73,8 @@ impl Position {
     }
 
     // The node at the position, whose edges keep no head.
-    fn into_node(self, alloc: Global, next: Row) -> Result<DNode, NoMemory>
-        ensures { IfOk result (λ n. n ≡ node_of self 0 next) }
+    fn into_node(self, alloc: Global, next: NodeRow) -> Result<DNode, NoMemory>
+        ensures { IfOk result (λ n. n ≡ node_at_spot self 0 next) }
     {
         let Position { state, owed, above } = self;
         Ok(DNode {
@@ -102,25 +102,18 @@ fn come_to(
     found: &mut Vec<Position>,
     places: &mut Vec<Option<u32>>,
     state: u32,
-) -> Result<u32, Fault>
-    requires there { state < length places.old.items }
-    requires few { length found.old.items ≤ MOST_CANDIDATES }
-    requires placed { ArePlaced found.old.items places.old.items }
-    ensures adds { OnOk result (Adds found.old.items (even state) found.new.items) }
-    ensures longer { OnOk result (length found.old.items ≤ length found.new.items) }
-    ensures at { IfOk result (λ n. slice_get found.new.items n ≡ Some (even state)) }
-    ensures old { IfOk result (λ n. found.new.items ≡ found.old.items → n < length found.old.items) }
-    ensures fresh { IfOk result (λ n. (found.new.items ≡ found.old.items → ⊥) → n ≡ length found.old.items) }
-    ensures few { OnOk result (length found.new.items ≤ MOST_CANDIDATES) }
-    ensures placed { OnOk result (ArePlaced found.new.items places.new.items) }
-    ensures size { OnOk result (length places.new.items ≡ length places.old.items) }
+) -> Result<u32, SearchStop>
+    requires present { state < length places.old.items }
+    requires positions { ArePositions found.old.items places.old.items (length places.old.items) }
+    ensures named { IfOk result (IsNamed found.old.items (even state) found.new.items) }
+    ensures positions { OnOk result (ArePositions found.new.items places.new.items (length places.old.items)) }
 {
     match places[state as usize] {
         Some(n) => Ok(n),
         None => {
             let n = found.len();
             if n == MOST_CANDIDATES {
-                return Err(Fault::TooLarge);
+                return Err(SearchStop::TooLarge);
             }
             found.reserve(1)?;
             found.push_reserved(Position::even(state));
@@ -136,17 +129,14 @@ fn come_to_one(
     found: &mut Vec<Position>,
     places: &mut Vec<Option<u32>>,
     state: u32,
-) -> Result<Row, Fault>
-    requires there { state < length places.old.items }
-    requires few { length found.old.items ≤ MOST_CANDIDATES }
-    requires placed { ArePlaced found.old.items places.old.items }
+) -> Result<NodeRow, SearchStop>
+    requires present { state < length places.old.items }
+    requires positions { ArePositions found.old.items places.old.items (length places.old.items) }
     ensures named { IfOk result (λ row. AreNamed found.old.items (even state ∷ []) found.new.items row) }
-    ensures few { OnOk result (length found.new.items ≤ MOST_CANDIDATES) }
-    ensures placed { OnOk result (ArePlaced found.new.items places.new.items) }
-    ensures size { OnOk result (length places.new.items ≡ length places.old.items) }
+    ensures positions { OnOk result (ArePositions found.new.items places.new.items (length places.old.items)) }
 {
     let n = come_to(found, places, state)?;
-    Ok(Row::of_one(alloc, n))
+    Ok(NodeRow::of_one(alloc, n))
 }
 
 // The numbers of the spots behind arms that both send.
@@ -155,14 +145,11 @@ fn come_to_all(
     found: &mut Vec<Position>,
     places: &mut Vec<Option<u32>>,
     arms: &[Arm],
-) -> Result<Row, Fault>
-    requires there { (i : ℕ) (a : Arm) → slice_get arms.now i ≡ Some a → a.next < length places.old.items }
-    requires few { length found.old.items ≤ MOST_CANDIDATES }
-    requires placed { ArePlaced found.old.items places.old.items }
+) -> Result<NodeRow, SearchStop>
+    requires present { (i : ℕ) (a : Arm) → slice_get arms.now i ≡ Some a → a.next < length places.old.items }
+    requires positions { ArePositions found.old.items places.old.items (length places.old.items) }
     ensures named { IfOk result (λ row. AreNamed found.old.items (map (λ a. even a.next) arms.now) found.new.items row) }
-    ensures few { OnOk result (length found.new.items ≤ MOST_CANDIDATES) }
-    ensures placed { OnOk result (ArePlaced found.new.items places.new.items) }
-    ensures size { OnOk result (length places.new.items ≡ length places.old.items) }
+    ensures positions { OnOk result (ArePositions found.new.items places.new.items (length places.old.items)) }
 {
     match arms {
         [arm] => come_to_one(alloc, found, places, arm.next),
@@ -176,16 +163,13 @@ fn come_to_each(
     found: &mut Vec<Position>,
     places: &mut Vec<Option<u32>>,
     arms: &[Arm],
-) -> Result<Row, Fault>
-    requires there { (i : ℕ) (a : Arm) → slice_get arms.now i ≡ Some a → a.next < length places.old.items }
-    requires few { length found.old.items ≤ MOST_CANDIDATES }
-    requires placed { ArePlaced found.old.items places.old.items }
+) -> Result<NodeRow, SearchStop>
+    requires present { (i : ℕ) (a : Arm) → slice_get arms.now i ≡ Some a → a.next < length places.old.items }
+    requires positions { ArePositions found.old.items places.old.items (length places.old.items) }
     ensures named { IfOk result (λ row. AreNamed found.old.items (map (λ a. even a.next) arms.now) found.new.items row) }
-    ensures few { OnOk result (length found.new.items ≤ MOST_CANDIDATES) }
-    ensures placed { OnOk result (ArePlaced found.new.items places.new.items) }
-    ensures size { OnOk result (length places.new.items ≡ length places.old.items) }
+    ensures positions { OnOk result (ArePositions found.new.items places.new.items (length places.old.items)) }
 {
-    let mut row = Row::new(alloc);
+    let mut row = NodeRow::new(alloc);
     for i in 0..arms.len() {
         let n = come_to(found, places, arms[i].next)?;
         row.push(n)?;
@@ -200,20 +184,19 @@ fn owe_one(
     state: u32,
     peer: Role,
     arm: Arm,
-) -> Result<Row, Fault>
+) -> Result<NodeRow, SearchStop>
     requires fresh { (p : Spot) → Among found.old.items p → p.state ≡ state → p.pending ≡ [] }
-    requires few { length found.old.items ≤ MOST_CANDIDATES }
+    requires bounded { length found.old.items ≤ MOST_CANDIDATES }
     ensures named { IfOk result (λ row. AreNamed found.old.items (owing_receive (even state) peer arm ∷ []) found.new.items row) }
-    ensures few { OnOk result (length found.new.items ≤ MOST_CANDIDATES) }
-    ensures placed { OnOk result ((places : List (Option ℕ)) → ArePlaced found.old.items places → ArePlaced found.new.items places) }
+    ensures positions { OnOk result ((places : List (Option ℕ)) (states : ℕ) → ArePositions found.old.items places states → ArePositions found.new.items places states) }
 {
     let n = found.len();
     if n == MOST_CANDIDATES {
-        return Err(Fault::TooLarge);
+        return Err(SearchStop::TooLarge);
     }
     found.reserve(1)?;
     found.push_reserved(Position::owing(state, peer, arm));
-    Ok(Row::of_one(alloc, n as u32))
+    Ok(NodeRow::of_one(alloc, n as u32))
 }
 
 // The numbers of the spots behind arms by which the projection receives, which are all new.
@@ -223,13 +206,12 @@ fn owe_all(
     state: u32,
     peer: Role,
     arms: &[Arm],
-) -> Result<Row, Fault>
+) -> Result<NodeRow, SearchStop>
     requires once { HasLabelsOnce arms.now }
     requires fresh { (p : Spot) → Among found.old.items p → p.state ≡ state → p.pending ≡ [] }
-    requires few { length found.old.items ≤ MOST_CANDIDATES }
+    requires bounded { length found.old.items ≤ MOST_CANDIDATES }
     ensures named { IfOk result (λ row. AreNamed found.old.items (map (λ b. owing_receive (even state) peer b) arms.now) found.new.items row) }
-    ensures few { OnOk result (length found.new.items ≤ MOST_CANDIDATES) }
-    ensures placed { OnOk result ((places : List (Option ℕ)) → ArePlaced found.old.items places → ArePlaced found.new.items places) }
+    ensures positions { OnOk result ((places : List (Option ℕ)) (states : ℕ) → ArePositions found.old.items places states → ArePositions found.new.items places states) }
 {
     match arms {
         [arm] => owe_one(alloc, found, state, peer, *arm),
@@ -244,19 +226,18 @@ fn owe_each(
     state: u32,
     peer: Role,
     arms: &[Arm],
-) -> Result<Row, Fault>
+) -> Result<NodeRow, SearchStop>
     requires once { HasLabelsOnce arms.now }
     requires fresh { (p : Spot) → Among found.old.items p → p.state ≡ state → p.pending ≡ [] }
-    requires few { length found.old.items ≤ MOST_CANDIDATES }
+    requires bounded { length found.old.items ≤ MOST_CANDIDATES }
     ensures named { IfOk result (λ row. AreNamed found.old.items (map (λ b. owing_receive (even state) peer b) arms.now) found.new.items row) }
-    ensures few { OnOk result (length found.new.items ≤ MOST_CANDIDATES) }
-    ensures placed { OnOk result ((places : List (Option ℕ)) → ArePlaced found.old.items places → ArePlaced found.new.items places) }
+    ensures positions { OnOk result ((places : List (Option ℕ)) (states : ℕ) → ArePositions found.old.items places states → ArePositions found.new.items places states) }
 {
-    let mut row = Row::new(alloc);
+    let mut row = NodeRow::new(alloc);
     for i in 0..arms.len() {
         let n = found.len();
         if n == MOST_CANDIDATES {
-            return Err(Fault::TooLarge);
+            return Err(SearchStop::TooLarge);
         }
         found.push(Position::owing(state, peer, arms[i]))?;
         row.push(n as u32)?;
@@ -271,22 +252,18 @@ fn nexts_of(
     found: &mut Vec<Position>,
     places: &mut Vec<Option<u32>>,
     position: &Position,
-) -> Result<Row, Fault>
+) -> Result<NodeRow, SearchStop>
     requires proper { IsProper machine.now }
     requires kind { IsOfItself machine.now position.now }
     requires fresh { position.now.pending ≡ [] → (p : Spot) → Among found.old.items p → p.state ≡ position.now.state → p.pending ≡ [] }
-    requires few { length found.old.items ≤ MOST_CANDIDATES }
-    requires placed { ArePlaced found.old.items places.old.items }
-    requires size { length places.old.items ≡ length machine.now.states }
+    requires positions { ArePositions found.old.items places.old.items (length machine.now.states) }
     ensures named { IfOk result (λ row. AreNamed found.old.items (nexts_itself machine.now position.now) found.new.items row) }
-    ensures few { OnOk result (length found.new.items ≤ MOST_CANDIDATES) }
-    ensures placed { OnOk result (ArePlaced found.new.items places.new.items) }
-    ensures size { OnOk result (length places.new.items ≡ length places.old.items) }
+    ensures positions { OnOk result (ArePositions found.new.items places.new.items (length machine.now.states)) }
 {
     match position.owed {
         Some(_) => come_to_one(alloc, found, places, position.above),
         None => match &machine.states[position.state as usize] {
-            State::Done => Ok(Row::new(alloc)),
+            State::Done => Ok(NodeRow::new(alloc)),
             State::Puts { arms, .. } => come_to_all(alloc, found, places, arms.as_slice()),
             State::Takes { peer, arms } => {
                 owe_all(alloc, found, position.state, *peer, arms.as_slice())
@@ -306,31 +283,43 @@ fn usual_size(states: &[State]) -> usize {
     size
 }
 
+// The positions that are found, the numbers of the even ones by their states, and the nodes of the first of them.
+#[derive(Drop, Debug)]
+struct Lists {
+    found: Vec<Position>,
+    places: Vec<Option<u32>>,
+    nodes: Vec<DNode>,
+}
+
 // What there is at first: the start alone is found and has its place, and there are no nodes.
-fn first_lists(
-    alloc: Global,
-    machine: &Machine,
-) -> Result<(Vec<Option<u32>>, Vec<Position>, Vec<DNode>), Fault>
+fn first_lists(alloc: Global, machine: &Machine) -> Result<Lists, SearchStop>
     requires proper { IsProper machine.now }
-    ensures found { IfOk result (λ t. t.1.items ≡ even machine.now.start ∷ []) }
-    ensures placed { IfOk result (λ t. ArePlaced t.1.items t.0.items) }
-    ensures size { IfOk result (λ t. length t.0.items ≡ length machine.now.states) }
-    ensures none { IfOk result (λ t. t.2.items ≡ []) }
+    ensures found { IfOk result (λ l. l.found.items ≡ even machine.now.start ∷ []) }
+    ensures positions { IfOk result (λ l. ArePositions l.found.items l.places.items (length machine.now.states)) }
+    ensures none { IfOk result (λ l. l.nodes.items ≡ []) }
 {
     let mut places: Vec<Option<u32>> = vec![in alloc; None; machine.states.len()]?;
     let room = usual_size(&machine.states);
     let mut found = Vec::with_capacity(alloc, room)?;
     come_to(&mut found, &mut places, machine.start)?;
     let nodes = Vec::with_capacity(alloc, room)?;
-    Ok((places, found, nodes))
+    Ok(Lists {
+        found,
+        places,
+        nodes,
+    })
 }
 
 // The nodes of the derivation of the machine from itself, within any bound that allows one act to be owed.
-fn nodes_itself(alloc: Global, machine: &Machine) -> Result<Vec<DNode>, Fault>
+fn nodes_itself(alloc: Global, machine: &Machine) -> Result<Vec<DNode>, SearchStop>
     requires proper { IsProper machine.now }
     ensures { IfOk result (λ v. (bound : ℕ) → 0 < bound → IsCanonical machine.now machine.now bound (record { role = machine.now.role; bound = bound; nodes = v.items })) }
 {
-    let (mut places, mut found, mut nodes) = first_lists(alloc, machine)?;
+    let Lists {
+        mut found,
+        mut places,
+        mut nodes,
+    } = first_lists(alloc, machine)?;
     while nodes.len() < found.len() {
         let position = found[nodes.len()].copy();
         let next = nexts_of(alloc, machine, &mut found, &mut places, &position)?;
@@ -342,7 +331,7 @@ fn nodes_itself(alloc: Global, machine: &Machine) -> Result<Vec<DNode>, Fault>
 }
 
 /// The derivation of the machine from itself within the bound.
-pub fn search_itself(alloc: Global, machine: &Machine, bound: u8) -> Result<Derivation, Fault>
+pub fn search_itself(alloc: Global, machine: &Machine, bound: u8) -> Result<Derivation, SearchStop>
     requires proper { IsProper machine.now }
     requires some { 0 < bound }
     ensures { IfOk result (λ d. IsCanonical machine.now machine.now bound d) }

@@ -26,7 +26,7 @@ pub fn answers_are_one()
     ensures derivation { (sub above : Machine_data) (bound : ℕ) (d e : Derivation_data) → IsCanonical sub above bound d → IsCanonical sub above bound e → d ≡ e }
     ensures fault { (sub above : Machine_data) (bound : ℕ) (f g : SearchFault) → f ≢ NoMemory → g ≢ NoMemory → SearchRefuses sub above bound f → SearchRefuses sub above bound g → f ≡ g }
     ensures either { (sub above : Machine_data) (bound : ℕ) (d : Derivation_data) (f : SearchFault) → IsCanonical sub above bound d → SearchRefuses sub above bound f → f ≡ NoMemory }
-    ensures few { (sub above : Machine_data) (bound : ℕ) (d : Derivation_data) → IsCanonical sub above bound d → length d.nodes ≤ MOST_CANDIDATES }
+    ensures bounded { (sub above : Machine_data) (bound : ℕ) (d : Derivation_data) → IsCanonical sub above bound d → length d.nodes ≤ MOST_CANDIDATES }
 {}
 
 /// The start is a candidate, and no candidate owes more than the bound. The start survives where it is that of a

@@ -8,7 +8,7 @@ mod itself;
 pub mod laws;
 mod nodes;
 mod searches;
-mod survey;
+mod survivors;
 mod table;
 mod turns;
 

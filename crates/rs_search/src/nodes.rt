@@ -2,16 +2,16 @@
 ghost use Rattle.std.specs.Prelude.{◌≡◌, ◌<◌, ◌++◌, ◌∷◌, [], ℕ, IfOk, OnOk, length, if◌then◌else◌};
 ghost use Rattle.rs_graph.specs.Lists.{Among};
 ghost use Rattle.rs_derive.specs.Derivations.{spot_of};
-ghost use Rattle.rs_search.specs.Nodes.{AreKept, AreNodes, node_of};
+ghost use Rattle.rs_search.specs.Nodes.{AreKept, AreNodes, node_at_spot};
 
 use crate::table::SpotTable;
 use rs_derive::DNode;
-use rs_graph::Row;
+use rs_graph::NodeRow;
 use rs_model::NoMemory;
 use std::alloc::Global;
 
-fn make_node(alloc: Global, at: &DNode, rank: u32, row: &Row) -> Result<DNode, NoMemory>
-    ensures { IfOk result (λ n. n ≡ node_of (spot_of at.now) rank row.now) }
+fn make_node(alloc: Global, at: &DNode, rank: u32, row: &NodeRow) -> Result<DNode, NoMemory>
+    ensures { IfOk result (λ n. n ≡ node_at_spot (spot_of at.now) rank row.now) }
 {
     Ok(DNode {
         state: at.state,
@@ -28,9 +28,9 @@ fn push_node(
     nodes: &mut Vec<DNode>,
     at: &DNode,
     rank: u32,
-    row: &Row,
+    row: &NodeRow,
 ) -> Result<(), NoMemory>
-    ensures { OnOk result (nodes.new.items ≡ nodes.old.items ++ node_of (spot_of at.now) rank row.now ∷ []) }
+    ensures { OnOk result (nodes.new.items ≡ nodes.old.items ++ node_at_spot (spot_of at.now) rank row.now ∷ []) }
 {
     let node = make_node(alloc, at, rank, row)?;
     nodes.push(node)?;
@@ -42,7 +42,7 @@ pub fn nodes_of(
     alloc: Global,
     table: &SpotTable,
     items: &[u32],
-    nexts: &[Row],
+    nexts: &[NodeRow],
     ranks: &[u32],
 ) -> Result<Vec<DNode>, NoMemory>
     requires within { (n : ℕ) → Among items.now n → n < length table.now.spots }
@@ -63,8 +63,8 @@ pub fn kept_rows(
     alloc: Global,
     keeps: &[bool],
     items: &[u32],
-    nexts: &[Row],
-) -> Result<Vec<Row>, NoMemory>
+    nexts: &[NodeRow],
+) -> Result<Vec<NodeRow>, NoMemory>
     requires within { (n : ℕ) → Among items.now n → n < length keeps.now }
     requires nexts { length nexts.now ≡ length items.now }
     ensures { IfOk result (λ v. AreKept keeps.now items.now nexts.now (length items.now) v.items) }
@@ -76,12 +76,12 @@ pub fn kept_rows(
     Ok(kept)
 }
 
-fn kept_row(alloc: Global, keeps: bool, row: &Row) -> Result<Row, NoMemory>
+fn kept_row(alloc: Global, keeps: bool, row: &NodeRow) -> Result<NodeRow, NoMemory>
     ensures { IfOk result (λ r. r ≡ (if keeps then row.now else [])) }
 {
     if keeps {
         row.copy(alloc)
     } else {
-        Ok(Row::new(alloc))
+        Ok(NodeRow::new(alloc))
     }
 }

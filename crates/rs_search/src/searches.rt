@@ -6,17 +6,17 @@ ghost use Rattle.rs_graph.specs.Ranks.{Edge};
 ghost use Rattle.rs_search.specs.Canonical.{IsCanonical, SearchRefuses};
 ghost use Rattle.rs_search.specs.Costs.{Costs, IsWithinCost};
 ghost use Rattle.rs_search.specs.Forward.{AreForward};
-ghost use Rattle.rs_search.specs.Found.{AreFound};
+ghost use Rattle.rs_search.specs.Found.{AreFoundCandidates};
 
 use crate::SearchFault;
 use crate::forward::forward_ranks;
-use crate::found::{Candidates, Fault};
+use crate::found::{Candidates, SearchStop};
 use crate::itself::search_itself;
 use crate::nodes::{kept_rows, nodes_of};
-use crate::survey::{candidates_of, explore};
+use crate::survivors::{candidates_of, explore};
 use crate::table::SpotTable;
 use rs_derive::Derivation;
-use rs_graph::{RankFault, Steps, number_all, rank_rows};
+use rs_graph::{RankFault, StepCount, number_all, rank_rows};
 use rs_model::Machine;
 use std::alloc::Global;
 use std::marker::Brand;
@@ -38,8 +38,8 @@ pub fn search(
     if bound > 0 && sub.same(above) {
         match search_itself(alloc, sub, bound) {
             Ok(derivation) => return Ok(derivation),
-            Err(Fault::Memory) => return Err(SearchFault::NoMemory),
-            Err(Fault::TooLarge) => {}
+            Err(SearchStop::Memory) => return Err(SearchFault::NoMemory),
+            Err(SearchStop::TooLarge) => {}
         }
     }
     search_by::<Brand>(alloc, sub, above, bound, Blank::new(1))
@@ -60,7 +60,7 @@ fn search_by<L: Ledger>(
     ensures ok { IfOk result (λ d. IsCanonical sub.now above.now bound d) }
     ensures err { IfErr result (λ e. SearchRefuses sub.now above.now bound e) }
 {
-    let mut steps: Steps<L> = Steps::new(blank);
+    let mut steps: StepCount<L> = StepCount::new(blank);
     search_counted(alloc, sub, above, bound, &mut steps)
 }
 
@@ -71,7 +71,7 @@ pub fn search_counted<L: Ledger>(
     sub: &Machine,
     above: &Machine,
     bound: u8,
-    steps: &mut Steps<L>,
+    steps: &mut StepCount<L>,
 ) -> Result<Derivation, SearchFault>
     requires ours { IsProper sub.now }
     requires theirs { IsProper above.now }
@@ -98,7 +98,7 @@ pub fn search_counted<L: Ledger>(
 // Whether none of the candidates chooses, and all edges that keep their head lead to greater numbers; then each has its
 // rank.
 fn has_plain_ranks(choosing: bool, keeps: &[bool], table: &mut SpotTable) -> bool
-    requires few { length table.old.rows < 2 ^ 32 }
+    requires bounded { length table.old.rows < 2 ^ 32 }
     requires known { length table.old.rows ≡ length table.old.spots }
     requires keeps { length keeps.now ≡ length table.old.rows }
     requires within { (n j : ℕ) → Edge table.old.rows n j → j < length table.old.rows }
@@ -117,28 +117,28 @@ fn search_among<L: Ledger>(
     above: &Machine,
     bound: u8,
     found: Candidates,
-    steps: &mut Steps<L>,
+    steps: &mut StepCount<L>,
 ) -> Result<Derivation, SearchFault>
     requires theirs { IsProper above.now }
-    requires found { AreFound sub.now above.now bound found }
-    requires few { length found.table.spots ≤ MOST_CANDIDATES }
+    requires found { AreFoundCandidates sub.now above.now bound found }
+    requires bounded { length found.table.spots ≤ MOST_CANDIDATES }
     ensures ok { IfOk result (λ d. IsCanonical sub.now above.now bound d) }
     ensures err { IfErr result (λ e. SearchRefuses sub.now above.now bound e) }
     ensures steps { OnOk result (IsWithinCost sub.now above.now bound steps.old steps.new) }
     ensures cost { IfErr result (λ e. Costs sub.now above.now bound e steps.old steps.new) }
 {
-    let survey = match explore(alloc, sub, above, bound, found, steps) {
-        Ok(survey) => survey,
+    let survivors = match explore(alloc, sub, above, bound, found, steps) {
+        Ok(survivors) => survivors,
         Err(fault) => return Err(fault),
     };
-    let current = survey.left.current.as_slice();
-    let numbers = match number_all(alloc, &survey.graph, current, steps) {
+    let current = survivors.left.current.as_slice();
+    let numbers = match number_all(alloc, &survivors.graph, current, steps) {
         Ok(numbers) => numbers,
         Err(_) => return Err(SearchFault::NoMemory),
     };
     let items = numbers.items.as_slice();
     let nexts = numbers.nexts.as_slice();
-    let kept = match kept_rows(alloc, survey.found.keeps.as_slice(), items, nexts) {
+    let kept = match kept_rows(alloc, survivors.found.keeps.as_slice(), items, nexts) {
         Ok(kept) => kept,
         Err(_) => return Err(SearchFault::NoMemory),
     };
@@ -147,7 +147,13 @@ fn search_among<L: Ledger>(
         Err(RankFault::OnCycle { node }) => return Err(SearchFault::Forgets { node }),
         Err(RankFault::Memory) => return Err(SearchFault::NoMemory),
     };
-    match nodes_of(alloc, &survey.found.table, items, nexts, ranks.as_slice()) {
+    match nodes_of(
+        alloc,
+        &survivors.found.table,
+        items,
+        nexts,
+        ranks.as_slice(),
+    ) {
         Ok(nodes) => Ok(Derivation {
             role: sub.role,
             bound,

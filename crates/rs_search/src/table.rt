@@ -1,19 +1,19 @@
 //! Spots, numbered in order of first sight and found again by an index.
-ghost use Rattle.std.specs.Prelude.{◌≡◌, ◌≢◌, ◌<◌, ◌≤◌, ◌+◌, ◌^◌, [], ◌∷◌, ◌++◌, List, ℕ, OnOk, OnErr, IfOk, IfErr, MatchOption, length, map, slice_get, Some, replicate, true, false, slice_index_or};
+ghost use Rattle.std.specs.Prelude.{◌≡◌, ◌≢◌, ◌<◌, ◌≤◌, ◌+◌, ◌^◌, [], ◌∷◌, ◌++◌, List, ℕ, OnOk, OnErr, IfOk, IfErr, MatchOption, MatchResult, length, slice_get, Some, replicate, true, false};
 ghost use Rattle.rs_derive.specs.Checks.{owed_behind, target_spot};
 ghost use Rattle.rs_derive.specs.Data.{DNode_data};
 ghost use Rattle.rs_derive.specs.Derivations.{spot_of};
 ghost use Rattle.rs_derive.specs.Moves.{Spot, spot};
 ghost use Rattle.rs_derive.specs.Within.{IsPlaceWithin};
-ghost use Rattle.rs_search.specs.Buckets.{act_code, acts_code, bucket_by, bucket_of, codes_of};
-ghost use Rattle.rs_search.specs.Index.{AreChained, Chained};
+ghost use Rattle.rs_search.specs.Buckets.{act_code, acts_code, bucket_by, bucket_of_spot, codes_of};
+ghost use Rattle.rs_model.specs.Chains.{AllAreChained, IsChained};
 ghost use Rattle.rs_search.specs.Nodes.{AreNodes, places_of};
-ghost use Rattle.rs_search.specs.Table.{codes_in, links_of, spots_of};
-ghost use Rattle.rs_search.specs.declared.found.Fault.TheVariants.{TooLarge, Memory};
+ghost use Rattle.rs_search.specs.Table.{GoesBefore, IsBucketCount, IsFiled, StaysFiled, codes_in, links_of, spots_of};
+ghost use Rattle.rs_search.specs.declared.found.SearchStop.TheVariants.{TooLarge, Memory};
 
-use crate::found::Fault;
-use rs_derive::{Change, DNode, Target, is_target};
-use rs_graph::Row;
+use crate::found::SearchStop;
+use rs_derive::{Change, DNode, EdgeTarget, is_target};
+use rs_graph::NodeRow;
 use rs_model::{Act, NoMemory};
 use rs_prefix::Pending;
 use std::alloc::Global;
@@ -88,9 +88,9 @@ fn code_without(pending: &[Act], place: usize) -> u64
 #[inline(always)]
 fn bucket_by(size: usize, code: u64, state: u32, above: u32) -> usize
     requires some { 0 < size }
-    requires few { size < 2 ^ 32 }
+    requires bounded { size < 2 ^ 32 }
     ensures within { result < size }
-    ensures is { result ≡ bucket_by size code state above }
+    ensures bucket { result ≡ bucket_by size code state above }
 {
     let states = u64::from(state) * STATE_FACTOR + u64::from(above);
     let mixed = code.wrapping_mul(CODE_FACTOR).wrapping_add(states);
@@ -124,11 +124,11 @@ pub struct SpotTable {
 
 impl Model for SpotTable {
     ghost use Rattle.std.specs.Prelude.{take};
-    ghost use Rattle.rs_search.specs.Table.{IsTable, SpotTable_data, nexts_of, ranks_of, spots_of};
+    ghost use Rattle.rs_search.specs.Table.{IsTable, SpotTable_data, nexts_of_nodes, ranks_of, spots_of};
 
     ghost Value = { SpotTable_data };
 
-    ghost view = { λ t. record { spots = spots_of t.nodes.items; rows = take t.known (nexts_of t.nodes.items); ranks = ranks_of t.nodes.items } };
+    ghost view = { λ t. record { spots = spots_of t.nodes.items; rows = take t.known (nexts_of_nodes t.nodes.items); ranks = ranks_of t.nodes.items } };
 
     ghost invariant = { λ t. IsTable t.nodes.items t.index.heads.items t.index.entries.items t.known };
 }
@@ -143,7 +143,7 @@ fn empty_heads(alloc: Global, size: usize) -> Result<Vec<u32>, NoMemory>
 // Whether the node is at the spot of the target.
 #[tactic(auto, using(crate::proofs::Same::spot_is, crate::proofs::Same::not_spot))]
 #[inline(always)]
-fn is_at(node: &DNode, pending: &[Act], target: Target) -> bool
+fn is_at(node: &DNode, pending: &[Act], target: EdgeTarget) -> bool
     requires { IsPlaceWithin (length pending.now) target.change }
     ensures same { result ≡ true → spot_of node.now ≡ target_spot pending.now target }
     ensures other { result ≡ false → spot_of node.now ≢ target_spot pending.now target }
@@ -158,13 +158,13 @@ fn seek(
     entries: &[Entry],
     head: u32,
     pending: &[Act],
-    target: Target,
+    target: EdgeTarget,
 ) -> Option<u32>
     requires size { length entries.now ≡ length nodes.now }
     requires within { head ≤ length nodes.now }
     requires falls { (m next : ℕ) → slice_get (links_of entries.now) m ≡ Some next → next ≤ m }
     requires place { IsPlaceWithin (length pending.now) target.change }
-    ensures { MatchOption result ((n : ℕ) → Chained (links_of entries.now) head n → slice_get (spots_of nodes.now) n ≢ Some (target_spot pending.now target))
+    ensures { MatchOption result ((n : ℕ) → IsChained (links_of entries.now) head n → slice_get (spots_of nodes.now) n ≢ Some (target_spot pending.now target))
         (λ n. slice_get (spots_of nodes.now) n ≡ Some (target_spot pending.now target)) }
 {
     let mut left = head;
@@ -193,7 +193,7 @@ fn pending_behind(alloc: Global, pending: &Pending, change: Change) -> Result<Pe
 
 // The node at the spot of the target, without rank and nexts.
 #[inline(always)]
-fn node_at(alloc: Global, pending: &Pending, target: Target) -> Result<DNode, NoMemory>
+fn node_at(alloc: Global, pending: &Pending, target: EdgeTarget) -> Result<DNode, NoMemory>
     requires { IsPlaceWithin (length pending.now) target.change }
     ensures spot { IfOk result (λ node. spot_of node ≡ target_spot pending.now target) }
 {
@@ -202,7 +202,7 @@ fn node_at(alloc: Global, pending: &Pending, target: Target) -> Result<DNode, No
         pending: pending_behind(alloc, pending, target.change)?,
         above: target.above,
         rank: 0,
-        next: Row::new(alloc),
+        next: NodeRow::new(alloc),
     })
 }
 
@@ -214,20 +214,14 @@ fn add(
     node: DNode,
     entry: Entry,
     bucket: usize,
-) -> Result<(), Fault>
-    requires within { bucket < length index.old.heads.items }
-    requires link { entry.link ≡ slice_index_or index.old.heads.items bucket 0 }
+) -> Result<(), SearchStop>
+    requires before { GoesBefore index.old.heads.items bucket node entry }
     requires fits { length nodes.old.items + 1 < 2 ^ 32 }
-    requires is { bucket ≡ bucket_of (length index.old.heads.items) (spot_of node) }
-    requires chained { AreChained (bucket_of (length index.old.heads.items)) (spots_of nodes.old.items) index.old.heads.items (links_of index.old.entries.items) }
-    ensures nodes { OnOk result (nodes.new.items ≡ nodes.old.items ++ node ∷ []) }
-    ensures codes { OnOk result (codes_in index.new.entries.items ≡ codes_in index.old.entries.items ++ entry.code ∷ []) }
-    ensures chained { OnOk result (AreChained (bucket_of (length index.old.heads.items)) (spots_of nodes.new.items) index.new.heads.items (links_of index.new.entries.items)) }
+    requires chained { AllAreChained (bucket_of_spot (length index.old.heads.items)) (spots_of nodes.old.items) index.old.heads.items (links_of index.old.entries.items) }
+    ensures filed { OnOk result (IsFiled nodes.old.items nodes.new.items index.old.entries.items index.new.entries.items index.new.heads.items (length index.old.heads.items) node entry) }
     ensures size { length index.new.heads.items ≡ length index.old.heads.items }
     ensures err { IfErr result (λ e. e ≡ Memory) }
-    ensures same_nodes { OnErr result (nodes.new.items ≡ nodes.old.items) }
-    ensures same_heads { OnErr result (index.new.heads.items ≡ index.old.heads.items) }
-    ensures same_entries { OnErr result (index.new.entries.items ≡ index.old.entries.items) }
+    ensures stays { OnErr result (StaysFiled nodes.old.items nodes.new.items index.old.heads.items index.new.heads.items index.old.entries.items index.new.entries.items) }
 {
     nodes.reserve(1)?;
     index.entries.reserve(1)?;
@@ -238,6 +232,20 @@ fn add(
     Ok(())
 }
 
+// The number, if it is below the limit.
+#[inline(always)]
+fn number_within(n: usize, limit: usize) -> Result<u32, SearchStop>
+    requires within { n ≤ limit }
+    requires fits { limit < 2 ^ 32 }
+    ensures number { IfOk result (λ m. m ≡ n) }
+    ensures limit { MatchResult result (λ _. n < limit) (λ _. limit ≤ n) }
+{
+    if n == limit {
+        return Err(SearchStop::TooLarge);
+    }
+    Ok(n as u32)
+}
+
 // The heads of the chains of all nodes in so many buckets; the links are made anew.
 fn new_heads(
     alloc: Global,
@@ -245,13 +253,12 @@ fn new_heads(
     entries: &mut Vec<Entry>,
     buckets: usize,
 ) -> Result<Vec<u32>, NoMemory>
-    requires some { 0 < buckets }
-    requires few { buckets < 2 ^ 32 }
+    requires buckets { IsBucketCount buckets }
     requires fits { length nodes.now < 2 ^ 32 }
     requires coded { codes_in entries.old.items ≡ codes_of (spots_of nodes.now) }
     ensures codes { codes_in entries.new.items ≡ codes_in entries.old.items }
     ensures size { IfOk result (λ heads. length heads.items ≡ buckets) }
-    ensures chained { IfOk result (λ heads. AreChained (bucket_of buckets) (spots_of nodes.now) heads.items (links_of entries.new.items)) }
+    ensures chained { IfOk result (λ heads. AllAreChained (bucket_of_spot buckets) (spots_of nodes.now) heads.items (links_of entries.new.items)) }
     ensures same { OnErr result (entries.new.items ≡ entries.old.items) }
 {
     let mut heads = empty_heads(alloc, buckets)?;
@@ -267,12 +274,12 @@ fn new_heads(
 }
 
 impl SpotTable {
-    ghost use Rattle.std.specs.Prelude.{◌≡◌, ◌<◌, ◌≤◌, ◌+◌, ◌^◌, [], ◌∷◌, ◌++◌, OnOk, IfOk, IfErr, length, slice_get, slice_set, Some};
+    ghost use Rattle.std.specs.Prelude.{◌≡◌, ◌<◌, ◌≤◌, ◌+◌, ◌^◌, [], ◌∷◌, ◌++◌, IfOk, MatchResult, length, slice_get, slice_set, Some};
     ghost use Rattle.rs_derive.specs.Derivations.{spot_of};
     ghost use Rattle.rs_derive.specs.Moves.{spot};
     ghost use Rattle.rs_search.specs.Nodes.{AreNodes, places_of};
-    ghost use Rattle.rs_search.specs.Table.{AddsAt, IsAddedAt, IsWithinAt};
-    ghost use Rattle.rs_search.specs.declared.found.Fault.TheVariants.{TooLarge};
+    ghost use Rattle.rs_search.specs.Table.{AddsAt, IsBucketCount, IsNamedAt, IsWithinAt, StandsWithin};
+    ghost use Rattle.rs_search.specs.declared.found.SearchStop.TheVariants.{TooLarge};
 
     /// The spot with these states and nothing owed, in so many buckets, with room for so many spots.
     pub fn new(
@@ -283,7 +290,7 @@ impl SpotTable {
         room: usize,
     ) -> Result<SpotTable, NoMemory>
         requires some { 0 < buckets }
-        requires few { buckets < 2 ^ 32 }
+        requires bounded { buckets < 2 ^ 32 }
         ensures spots { IfOk result (λ t. t.spots ≡ spot state [] above ∷ []) }
         ensures rows { IfOk result (λ t. t.rows ≡ []) }
     {
@@ -295,7 +302,7 @@ impl SpotTable {
             pending: Pending::new(alloc),
             above,
             rank: 0,
-            next: Row::new(alloc),
+            next: NodeRow::new(alloc),
         })?;
         entries.push(Entry { code: 0, link: 0 })?;
         heads[bucket_by(buckets, 0, state, above)] = 1;
@@ -317,7 +324,7 @@ impl SpotTable {
     /// Of how many it is known what they lead to.
     #[inline(always)]
     pub fn known(&self) -> usize
-        ensures is { result ≡ length self.now.rows }
+        ensures count { result ≡ length self.now.rows }
         ensures within { result ≤ length self.now.spots }
         ensures ranks { length self.now.ranks ≡ length self.now.spots }
     {
@@ -335,7 +342,7 @@ impl SpotTable {
 
     /// The numbers of what the spot with the number leads to.
     #[inline(always)]
-    pub fn row(&self, number: usize) -> &Row
+    pub fn row(&self, number: usize) -> &NodeRow
         requires { number < length self.now.rows }
         ensures { slice_get self.now.rows number ≡ Some result.now }
     {
@@ -369,20 +376,15 @@ impl SpotTable {
         &mut self,
         alloc: Global,
         k: usize,
-        target: Target,
+        target: EdgeTarget,
         limit: usize,
-    ) -> Result<u32, Fault>
-        requires limit { limit + 1 < 2 ^ 32 }
-        requires few { length self.old.spots ≤ limit }
-        requires there { k < length self.old.spots }
+    ) -> Result<u32, SearchStop>
+        requires within { StandsWithin self.old.spots k limit }
         requires place { IsWithinAt self.old.spots k target }
         ensures adds { AddsAt self.old.spots k target self.new.spots }
         ensures longer { length self.old.spots ≤ length self.new.spots }
-        ensures at { IfOk result (λ n. IsAddedAt self.old.spots k target self.new.spots n) }
-        ensures old { IfOk result (λ n. self.new.spots ≡ self.old.spots → n < length self.old.spots) }
-        ensures fresh { IfOk result (λ n. (self.new.spots ≡ self.old.spots → ⊥) → n ≡ length self.old.spots) }
-        ensures few { OnOk result (length self.new.spots ≤ limit) }
-        ensures large { IfErr result (λ e. e ≡ TooLarge → limit < length self.new.spots) }
+        ensures named { IfOk result (IsNamedAt self.old.spots k target self.new.spots) }
+        ensures limit { MatchResult result (λ _. length self.new.spots ≤ limit) (λ e. e ≡ TooLarge → limit < length self.new.spots) }
         ensures rows { self.new.rows ≡ self.old.rows }
     {
         let from = &self.nodes[k];
@@ -397,17 +399,13 @@ impl SpotTable {
         let n = self.nodes.len();
         let entry = Entry { code, link };
         add(&mut self.nodes, &mut self.index, node, entry, bucket)?;
-        if n == limit {
-            return Err(Fault::TooLarge);
-        }
-        Ok(n as u32)
+        number_within(n, limit)
     }
 
     /// Files the spots in so many buckets, once there are more of them than buckets.
     #[inline(always)]
     pub fn spread(&mut self, alloc: Global, buckets: usize) -> Result<(), NoMemory>
-        requires some { 0 < buckets }
-        requires few { buckets < 2 ^ 32 }
+        requires buckets { IsBucketCount buckets }
         requires fits { length self.old.spots < 2 ^ 32 }
         ensures spots { self.new.spots ≡ self.old.spots }
         ensures rows { self.new.rows ≡ self.old.rows }
@@ -422,8 +420,7 @@ impl SpotTable {
 
     #[inline(never)]
     fn refile(&mut self, alloc: Global, buckets: usize) -> Result<(), NoMemory>
-        requires some { 0 < buckets }
-        requires few { buckets < 2 ^ 32 }
+        requires buckets { IsBucketCount buckets }
         requires fits { length self.old.spots < 2 ^ 32 }
         ensures spots { self.new.spots ≡ self.old.spots }
         ensures rows { self.new.rows ≡ self.old.rows }
@@ -436,7 +433,7 @@ impl SpotTable {
 
     /// Notes what the first spot of which it isn't known leads to.
     #[inline(always)]
-    pub fn push_row(&mut self, row: Row)
+    pub fn push_row(&mut self, row: NodeRow)
         requires { length self.old.rows < length self.old.spots }
         ensures spots { self.new.spots ≡ self.old.spots }
         ensures rows { self.new.rows ≡ self.old.rows ++ row ∷ [] }
@@ -448,7 +445,7 @@ impl SpotTable {
     }
 
     /// What each spot leads to, in memory of its own.
-    pub fn copy_rows(&self, alloc: Global) -> Result<Vec<Row>, NoMemory>
+    pub fn copy_rows(&self, alloc: Global) -> Result<Vec<NodeRow>, NoMemory>
         ensures { IfOk result (λ v. v.items ≡ self.now.rows) }
     {
         let count = self.known();

@@ -2,23 +2,23 @@
 ghost use Rattle.std.specs.Prelude.{◌≡◌, ◌<◌, ◌≤◌, ◌^◌, ◌==◌, ◌&&◌, ℕ, List, IfSome, length, not, Some, None, true, false};
 ghost use Rattle.rs_model.specs.declared.machines.Act.{Act};
 ghost use Rattle.rs_derive.specs.Checks.{target_spot};
-ghost use Rattle.rs_derive.specs.Due.{due_at};
+ghost use Rattle.rs_derive.specs.Due.{due_at, due_by};
 ghost use Rattle.rs_derive.specs.Moves.{spot};
-ghost use Rattle.rs_derive.specs.Rules.{RuleFits, arms_at, due_by};
+ghost use Rattle.rs_derive.specs.Rules.{RuleFits, arms_at};
 ghost use Rattle.rs_prefix.specs.Earliest.{without};
 ghost use Rattle.rs_derive.specs.Derivations.{IsProper, spot_of};
 ghost use Rattle.rs_derive.specs.Within.{HasLabelsOnce, IsPlaceWithin};
 ghost use Rattle.rs_derive.specs.declared.targets.Change.{Change};
-ghost use Rattle.rs_search.specs.Turns.{arms_in, turn_with_cut, cuts, may_choose, owing_by, turn_by_code, turn_of, turn_within};
+ghost use Rattle.rs_search.specs.Turns.{arms_of_state, turn_with_cut, cuts, may_choose, owing_by, turn_by_code, turn_of, turn_within};
 
-use rs_derive::{Change, DNode, Rule, Target, arms_at, rule_at};
+use rs_derive::{Change, DNode, EdgeTarget, Rule, arms_at, rule_at};
 use rs_model::{Act, Arm, Machine, Role, State};
-use rs_prefix::{Kind, Pending};
+use rs_prefix::{ActKind, Pending};
 
 /// What a spot can do. Each of the spots to which the rule leads is a move of its own where `any`; else all together are the
 /// one move. `keeps` tells whether its edges keep the oldest act that is owed, and `cut` whether the bound takes its moves away.
 #[derive(Clone, Copy, Debug)]
-pub struct Turn {
+pub struct SpotMoves {
     pub cut: bool,
     pub any: bool,
     pub keeps: bool,
@@ -34,12 +34,12 @@ pub fn turn_within(
     p: &DNode,
     arms: &[Arm],
     theirs: &[Arm],
-) -> Turn
+) -> SpotMoves
     requires state { p.now.state < length sub.now.states }
-    requires there { p.now.above < length above.now.states }
+    requires present { p.now.above < length above.now.states }
     requires short { length p.now.pending ≤ bound }
-    requires arms { arms.now ≡ arms_in sub.now p.now.state }
-    requires theirs { theirs.now ≡ arms_in above.now p.now.above }
+    requires arms { arms.now ≡ arms_of_state sub.now p.now.state }
+    requires theirs { theirs.now ≡ arms_of_state above.now p.now.above }
     ensures turn { turn_by_code (spot_of p.now) arms.now theirs.now result ≡ turn_within sub.now above.now bound (spot_of p.now) }
     ensures fits { IfSome result.rule (λ rule. RuleFits p.now.pending arms.now theirs.now rule) }
 {
@@ -49,7 +49,14 @@ pub fn turn_within(
 }
 
 #[inline(always)]
-fn turn_at(bound: u8, p: &DNode, state: &State, there: &State, arms: &[Arm], theirs: &[Arm]) -> Turn
+fn turn_at(
+    bound: u8,
+    p: &DNode,
+    state: &State,
+    there: &State,
+    arms: &[Arm],
+    theirs: &[Arm],
+) -> SpotMoves
     requires short { length p.now.pending ≤ bound }
     requires arms { arms.now ≡ arms_at state.now }
     requires theirs { theirs.now ≡ arms_at there.now }
@@ -63,7 +70,7 @@ fn turn_at(bound: u8, p: &DNode, state: &State, there: &State, arms: &[Arm], the
 }
 
 #[inline(always)]
-fn rule_within(bound: u8, p: &DNode, rule: Rule, arms: &[Arm], theirs: &[Arm]) -> Turn
+fn rule_within(bound: u8, p: &DNode, rule: Rule, arms: &[Arm], theirs: &[Arm]) -> SpotMoves
     requires fits { RuleFits p.now.pending arms.now theirs.now rule }
     requires short { length p.now.pending ≤ bound }
     ensures turn { turn_by_code (spot_of p.now) arms.now theirs.now result ≡ turn_with_cut bound (turn_of (Some (due_by (spot_of p.now) arms.now theirs.now rule))) }
@@ -72,7 +79,7 @@ fn rule_within(bound: u8, p: &DNode, rule: Rule, arms: &[Arm], theirs: &[Arm]) -
     if is_cut(bound, &p.pending, theirs, rule) {
         return no_turn(true);
     }
-    Turn {
+    SpotMoves {
         cut: false,
         any: may_choose(arms, theirs, rule),
         keeps: rule.keeps_head(&p.pending),
@@ -82,10 +89,10 @@ fn rule_within(bound: u8, p: &DNode, rule: Rule, arms: &[Arm], theirs: &[Arm]) -
 
 /// The arms of a state of the machine.
 #[inline(always)]
-pub fn arms_in(machine: &Machine, state: u32) -> &[Arm]
+pub fn arms_of_state(machine: &Machine, state: u32) -> &[Arm]
     requires proper { IsProper machine.now }
     requires state { state < length machine.now.states }
-    ensures arms { result.now ≡ arms_in machine.now state }
+    ensures arms { result.now ≡ arms_of_state machine.now state }
     ensures once { HasLabelsOnce result.now }
 {
     arms_at(&machine.states[state as usize])
@@ -112,10 +119,10 @@ fn may_choose(arms: &[Arm], theirs: &[Arm], rule: Rule) -> bool
     }
 }
 
-fn no_turn(cut: bool) -> Turn
+fn no_turn(cut: bool) -> SpotMoves
     ensures { (result.cut ≡ cut) × (result.any ≡ true) × (result.keeps ≡ false) × (result.rule ≡ None) }
 {
-    Turn {
+    SpotMoves {
         cut,
         any: true,
         keeps: false,
@@ -133,11 +140,11 @@ pub fn has_choice(any: bool, spots: usize) -> bool
 
 /// Where making the act that is owed at the place leads.
 #[inline(always)]
-pub fn target_behind_payment(p: &DNode, place: usize, arm: Arm) -> Target
+pub fn target_behind_payment(p: &DNode, place: usize, arm: Arm) -> EdgeTarget
     ensures spot { (pending : List Act) → target_spot pending result ≡ spot arm.next (without pending place) p.now.above }
     ensures change { result.change ≡ Change.Without place }
 {
-    Target {
+    EdgeTarget {
         state: arm.next,
         change: Change::Without(place),
         above: p.above,
@@ -146,11 +153,11 @@ pub fn target_behind_payment(p: &DNode, place: usize, arm: Arm) -> Target
 
 /// Where arms that both send lead.
 #[inline(always)]
-pub fn target_of_both(arm: Arm, their: Arm) -> Target
+pub fn target_of_both(arm: Arm, their: Arm) -> EdgeTarget
     ensures spot { (pending : List Act) → target_spot pending result ≡ spot arm.next pending their.next }
     ensures change { result.change ≡ Change.Same }
 {
-    Target {
+    EdgeTarget {
         state: arm.next,
         change: Change::Same,
         above: their.next,
@@ -159,7 +166,7 @@ pub fn target_of_both(arm: Arm, their: Arm) -> Target
 
 /// Where an arm by which the projection has sent or received leads: the machine stays where it is, and owes the act.
 #[inline(always)]
-pub fn target_owing(p: &DNode, kind: Kind, peer: Role, arm: Arm) -> Target
+pub fn target_owing(p: &DNode, kind: ActKind, peer: Role, arm: Arm) -> EdgeTarget
     ensures spot { target_spot p.now.pending result ≡ owing_by kind (spot_of p.now) peer arm }
     ensures within { (count : ℕ) → IsPlaceWithin count result.change }
     ensures label { arm.label.0 < 2 ^ 16 }
@@ -167,10 +174,10 @@ pub fn target_owing(p: &DNode, kind: Kind, peer: Role, arm: Arm) -> Target
     let label = arm.label;
     let sort = arm.sort;
     let act = match kind {
-        Kind::Send => Act::Puts { peer, label, sort },
-        Kind::Receive => Act::Takes { peer, label, sort },
+        ActKind::Send => Act::Puts { peer, label, sort },
+        ActKind::Receive => Act::Takes { peer, label, sort },
     };
-    Target {
+    EdgeTarget {
         state: p.state,
         change: Change::With(act),
         above: arm.next,

@@ -1,21 +1,27 @@
 -- The passes of first stages.
-use Rattle.std.proofs.Common.{◌≡◌, ◌≢◌, inl, inr, ℕ, ◌+◌, ◌<◌, Bool, true, false, if◌then◌else◌, List, [], ◌∷◌, length, Option, Some, None, IsSome, slice_get, refl, sym, ap, ◌∙◌, ◌++◌, subst, arith, rules, eq-eqb, length-append}
+use Rattle.std.proofs.Common.{◌≡◌, ◌≢◌, inl, inr, ℕ, ◌+◌, ◌<◌, ◌≤◌, Bool, true, false, if◌then◌else◌, List, [], ◌∷◌, length, Option, Some, IsSome, slice_get, refl, sym, ap, ◌∙◌, ◌++◌, subst}
+use Rattle.std.proofs.Common.{arith, rules, eq-eqb, length-append}
 use Rattle.std.proofs.lemmas.Bool.Decides.{eqb_tells}
-use Rattle.std.proofs.lemmas.Option.{slice_get_within}
 use Rattle.rs_model.proofs.Lists.{item_at}
 use Rattle.rs_model.specs.Data.{Machine_data}
 use Rattle.rs_core.specs.Choices.{AreWellFormed}
 use Rattle.rs_core.specs.Configurations.{state_of}
-use Rattle.rs_rings.specs.Views.{speaks, the_part, part_of, start_of, starting, view_without_role, alone}
+use Rattle.rs_rings.specs.Views.{SpeaksFor, first_part, speaks, the_part, part_of, start_of, starting, view_without_role, alone}
 use Rattle.rs_rings.specs.declared.views.Part.{Part}
 use Rattle.rs_rings.specs.declared.views.View.{View}
 use Rattle.rs_rings.proofs.Parts.{the_role}
 use Rattle.rs_rings.proofs.Seats.{speaks_one, speaks_without, speaks_gone, the_without, first_speaks, first_part_is, first_below}
 use Rattle.rs_rings.specs.Passes.{Rings_data}
 use Rattle.rs_session.specs.Stages.{AreFirst, IsOf, first_stage, sight_of_stage}
-use Rattle.rs_session.specs.Standing.{AreFirstFrom, IsFirst}
+use Rattle.rs_session.specs.Standing.{IsFirst}
 use Rattle.rs_session.specs.declared.stages.Stage.{Stage}
 use Rattle.rs_session.proofs.HandedIn.{at_end, in_front}
+
+-- the pass speaks for the roles from number k on, each of which has done nothing
+pub record AreFirstFrom (machines : List Machine_data) (k : ℕ) (view : View) : Type 0 where
+  pub speaks : (r : ℕ) → k ≤ r → r < length machines → SpeaksFor view r
+  pub first : (r : ℕ) → k ≤ r → r < length machines → part_of view r ≡ first_part machines r
+  pub only : (r : ℕ) → SpeaksFor view r → (k ≤ r) × (r < length machines)
 
 pub all_first : (machines : List Machine_data) (view : View) → view ≡ starting machines → AreFirstFrom machines 0 view
 all_first machines view is = subst (AreFirstFrom machines 0) (sym is) record {
@@ -46,22 +52,6 @@ own_first machines k v w all below is =
       first = subst (λ (b : Bool). (if b then the_part k v.parts else the_part k []) ≡ the_part k v.parts) (sym same) refl ∙ all.first k (omega arith) below;
     }
 
-pub last_first : (machines : List Machine_data) (k : ℕ) (v : View) → AreFirstFrom machines k v → k + 1 ≡ length machines → IsFirst machines k v
-last_first machines k v all last = record {
-  below = omega arith;
-  speaks = all.speaks k (omega arith) (omega arith);
-  only = λ y says. (let at = all.only y says in omega arith);
-  first = all.first k (omega arith) (omega arith);
-}
-
--- the role of a machine's state is below their number, and the state's number below that of its states
-pub role_below : (machines : List Machine_data) (r s : ℕ) → IsSome (state_of (slice_get machines r) s) → r < length machines
-role_below machines r s is = by (slice_get machines r) refl is
-  where
-    by : (o : Option Machine_data) → slice_get machines r ≡ o → IsSome (state_of o s) → r < length machines
-    by None e none = absurd (search rules)
-    by (Some m) e some' = slice_get_within machines r m e
-
 pub is_some : {A : Type 0} (o : Option A) (x : A) → o ≡ Some x → IsSome o
 is_some o x e = subst IsSome (sym e) (search rules)
 
@@ -69,7 +59,8 @@ is_some o x e = subst IsSome (sym e) (search rules)
 pub state_there : (machines : List Machine_data) (r s : ℕ) (m : Machine_data) → slice_get machines r ≡ Some m → s < length m.states → IsSome (state_of (slice_get machines r) s)
 state_there machines r s m is below = let at = item_at m.states s below in is_some (state_of (slice_get machines r) s) at.0 (ap (λ (o : Option Machine_data). state_of o s) is ∙ at.1)
 
-pub first_there : (machines : List Machine_data) (r : ℕ) (m : Machine_data) (view : View) → AreWellFormed machines → slice_get machines r ≡ Some m → IsFirst machines r view → IsSome (state_of (slice_get machines r) (part_of view r).state)
+pub first_there : (machines : List Machine_data) (r : ℕ) (m : Machine_data) (view : View) → AreWellFormed machines → slice_get machines r ≡ Some m → IsFirst machines r view
+    → IsSome (state_of (slice_get machines r) (part_of view r).state)
 first_there machines r m view well_formed is first =
     let at : (part_of view r).state ≡ m.start = ap (λ (z : Part). z.state) first.first ∙ ap start_of is in
     subst (λ (s : ℕ). IsSome (state_of (slice_get machines r) s)) (sym at) (state_there machines r m.start m is (well_formed.fits r m is).start)
@@ -79,7 +70,8 @@ pub record AreBegun (session : Rings_data) (n : ℕ) (stages : List Stage) : Typ
   pub count : length stages ≡ n
   pub each : (r : ℕ) → r < n → (stage : Stage) × (slice_get stages r ≡ Some stage) × IsOf session stage × (sight_of_stage stage ≡ first_stage session r)
 
-pub begun_more : (session : Rings_data) (n : ℕ) (stages stages' : List Stage) (stage : Stage) → AreBegun session n stages → IsOf session stage → sight_of_stage stage ≡ first_stage session n → stages' ≡ stages ++ stage ∷ [] → AreBegun session (n + 1) stages'
+pub begun_more : (session : Rings_data) (n : ℕ) (stages stages' : List Stage) (stage : Stage) → AreBegun session n stages → IsOf session stage → sight_of_stage stage ≡ first_stage session n
+    → stages' ≡ stages ++ stage ∷ [] → AreBegun session (n + 1) stages'
 begun_more session n stages stages' stage begun of first is = subst (AreBegun session (n + 1)) (sym is) record {
   count = length-append stages (stage ∷ []) ∙ ap (λ (k : ℕ). k + 1) begun.count;
   each = λ r below. elim (eqb_tells r n) [

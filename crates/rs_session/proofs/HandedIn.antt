@@ -1,6 +1,6 @@
 -- Stages that are handed in, and the pass that is joined of theirs.
-use Rattle.std.proofs.Common.{◌≡◌, ◌≢◌, ◌⊎◌, inl, inr, ⊎_elim, ℕ, zero, suc, ◌+◌, ◌<◌, ◌≤◌, Bool, true, false, List, [], ◌∷◌, ◌++◌, map, length, Some, slice_get, get_or, option_map, ◌==◌, eq-eqb, refl, sym, ap, ◌∙◌, subst, arith}
-use Rattle.std.proofs.lemmas.Bool.Decides.{eqb_tells}
+use Rattle.std.proofs.Common.{◌≡◌, ◌≢◌, ◌⊎◌, inl, inr, ⊎_elim, ℕ, zero, suc, ◌+◌, ◌<◌, ◌≤◌, Bool, true, false, List, [], ◌∷◌, ◌++◌, map, length, Some, slice_get, get_or, option_map, ◌==◌, eq-eqb}
+use Rattle.std.proofs.Common.{refl, sym, ap, ◌∙◌, subst, arith}
 use Rattle.std.proofs.lemmas.Option.{slice_get_read, slice_get_within, slice_get-map}
 use Rattle.rs_model.specs.declared.graph.Role.{Role}
 use Rattle.rs_model.specs.declared.machines.State.TheVariants.{Done}
@@ -66,25 +66,30 @@ there_or_last xs x r is = ⊎_elim
     (λ (e : x ≡ is.stage). inr (ap (λ (s : Stage_data). s.role.0) e ∙ is.role))
     (front_or_end xs x is.stage is.place is.stands)
 
-at_last : (all old rest : List Stage_data) (x : Stage_data) → old ≡ rest ++ x ∷ [] → ((place : ℕ) (stage : Stage_data) → slice_get old place ≡ Some stage → slice_get all place ≡ Some stage) → slice_get all (length rest) ≡ Some x
+at_last : (all old rest : List Stage_data) (x : Stage_data) → old ≡ rest ++ x ∷ [] → ((place : ℕ) (stage : Stage_data) → slice_get old place ≡ Some stage → slice_get all place ≡ Some stage)
+    → slice_get all (length rest) ≡ Some x
 at_last all old rest x is within = within (length rest) x (ap (λ (l : List Stage_data). slice_get l (length rest)) is ∙ at_end rest x)
 
-pub joined_first : (table : TableId) (all rest : List Stage_data) (x : Stage_data) (pass : Pass_data) → AreAll (λ s. s.table ≡ table) all → all ≡ rest ++ x ∷ [] → IsOwn x pass → IsJoined table all rest pass
+pub joined_first : (table : TableId) (all rest : List Stage_data) (x : Stage_data) (pass : Pass_data) → AreAll (λ s. s.table ≡ table) all → all ≡ rest ++ x ∷ [] → IsOwn x pass
+    → IsJoined table all rest pass
 joined_first table all rest x pass tables is own =
     let there : slice_get all (length rest) ≡ Some x = at_last all all rest x is (λ place stage e. e) in
     record {
       same = own.table ∙ tables (length rest) x there;
       within = λ place stage e. ap (λ (l : List Stage_data). slice_get l place) is ∙ in_front rest x stage place e;
-      speaks = λ r has. ⊎_elim (λ (t : IsThere rest r). inl t) (λ (e : x.role.0 ≡ r). inr (subst (SpeaksFor pass.view) e own.speaks)) (there_or_last rest x r (subst (λ (l : List Stage_data). IsThere l r) is has));
+      speaks = λ r has. ⊎_elim (λ (t : IsThere rest r). inl t) (λ (e : x.role.0 ≡ r). inr (subst (SpeaksFor pass.view) e own.speaks))
+          (there_or_last rest x r (subst (λ (l : List Stage_data). IsThere l r) is has));
       parts = λ r says. (let e : r ≡ x.role.0 = own.only r says in
           (record { place = length rest; stage = x; stands = there; role = sym e }, ap (part_of pass.view) e ∙ own.part));
     }
 
 -- the next stage's pass is of the same table
-pub next_table : (table : TableId) (all old rest : List Stage_data) (x : Stage_data) (pass own_pass : Pass_data) → AreAll (λ s. s.table ≡ table) all → old ≡ rest ++ x ∷ [] → IsJoined table all old pass → IsOwn x own_pass → own_pass.table ≡ table
+pub next_table : (table : TableId) (all old rest : List Stage_data) (x : Stage_data) (pass own_pass : Pass_data) → AreAll (λ s. s.table ≡ table) all → old ≡ rest ++ x ∷ []
+    → IsJoined table all old pass → IsOwn x own_pass → own_pass.table ≡ table
 next_table table all old rest x pass own_pass tables is so own = own.table ∙ tables (length rest) x (at_last all old rest x is so.within)
 
-pub joined_more : (table : TableId) (all old rest : List Stage_data) (x : Stage_data) (pass own_pass pass' : Pass_data) → old ≡ rest ++ x ∷ [] → IsJoined table all old pass → IsOwn x own_pass → pass'.table ≡ pass.table → pass'.view ≡ joint_view pass.view own_pass.view
+pub joined_more : (table : TableId) (all old rest : List Stage_data) (x : Stage_data) (pass own_pass pass' : Pass_data) → old ≡ rest ++ x ∷ [] → IsJoined table all old pass → IsOwn x own_pass
+    → pass'.table ≡ pass.table → pass'.view ≡ joint_view pass.view own_pass.view
     → IsJoined table all rest pass'
 joined_more table all old rest x pass own_pass pass' is so own same both =
     record {
@@ -118,15 +123,9 @@ joined_more table all old rest x pass own_pass pass' is so own same both =
 pub joined_all : (table : TableId) (all : List Stage_data) (pass : Pass_data) → IsJoined table all [] pass → (r : ℕ) → IsThere all r → SpeaksFor pass.view r
 joined_all table all pass so r has = ⊎_elim (λ (t : IsThere [] r). absurd (cc (t.stands))) (λ (t : SpeaksFor pass.view r). t) (so.speaks r has)
 
--- a role below the number after the next one
-pub one_more_there : (all : List Stage_data) (n : ℕ) → AreAllThere n all → IsThere all n → AreAllThere (n + 1) all
-one_more_there all n so there r below = elim (eqb_tells r n) [
-  | inl t ↦ subst (IsThere all) (sym t.1) there
-  | inr t ↦ so r (let ne = t.1 in omega arith)
-]
-
 -- what the closed rings know is what the joined pass knew
-pub knows_from : (all : List Stage_data) (session rings : Rings_data) (pass : Pass_data) (closed : Closed_data) → rings ≡ session → closed.machines ≡ rings.machines → closed.last ≡ pass.view → AreAllThere (length session.machines) all
+pub knows_from : (all : List Stage_data) (session rings : Rings_data) (pass : Pass_data) (closed : Closed_data) → rings ≡ session → closed.machines ≡ rings.machines → closed.last ≡ pass.view
+    → AreAllThere (length session.machines) all
     → ((r : ℕ) → IsThere all r → SpeaksFor pass.view r) → ((r : ℕ) → SpeaksFor pass.view r → (from : IsThere all r) × (part_of pass.view r ≡ from.stage.part)) → KnowsFrom all closed
 knows_from all session rings pass closed is machines last each speaks parts r below =
     let many : length closed.machines ≡ length session.machines = ap (length {A = Machine_data}) machines ∙ ap (λ (z : Rings_data). length z.machines) is in
@@ -139,7 +138,8 @@ of_table session (Sending s) of = of.table
 of_table session (Receiving s) of = of.table
 of_table session (Ended s) of = of.table
 
-shown_at : (stages : List Stage) (place : ℕ) (s : Stage_data) → slice_get (map sight_of_stage stages) place ≡ Some s → (stage : Stage) × (slice_get stages place ≡ Some stage) × (sight_of_stage stage ≡ s)
+shown_at : (stages : List Stage) (place : ℕ) (s : Stage_data) → slice_get (map sight_of_stage stages) place ≡ Some s
+    → (stage : Stage) × (slice_get stages place ≡ Some stage) × (sight_of_stage stage ≡ s)
 shown_at [] place s e = absurd (cc (e))
 shown_at (x ∷ xs) zero s e = (x, refl, cc (e))
 shown_at (x ∷ xs) (suc n) s e = shown_at xs n s e
@@ -150,7 +150,8 @@ same_tables session rings stages is of place s e =
     ap (λ (z : Stage_data). z.table) (sym at.2) ∙ of_table session at.0 (of place at.0 at.1) ∙ sym (ap (λ (z : Rings_data). z.table) is)
 
 -- all have ended
-pub each_ended : (all : List Stage_data) (session rings : Rings_data) (pass : Pass_data) → rings ≡ session → rings.roles ≡ length session.machines → AreAll (IsEnded session) all → AreAllThere (length session.machines) all
+pub each_ended : (all : List Stage_data) (session rings : Rings_data) (pass : Pass_data) → rings ≡ session → rings.roles ≡ length session.machines → AreAll (IsEnded session) all
+    → AreAllThere (length session.machines) all
     → ((r : ℕ) → IsThere all r → SpeaksFor pass.view r) → ((r : ℕ) → SpeaksFor pass.view r → (from : IsThere all r) × (part_of pass.view r ≡ from.stage.part))
     → (r : ℕ) → r < rings.roles → state_of (slice_get rings.machines r) (state_in pass.view r) ≡ Some Done
 each_ended all session rings pass is many ended each speaks parts r below =
@@ -162,7 +163,8 @@ pub unmapped : (P : List Stage_data → Type 0) (xs all : List Stage_data) → x
 unmapped P xs all is p = subst P (map_itself xs ∙ is) p
 
 -- a stage that isn't of the role
-pub not_here : {A : Type 0} (f : A → Stage_data) (xs : List A) (k : ℕ) (item : A) (own role : Role) (b : Bool) → k < length xs → item ≡ get_or xs k item → own ≡ (f item).role → b ≡ (own.0 == role.0) → b ≡ false
+pub not_here : {A : Type 0} (f : A → Stage_data) (xs : List A) (k : ℕ) (item : A) (own role : Role) (b : Bool) → k < length xs → item ≡ get_or xs k item → own ≡ (f item).role → b ≡ (own.0 == role.0)
+    → b ≡ false
     → (stage : Stage_data) → slice_get (map f xs) k ≡ Some stage → stage.role.0 ≢ role.0
 not_here f xs k item own role b below read is test unlike stage at same =
     let there : slice_get xs k ≡ Some item = slice_get_read xs (length xs) k item refl below read in
@@ -172,11 +174,13 @@ not_here f xs k item own role b below read is test unlike stage at same =
     let yes' : b ≡ true = test ∙ eq-eqb own.0 role.0 equal in
     cc (yes', unlike)
 
-pub unmapped_parts : (all : List Stage_data) (view : View) → ((r : ℕ) → SpeaksFor view r → (from : IsThere (map (λ s. s) all) r) × (part_of view r ≡ from.stage.part)) → (r : ℕ) → SpeaksFor view r → (from : IsThere all r) × (part_of view r ≡ from.stage.part)
+pub unmapped_parts : (all : List Stage_data) (view : View) → ((r : ℕ) → SpeaksFor view r → (from : IsThere (map (λ s. s) all) r) × (part_of view r ≡ from.stage.part)) → (r : ℕ) → SpeaksFor view r
+    → (from : IsThere all r) × (part_of view r ≡ from.stage.part)
 unmapped_parts all view parts = subst (λ (l : List Stage_data). (r : ℕ) → SpeaksFor view r → (from : IsThere l r) × (part_of view r ≡ from.stage.part)) (map_itself all) parts
 
 pub ended_tables : (session rings : Rings_data) (all : List Stage_data) → rings ≡ session → AreAll (IsEnded session) all → AreAll (λ s. s.table ≡ rings.table) (map (λ s. s) all)
-ended_tables session rings all is of = subst (λ (l : List Stage_data). AreAll (λ s. s.table ≡ rings.table) l) (sym (map_itself all)) (λ place s e. (of place s e).table ∙ sym (ap (λ (z : Rings_data). z.table) is))
+ended_tables session rings all is of =
+    subst (λ (l : List Stage_data). AreAll (λ s. s.table ≡ rings.table) l) (sym (map_itself all)) (λ place s e. (of place s e).table ∙ sym (ap (λ (z : Rings_data). z.table) is))
 
 -- what is told of stages as they are handed in holds of the stages that were there
 pub each_there : (n m : ℕ) (xs all : List Stage_data) → n ≡ m → xs ≡ all → AreAllThere n (map (λ s. s) xs) → AreAllThere m all

@@ -10,11 +10,11 @@ use Rattle.rs_model.specs.declared.values.Value.{Value}
 use Rattle.rs_core.specs.Choices.{AreWellFormed}
 use Rattle.rs_core.specs.Configurations.{state_of}
 use Rattle.rs_core.specs.Turns.{label_of}
-use Rattle.rs_core.proofs.Stands.{here-is}
+use Rattle.rs_core.proofs.Stands.{here_is}
 use Rattle.rs_slots.specs.declared.parcels.Parcel.{Parcel}
 use Rattle.rs_rings.specs.Acts.{sent_act, got_act, MayPut}
-use Rattle.rs_rings.specs.Passes.{Rings_data, Pass_data, IsChanged, IsPut, RingIsFull, ParcelIsTaken, IsEmpty, CanTake}
-use Rattle.rs_rings.specs.Views.{part_of, state_in, part_with_room, part_with_parcel, gaining, sending, taking, getting}
+use Rattle.rs_rings.specs.Passes.{Rings_data, Pass_data, IsChanged, IsPut, ParcelIsTaken, CanTake}
+use Rattle.rs_rings.specs.Views.{part_of, state_in, gaining, sending, taking, getting}
 use Rattle.rs_rings.specs.declared.views.Part.{Part}
 use Rattle.rs_rings.specs.declared.views.View.{View}
 use Rattle.rs_rings.proofs.Arms.{put_once}
@@ -37,7 +37,8 @@ pub record Put (rings : Rings_data) (q : ℕ) (x : Parcel) (next n : ℕ) (old :
   pub sent : HasSent rings q x next old (sight_of_pass pass role)
 
 pub put_done : (rings : Rings_data) (q : ℕ) (x : Parcel) (next s n : ℕ) (old : Stage_data) (role : Role) (pass pass' : Pass_data) → sight_of_pass pass role ≡ old → AreWellFormed rings.machines
-    → MayPut rings.machines old.role.0 q old.part.state x next → IsOne pass.view role s n → IsPut rings.machines rings.capacity role.0 q x pass.view pass'.view → pass'.table ≡ pass.table → Put rings q x next n old role pass'
+    → MayPut rings.machines old.role.0 q old.part.state x next → IsOne pass.view role s n → IsPut rings.machines rings.capacity role.0 q x pass.view pass'.view → pass'.table ≡ pass.table
+    → Put rings q x next n old role pass'
 put_done rings q x next s n old role pass pass' is well_formed may one put table =
     subst (λ (z : Stage_data). MayPut rings.machines z.role.0 q z.part.state x next → Put rings q x next n z role pass') is by may
   where
@@ -47,7 +48,8 @@ put_done rings q x next s n old role pass pass' is well_formed may one put table
         let same : put.next ≡ next = put_once rings.machines role.0 q a.state x put.next next well_formed put.may can in
         let part : part_of pass'.view role.0 ≡ sending q x next (gaining q put.taken a) = put.changed.part ∙ ap (λ (m : ℕ). sending q x m (gaining q put.taken a)) same in
         record {
-          one = one_changed pass.view pass'.view role s n next (n + 1) (sending q x put.next (gaining q put.taken a)) one put.changed (sym same) (ap (λ (m : ℕ). m + 1) one.is_acts ∙ sym (length-append a.history (sent_act q x ∷ [])));
+          one = one_changed pass.view pass'.view role s n next (n + 1) (sending q x put.next (gaining q put.taken a)) one put.changed (sym same)
+              (ap (λ (m : ℕ). m + 1) one.is_acts ∙ sym (length-append a.history (sent_act q x ∷ [])));
           sent = record { taken = put.taken; not_less = put.not_less; room = put.room; happened = put.happened; becomes = λ i. record { table = table i; role = role; part = part i } };
         }
 
@@ -56,23 +58,15 @@ pub record Full (rings : Rings_data) (q : ℕ) (x : Parcel) (sent taken : ℕ) (
   pub full : FindsFull rings q sent taken old (sight_of_pass pass role)
   pub same : back ≡ x
 
-pub put_full : (rings : Rings_data) (q : ℕ) (x : Parcel) (sent taken : ℕ) (back : Parcel) (s n : ℕ) (old : Stage_data) (role : Role) (pass pass' : Pass_data) → sight_of_pass pass role ≡ old
-    → IsOne pass.view role s n → RingIsFull rings.capacity role.0 q x sent taken back pass.view pass'.view → pass'.table ≡ pass.table → Full rings q x sent taken back s n old role pass'
-put_full rings q x sent taken back s n old role pass pass' is one full table =
-    subst (λ (z : Stage_data). Full rings q x sent taken back s n z role pass') is record {
-      one = one_changed pass.view pass'.view role s n s n (part_with_room q taken (part_of pass.view role.0)) one full.changed one.is_state one.is_acts;
-      full = record { is_sent = full.is_sent; full = full.full; not_less = full.not_less; becomes = λ i. record { table = table i; role = role; part = full.changed.part i } };
-      same = full.same;
-    }
-
 -- a look
-pub can_take : (rings : Rings_data) (peer : Role) (arms : List Arm) (old : Stage_data) (role : Role) (pass : Pass_data) → sight_of_pass pass role ≡ old → state_of (slice_get rings.machines old.role.0) old.part.state ≡ Some (Takes peer arms) → CanTake rings.machines role.0 peer (state_in pass.view role.0)
+pub can_take : (rings : Rings_data) (peer : Role) (arms : List Arm) (old : Stage_data) (role : Role) (pass : Pass_data) → sight_of_pass pass role ≡ old
+    → state_of (slice_get rings.machines old.role.0) old.part.state ≡ Some (Takes peer arms) → CanTake rings.machines role.0 peer (state_in pass.view role.0)
 can_take rings peer arms old role pass is stands = record { arms = arms; takes = ap (λ (z : Stage_data). state_of (slice_get rings.machines z.role.0) z.part.state) is ∙ stands }
 
 pub labels_once : (machines : List Machine_data) (r s : ℕ) (peer : Role) (arms : List Arm) → AreWellFormed machines → state_of (slice_get machines r) s ≡ Some (Takes peer arms)
     → (i j : ℕ) (a b : Arm) → slice_get arms i ≡ Some a → slice_get arms j ≡ Some b → a.label ≡ b.label → i ≡ j
 labels_once machines r s peer arms well_formed stands =
-    let at = here-is (slice_get machines r) s (Takes peer arms) stands in
+    let at = here_is (slice_get machines r) s (Takes peer arms) stands in
     ((well_formed.fits r at.0 at.1).takes s peer arms at.2).once
 
 pub arm_of_label : (o : Option Arm) (l : Label) → label_of o ≡ Some l → (arm : Arm) × (o ≡ Some arm) × (arm.label ≡ l)
@@ -83,8 +77,10 @@ pub record Taken (rings : Rings_data) (p : ℕ) (arms : List Arm) (place : ℕ) 
   pub one : IsOne pass.view role next (n + 1)
   pub got : HasGotBy rings p arms place value old (sight_of_pass pass role)
 
-pub look_one : (rings : Rings_data) (peer : Role) (arms : List Arm) (x : Parcel) (place s n : ℕ) (old : Stage_data) (role : Role) (pass pass' : Pass_data) (arm : Arm) → sight_of_pass pass role ≡ old → AreWellFormed rings.machines
-    → state_of (slice_get rings.machines old.role.0) old.part.state ≡ Some (Takes peer arms) → slice_get arms place ≡ Some arm → arm.label ≡ x.label → IsOne pass.view role s n → ParcelIsTaken rings.machines role.0 peer.0 x pass.view pass'.view → pass'.table ≡ pass.table
+pub look_one : (rings : Rings_data) (peer : Role) (arms : List Arm) (x : Parcel) (place s n : ℕ) (old : Stage_data) (role : Role) (pass pass' : Pass_data) (arm : Arm) → sight_of_pass pass role ≡ old
+    → AreWellFormed rings.machines
+    → state_of (slice_get rings.machines old.role.0) old.part.state ≡ Some (Takes peer arms) → slice_get arms place ≡ Some arm → arm.label ≡ x.label → IsOne pass.view role s n
+    → ParcelIsTaken rings.machines role.0 peer.0 x pass.view pass'.view → pass'.table ≡ pass.table
     → Taken rings peer.0 arms place x.value arm.next n old role pass'
 look_one rings peer arms x place s n old role pass pass' arm is well_formed stands picks label one taken table =
     subst (λ (z : Stage_data). state_of (slice_get rings.machines z.role.0) z.part.state ≡ Some (Takes peer arms) → Taken rings peer.0 arms place x.value arm.next n z role pass') is by stands
@@ -92,7 +88,7 @@ look_one rings peer arms x place s n old role pass pass' arm is well_formed stan
     by : state_of (slice_get rings.machines role.0) (part_of pass.view role.0).state ≡ Some (Takes peer arms) → Taken rings peer.0 arms place x.value arm.next n (sight_of_pass pass role) role pass'
     by takes =
         let a : Part = part_of pass.view role.0 in
-        let at = here-is (slice_get rings.machines role.0) a.state (Takes peer arms) takes in
+        let at = here_is (slice_get rings.machines role.0) a.state (Takes peer arms) takes in
         let fit = (well_formed.fits role.0 at.0 at.1).takes a.state peer arms at.2 in
         let both : Some (Takes peer taken.may.arms) ≡ Some (Takes peer arms) = sym taken.may.takes ∙ takes in
         let all : taken.may.arms ≡ arms = cc (both) in
@@ -103,9 +99,11 @@ look_one rings peer arms x place s n old role pass pass' arm is well_formed stan
         let next : taken.next ≡ arm.next = taken.may.goes ∙ ap (λ (z : Arm). z.next) (sym same) in
         let parcel : x ≡ parcel_by arm x.value = λ i. record { label = sym label i; value = x.value } in
         let part : part_of pass'.view role.0 ≡ getting peer.0 x arm.next (taking peer.0 x taken.put a) = taken.changed.part ∙ ap (λ (m : ℕ). getting peer.0 x m (taking peer.0 x taken.put a)) next in
-        let got : HasGot rings peer.0 x arm.next (sight_of_pass pass role) (sight_of_pass pass' role) = record { put = taken.put; not_less = taken.not_less; more = taken.more; happened = taken.happened; becomes = λ i. record { table = table i; role = role; part = part i } } in
+        let got : HasGot rings peer.0 x arm.next (sight_of_pass pass role) (sight_of_pass pass' role)
+        = record { put = taken.put; not_less = taken.not_less; more = taken.more; happened = taken.happened; becomes = λ i. record { table = table i; role = role; part = part i } } in
         record {
-          one = one_changed pass.view pass'.view role s n arm.next (n + 1) (getting peer.0 x taken.next (taking peer.0 x taken.put a)) one taken.changed (sym next) (ap (λ (m : ℕ). m + 1) one.is_acts ∙ sym (length-append a.history (got_act peer.0 x ∷ [])));
+          one = one_changed pass.view pass'.view role s n arm.next (n + 1) (getting peer.0 x taken.next (taking peer.0 x taken.put a)) one taken.changed (sym next)
+              (ap (λ (m : ℕ). m + 1) one.is_acts ∙ sym (length-append a.history (got_act peer.0 x ∷ [])));
           got = record {
             arm = arm;
             picks = picks;
@@ -117,11 +115,3 @@ look_one rings peer arms x place s n old role pass pass' arm is well_formed stan
 pub record Nothing (rings : Rings_data) (p seen s n : ℕ) (old : Stage_data) (role : Role) (pass : Pass_data) : Type 0 where
   pub one : IsOne pass.view role s n
   pub empty : FindsEmpty p seen old (sight_of_pass pass role)
-
-pub look_none : (rings : Rings_data) (p seen s n : ℕ) (old : Stage_data) (role : Role) (pass pass' : Pass_data) → sight_of_pass pass role ≡ old → IsOne pass.view role s n → IsEmpty role.0 p seen pass.view pass'.view → pass'.table ≡ pass.table
-    → Nothing rings p seen s n old role pass'
-look_none rings p seen s n old role pass pass' is one empty table =
-    subst (λ (z : Stage_data). Nothing rings p seen s n z role pass') is record {
-      one = one_changed pass.view pass'.view role s n s n (part_with_parcel p seen (part_of pass.view role.0)) one empty.changed one.is_state one.is_acts;
-      empty = record { is_got = empty.is_got; not_less = empty.not_less; becomes = λ i. record { table = table i; role = role; part = empty.changed.part i } };
-    }

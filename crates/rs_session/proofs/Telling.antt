@@ -9,12 +9,13 @@ use Rattle.rs_slots.specs.declared.parcels.Parcel.{Parcel}
 use Rattle.rs_rings.specs.Passes.{Rings_data}
 use Rattle.rs_session.specs.Acts.{parcel_by, SendsBy, HasSent, FindsFull, HasGot, FindsEmpty, IsSent, IsHandedBack, IsGot, IsKept}
 use Rattle.rs_session.specs.Data.{Stage_data}
-use Rattle.rs_session.specs.Stages.{sight_of_stage, state_at, IsSending, IsReceiving, IsOf}
+use Rattle.rs_session.specs.Stages.{sight_of_stage, state_of_stage, IsSending, IsReceiving, IsOf}
 use Rattle.rs_session.specs.Standing.{HasGotBy, SendsTo}
 use Rattle.rs_session.specs.declared.stages.Stage.{Stage}
 
 -- an arm at that place is the arm that is told, so a value of the one's sort is of the other's
-sort_by : (session : Rings_data) (stage : Stage_data) (place : ℕ) (value : Value) (peer : Role) (arm : Arm) → SendsBy session stage place value → SendsTo session stage place peer arm → HasSort value arm.sort
+sort_by : (session : Rings_data) (stage : Stage_data) (place : ℕ) (value : Value) (peer : Role) (arm : Arm) → SendsBy session stage place value → SendsTo session stage place peer arm
+    → HasSort value arm.sort
 sort_by session stage place value peer arm by to =
     let both : Some (Puts by.peer by.arms) ≡ Some (Puts peer to.arms) = sym by.stands ∙ to.stands in
     let arms : by.arms ≡ to.arms = cc (both) in
@@ -23,7 +24,8 @@ sort_by session stage place value peer arm by to =
     subst (λ (z : Arm). HasSort value z.sort) same by.has_sort
 
 -- the stage behind the standing, and the rings of the session
-pub went : (session rings : Rings_data) (old standing moved : Stage_data) (place : ℕ) (value : Value) (peer : Role) (arm : Arm) (new : Stage) → rings ≡ session → standing ≡ old → SendsBy session old place value → SendsTo session standing place peer arm
+pub went : (session rings : Rings_data) (old standing moved : Stage_data) (place : ℕ) (value : Value) (peer : Role) (arm : Arm) (new : Stage) → rings ≡ session → standing ≡ old
+    → SendsBy session old place value → SendsTo session standing place peer arm
     → HasSent rings peer.0 (parcel_by arm value) arm.next standing moved → IsOf session new → sight_of_stage new ≡ moved → IsSent session old place value new
 went session rings old standing moved place value peer arm new same is by to sent of now =
     let to' : SendsTo session old place peer arm = subst (λ (z : Stage_data). SendsTo session z place peer arm) is to in
@@ -33,7 +35,8 @@ went session rings old standing moved place value peer arm new same is by to sen
       of = of;
     }
 
-pub full : (session rings : Rings_data) (old standing moved : Stage_data) (place : ℕ) (value : Value) (peer : Role) (arm : Arm) (sent taken : ℕ) (back : Parcel) → rings ≡ session → standing ≡ old → old.table ≡ session.table → SendsBy session old place value → SendsTo session standing place peer arm
+pub full : (session rings : Rings_data) (old standing moved : Stage_data) (place : ℕ) (value : Value) (peer : Role) (arm : Arm) (sent taken : ℕ) (back : Parcel) → rings ≡ session → standing ≡ old
+    → old.table ≡ session.table → SendsBy session old place value → SendsTo session standing place peer arm
     → FindsFull rings peer.0 sent taken standing moved → back ≡ parcel_by arm value → IsHandedBack session old place value moved back.value sent taken
 full session rings old standing moved place value peer arm sent taken back same is table by to found backs =
     let to' : SendsTo session old place peer arm = subst (λ (z : Stage_data). SendsTo session z place peer arm) is to in
@@ -45,18 +48,20 @@ full session rings old standing moved place value peer arm sent taken back same 
       of = subst (IsSending session) (sym found'.becomes) record { table = table; peer = peer; arms = to'.arms; stands = to'.stands };
     }
 
-pub got : (session rings : Rings_data) (old standing moved : Stage_data) (place : ℕ) (value : Value) (peer : Role) (arms : List Arm) (new : Stage) → rings ≡ session → standing ≡ old → state_at session standing ≡ Some (Takes peer arms)
+pub got : (session rings : Rings_data) (old standing moved : Stage_data) (place : ℕ) (value : Value) (peer : Role) (arms : List Arm) (new : Stage) → rings ≡ session → standing ≡ old
+    → state_of_stage session standing ≡ Some (Takes peer arms)
     → HasGotBy rings peer.0 arms place value standing moved → IsOf session new → sight_of_stage new ≡ moved → IsGot session old place value new
 got session rings old standing moved place value peer arms new same is stands by of now = record {
-  by = record { peer = peer; arms = arms; arm = by.arm; stands = ap (state_at session) (sym is) ∙ stands; picks = by.picks; has_sort = by.has_sort };
+  by = record { peer = peer; arms = arms; arm = by.arm; stands = ap (state_of_stage session) (sym is) ∙ stands; picks = by.picks; has_sort = by.has_sort };
   got = subst (λ (z : Rings_data × Stage_data × Stage_data). HasGot z.0 peer.0 (parcel_by by.arm value) by.arm.next z.1 z.2) (λ i. (same i, is i, sym now i)) by.got;
   of = of;
 }
 
-pub kept : (session : Rings_data) (old standing moved : Stage_data) (peer : Role) (arms : List Arm) (seen : ℕ) → standing ≡ old → old.table ≡ session.table → state_at session standing ≡ Some (Takes peer arms) → FindsEmpty peer.0 seen standing moved → IsKept session old moved seen
+pub kept : (session : Rings_data) (old standing moved : Stage_data) (peer : Role) (arms : List Arm) (seen : ℕ) → standing ≡ old → old.table ≡ session.table
+    → state_of_stage session standing ≡ Some (Takes peer arms) → FindsEmpty peer.0 seen standing moved → IsKept session old moved seen
 kept session old standing moved peer arms seen is table stands found =
     let found' : FindsEmpty peer.0 seen old moved = subst (λ (z : Stage_data). FindsEmpty peer.0 seen z moved) is found in
-    let at : state_at session old ≡ Some (Takes peer arms) = ap (state_at session) (sym is) ∙ stands in
+    let at : state_of_stage session old ≡ Some (Takes peer arms) = ap (state_of_stage session) (sym is) ∙ stands in
     record {
       from = record { table = table; peer = peer; arms = arms; stands = at };
       empty = found';

@@ -11,7 +11,7 @@ use Rattle.rs_rings.specs.Passes.{Rings_data}
 use Rattle.rs_rings.specs.Views.{last_found, part_with_room, gaining, sending, part_with_parcel, taking, getting}
 use Rattle.rs_rings.specs.declared.views.Part.{Part}
 use Rattle.rs_session.specs.Data.{Stage_data}
-use Rattle.rs_session.specs.Stages.{sight_of_stage, state_at, IsSending, IsReceiving, IsOf}
+use Rattle.rs_session.specs.Stages.{sight_of_stage, state_of_stage, IsSending, IsReceiving, IsOf}
 use Rattle.rs_session.specs.declared.stages.Sent.{Sent}
 use Rattle.rs_session.specs.declared.stages.Sent.TheVariants.{Went, Full}
 use Rattle.rs_session.specs.declared.stages.Stage.{Stage}
@@ -23,15 +23,15 @@ abbrev pub parcel_by : Arm → Value → Parcel
 parcel_by arm value = record { label = arm.label; value = value }
 
 -- the stage of the same role and session, of which this is known
-abbrev pub with_part : Part → Stage_data → Stage_data
-with_part part stage = record { table = stage.table; role = stage.role; part = part }
+abbrev pub stage_with : Part → Stage_data → Stage_data
+stage_with part stage = record { table = stage.table; role = stage.role; part = part }
 
 -- the stage stands at a state that sends to the peer, with the arm at that place, and the value is of the arm's sort
 pub record SendsBy (session : Rings_data) (stage : Stage_data) (place : ℕ) (value : Value) : Type 0 where
   pub peer : Role
   pub arms : List Arm
   pub arm : Arm
-  pub stands : state_at session stage ≡ Some (Puts peer arms)
+  pub stands : state_of_stage session stage ≡ Some (Puts peer arms)
   pub picks : slice_get arms place ≡ Some arm
   pub has_sort : HasSort value arm.sort
 
@@ -40,7 +40,7 @@ pub record ReceivesBy (session : Rings_data) (stage : Stage_data) (place : ℕ) 
   pub peer : Role
   pub arms : List Arm
   pub arm : Arm
-  pub stands : state_at session stage ≡ Some (Takes peer arms)
+  pub stands : state_of_stage session stage ≡ Some (Takes peer arms)
   pub picks : slice_get arms place ≡ Some arm
   pub has_sort : HasSort value arm.sort
 
@@ -51,14 +51,14 @@ pub record HasSent (session : Rings_data) (q : ℕ) (x : Parcel) (next : ℕ) (o
   pub not_less : last_found q old.part.heads ≤ taken
   pub room : length (parcels_sent q old.part.history) ≢ taken + session.capacity
   pub happened : Happened session.machines old.role.0 old.part.history (sent_act q x)
-  pub becomes : new ≡ with_part (sending q x next (gaining q taken old.part)) old
+  pub becomes : new ≡ stage_with (sending q x next (gaining q taken old.part)) old
 
 -- the ring to q was full: the one load read `taken`, the stage's role has sent so many, and that is the capacity more
 pub record FindsFull (session : Rings_data) (q sent taken : ℕ) (old new : Stage_data) : Type 0 where
   pub is_sent : sent ≡ length (parcels_sent q old.part.history)
   pub full : sent ≡ taken + session.capacity
   pub not_less : last_found q old.part.heads ≤ taken
-  pub becomes : new ≡ with_part (part_with_room q taken old.part) old
+  pub becomes : new ≡ stage_with (part_with_room q taken old.part) old
 
 -- the stage's role has got x from p: the one load read the number `put` of parcels that p has put, which isn't what the role
 -- has got; the receive happened, and the role stands in the state `next`
@@ -67,13 +67,13 @@ pub record HasGot (session : Rings_data) (p : ℕ) (x : Parcel) (next : ℕ) (ol
   pub not_less : last_found p old.part.tails ≤ put
   pub more : length (parcels_got p old.part.history) ≢ put
   pub happened : Happened session.machines old.role.0 old.part.history (got_act p x)
-  pub becomes : new ≡ with_part (getting p x next (taking p x put old.part)) old
+  pub becomes : new ≡ stage_with (getting p x next (taking p x put old.part)) old
 
 -- the ring from p was empty: the one load read `seen`, and the stage's role has got so many
 pub record FindsEmpty (p seen : ℕ) (old new : Stage_data) : Type 0 where
   pub is_got : seen ≡ length (parcels_got p old.part.history)
   pub not_less : last_found p old.part.tails ≤ seen
-  pub becomes : new ≡ with_part (part_with_parcel p seen old.part) old
+  pub becomes : new ≡ stage_with (part_with_parcel p seen old.part) old
 
 -- a send of the value by the arm at that place went, and leaves the next stage
 pub record IsSent (session : Rings_data) (old : Stage_data) (place : ℕ) (value : Value) (new : Stage) : Type 0 where
@@ -81,7 +81,7 @@ pub record IsSent (session : Rings_data) (old : Stage_data) (place : ℕ) (value
   pub sent : HasSent session by.peer.0 (parcel_by by.arm value) by.arm.next old (sight_of_stage new)
   pub of : IsOf session new
 
--- .. or found the ring full, and hands back the stage and the value
+-- the send found the ring full, and hands back the stage and the value
 pub record IsHandedBack (session : Rings_data) (old : Stage_data) (place : ℕ) (value : Value) (new : Stage_data) (back : Value) (sent taken : ℕ) : Type 0 where
   pub by : SendsBy session old place value
   pub full : FindsFull session by.peer.0 sent taken old new
@@ -99,7 +99,7 @@ pub record IsGot (session : Rings_data) (old : Stage_data) (place : ℕ) (value 
   pub got : HasGot session by.peer.0 (parcel_by by.arm value) by.arm.next old (sight_of_stage new)
   pub of : IsOf session new
 
--- .. or found the ring empty, and hands back the stage
+-- the receive found the ring empty, and hands back the stage
 pub record IsKept (session : Rings_data) (old new : Stage_data) (seen : ℕ) : Type 0 where
   pub from : IsReceiving session old
   pub empty : FindsEmpty from.peer.0 seen old new

@@ -36,10 +36,6 @@ AreAll is stages = (place : ℕ) (stage : Stage_data) → slice_get stages place
 abbrev pub AreOf : Rings_data → List Stage → Type 0
 AreOf session stages = (place : ℕ) (stage : Stage) → slice_get stages place ≡ Some stage → IsOf session stage
 
--- no role has two of the stages
-abbrev pub AreApart : List Stage_data → Type 0
-AreApart stages = (i j : ℕ) (a b : Stage_data) → slice_get stages i ≡ Some a → slice_get stages j ≡ Some b → a.role ≡ b.role → i ≡ j
-
 -- what is known of each role in the end, its state and its history, is what a stage of it knew that was handed in
 abbrev pub KnowsFrom : List Stage_data → Closed_data → Type 0
 KnowsFrom stages closed = (r : ℕ) → r < length closed.machines → (from : IsThere stages r) × (part_of closed.last r ≡ from.stage.part)

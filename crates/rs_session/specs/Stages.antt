@@ -19,27 +19,27 @@ sight_of_stage (Receiving stage) = stage
 sight_of_stage (Ended stage) = stage
 
 -- the state of its machine at which the stage's role stands
-abbrev pub state_at : Rings_data → Stage_data → Option State
-state_at session stage = state_of (slice_get session.machines stage.role.0) stage.part.state
+abbrev pub state_of_stage : Rings_data → Stage_data → Option State
+state_of_stage session stage = state_of (slice_get session.machines stage.role.0) stage.part.state
 
 -- a stage of the session at a state that sends; at one that receives; at the end of its machine
 pub record IsSending (session : Rings_data) (stage : Stage_data) : Type 0 where
   pub table : stage.table ≡ session.table
   pub peer : Role
   pub arms : List Arm
-  pub stands : state_at session stage ≡ Some (Puts peer arms)
+  pub stands : state_of_stage session stage ≡ Some (Puts peer arms)
 
--- .. at a state that receives
+-- a stage of the session at a state that receives
 pub record IsReceiving (session : Rings_data) (stage : Stage_data) : Type 0 where
   pub table : stage.table ≡ session.table
   pub peer : Role
   pub arms : List Arm
-  pub stands : state_at session stage ≡ Some (Takes peer arms)
+  pub stands : state_of_stage session stage ≡ Some (Takes peer arms)
 
--- .. at the end of its machine
+-- a stage of the session at the end of its machine
 pub record IsEnded (session : Rings_data) (stage : Stage_data) : Type 0 where
   pub table : stage.table ≡ session.table
-  pub stands : state_at session stage ≡ Some Done
+  pub stands : state_of_stage session stage ≡ Some Done
 
 -- a stage of the session, whose kind is that of the state at which it stands
 abbrev pub IsOf : Rings_data → Stage → Type 0

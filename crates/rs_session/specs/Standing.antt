@@ -16,9 +16,9 @@ use Rattle.rs_rings.specs.declared.views.View.{View}
 use Rattle.rs_session.specs.Acts.{parcel_by, HasSent, FindsFull, HasGot, FindsEmpty}
 use Rattle.rs_model.specs.declared.machines.State.TheVariants.{Puts}
 use Rattle.rs_session.specs.Data.{Stage_data}
-use Rattle.rs_session.specs.Stages.{state_at}
-use Rattle.rs_session.specs.declared.standing.Found.{Found}
-use Rattle.rs_session.specs.declared.standing.Found.TheVariants.{One, Nothing}
+use Rattle.rs_session.specs.Stages.{state_of_stage}
+use Rattle.rs_session.specs.declared.standing.ParcelFound.{ParcelFound}
+use Rattle.rs_session.specs.declared.standing.ParcelFound.TheVariants.{One, Nothing}
 
 -- the view speaks for the role alone, which stands in that state and has made so many acts
 pub record IsOne (view : View) (role : Role) (state acts : ℕ) : Type 0 where
@@ -34,7 +34,7 @@ sight_of_pass pass role = record { table = pass.table; role = role; part = part_
 -- the state sends to the peer, and has the arm at that place
 pub record SendsTo (rings : Rings_data) (stage : Stage_data) (place : ℕ) (peer : Role) (arm : Arm) : Type 0 where
   pub arms : List Arm
-  pub stands : state_at rings stage ≡ Some (Puts peer arms)
+  pub stands : state_of_stage rings stage ≡ Some (Puts peer arms)
   pub picks : slice_get arms place ≡ Some arm
 
 -- what a put of x to q tells, behind which the role stands in the state `next`
@@ -49,8 +49,8 @@ pub record HasGotBy (rings : Rings_data) (p : ℕ) (arms : List Arm) (place : �
   pub has_sort : HasSort value arm.sort
   pub got : HasGot rings p (parcel_by arm value) arm.next old new
 
--- .. where one was found, or none
-abbrev pub FoundTells : Rings_data → ℕ → List Arm → Stage_data → Stage_data → Found → Type 0
+-- what a look tells, where a parcel was found or none
+abbrev pub FoundTells : Rings_data → ℕ → List Arm → Stage_data → Stage_data → ParcelFound → Type 0
 FoundTells rings p arms old new (One place value) = HasGotBy rings p arms place value old new
 FoundTells rings p arms old new (Nothing seen) = FindsEmpty p seen old new
 
@@ -58,14 +58,8 @@ FoundTells rings p arms old new (Nothing seen) = FindsEmpty p seen old new
 pub record RingsAreWhole (rings : Rings_data) : Type 0 where
   pub roles : rings.roles ≡ length rings.machines
   pub some : 2 ≤ length rings.machines
-  pub few : length rings.machines ≤ MOST_ROLES
+  pub bounded : length rings.machines ≤ MOST_ROLES
   pub well_formed : AreWellFormed rings.machines
-
--- the pass speaks for the roles from number k on, each of which has done nothing
-pub record AreFirstFrom (machines : List Machine_data) (k : ℕ) (view : View) : Type 0 where
-  pub speaks : (r : ℕ) → k ≤ r → r < length machines → SpeaksFor view r
-  pub first : (r : ℕ) → k ≤ r → r < length machines → part_of view r ≡ first_part machines r
-  pub only : (r : ℕ) → SpeaksFor view r → (k ≤ r) × (r < length machines)
 
 -- the pass speaks for the role alone, which has done nothing
 pub record IsFirst (machines : List Machine_data) (r : ℕ) (view : View) : Type 0 where

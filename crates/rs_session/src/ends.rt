@@ -1,4 +1,4 @@
-// How sessions end.
+//! How sessions end.
 ghost use Rattle.std.specs.Prelude.{◌≡◌, IfErr, IfOk, OnOk, length, map};
 ghost use Rattle.rs_rings.specs.Closed.{IsLeft, IsOver};
 ghost use Rattle.rs_session.specs.Ends.{AreAll, AreAllThere, AreOf, IsLeastMissing, KnowsFrom};
@@ -23,7 +23,7 @@ impl Session {
     /// The error names the least role that isn't among those that were handed in, and hands all back.
     pub fn close(self, ended: Vec<Ended>) -> Result<Closed, CloseFault>
         requires of { AreAll (IsEnded self) ended.items }
-        ensures there { OnOk result (AreAllThere (length self.machines) ended.items) }
+        ensures present { OnOk result (AreAllThere (length self.machines) ended.items) }
         ensures machines { IfOk result (λ c. c.machines ≡ self.machines) }
         ensures over { IfOk result IsOver }
         ensures knows { IfOk result (KnowsFrom ended.items) }

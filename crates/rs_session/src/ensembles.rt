@@ -1,4 +1,4 @@
-// Sessions whose roles are all in one hand.
+//! Sessions whose roles are all in one hand.
 ghost use Rattle.std.specs.Prelude.{◌≡◌, ◌<◌, ◌^◌, ℕ, IfOk, OnOk, Some, length, slice_get};
 ghost use Rattle.rs_model.specs.Limits.{IsCapacity};
 ghost use Rattle.rs_core.specs.Configurations.{state_of};

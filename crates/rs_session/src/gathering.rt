@@ -1,4 +1,4 @@
-// Stages that are handed in at the end of a session.
+//! Stages that are handed in at the end of a session.
 ghost use Rattle.std.specs.Prelude.{◌≡◌, ◌<◌, ◌≤◌, ℕ, true, false, map, IfSome, IfNone, vec_len};
 ghost use Rattle.rs_model.specs.declared.limits.TheConstants.{MOST_ROLES};
 ghost use Rattle.rs_rings.specs.Views.{SpeaksFor, part_of};
@@ -65,7 +65,7 @@ impl Stands for Left {
 
 /// The least role of which there is no stage.
 pub(crate) fn least_missing<S: Stands>(stages: &[S], roles: usize) -> Option<Role>
-    requires few { roles ≤ MOST_ROLES }
+    requires bounded { roles ≤ MOST_ROLES }
     ensures some { IfSome result (λ r. IsLeastMissing roles (map S.stage stages.now) r.0) }
     ensures none { IfNone result (AreAllThere roles (map S.stage stages.now)) }
 {
@@ -79,7 +79,7 @@ pub(crate) fn least_missing<S: Stands>(stages: &[S], roles: usize) -> Option<Rol
 }
 
 fn is_there<S: Stands>(stages: &[S], role: Role) -> bool
-    ensures there { result ≡ true → IsThere (map S.stage stages.now) role.0 }
+    ensures present { result ≡ true → IsThere (map S.stage stages.now) role.0 }
     ensures missing { result ≡ false → IsMissing (map S.stage stages.now) role.0 }
 {
     for stage in stages {

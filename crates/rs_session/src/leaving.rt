@@ -1,4 +1,4 @@
-// Sessions that are given up with all that they hold.
+//! Sessions that are given up with all that they hold.
 ghost use Rattle.std.specs.Prelude.{◌≡◌, IfErr, IfOk, OnOk, length};
 ghost use Rattle.rs_rings.specs.Closed.{IsLeft, loose_in};
 ghost use Rattle.rs_session.specs.Ends.{AreAll, AreAllThere, KnowsFrom};
@@ -41,7 +41,7 @@ impl Session {
     /// The errors are that a role is missing, and that memory was refused. Either hands all back.
     pub fn close_left(self, alloc: Global, left: Vec<Left>) -> Result<LeftOver, LeftFault>
         requires of { AreAll (IsFrom self) left.items }
-        ensures there { OnOk result (AreAllThere (length self.machines) left.items) }
+        ensures present { OnOk result (AreAllThere (length self.machines) left.items) }
         ensures machines { IfOk result (λ over. over.closed.machines ≡ self.machines) }
         ensures left { IfOk result (λ over. IsLeft over.closed) }
         ensures knows { IfOk result (λ over. KnowsFrom left.items over.closed) }

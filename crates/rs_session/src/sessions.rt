@@ -1,3 +1,4 @@
+//! A session that is shared by threads: its stages, the acts that they allow, and what is left at the end.
 ghost use Rattle.std.specs.Prelude.{◌≡◌, ◌≤◌, ◌<◌, ◌++◌, ◌∷◌, ℕ, [], IfOk, IsSome, Some, length, slice_get, vec_len, vec_capacity};
 ghost use Rattle.rs_model.specs.Limits.{IsCapacity};
 ghost use Rattle.rs_core.specs.Choices.{AreWellFormed};
@@ -6,7 +7,7 @@ ghost use Rattle.rs_model.specs.declared.machines.State.TheVariants.{Takes};
 ghost use Rattle.rs_model.specs.declared.values.Value.{Value};
 ghost use Rattle.rs_rings.specs.Views.{starting};
 ghost use Rattle.rs_session.specs.Acts.{SendsBy};
-ghost use Rattle.rs_session.specs.Stages.{AreFirst, IsOf, IsReceiving, first_stage, sight_of_stage, state_at};
+ghost use Rattle.rs_session.specs.Stages.{AreFirst, IsOf, IsReceiving, first_stage, sight_of_stage, state_of_stage};
 ghost use Rattle.rs_session.specs.Standing.{IsFirst, RingsAreWhole, SendsTo};
 
 use crate::stages::{Ended, Left, Receiving, Sending, Stage};
@@ -105,8 +106,8 @@ impl Session {
 
     /// The state at which a role stands.
     fn state(&self, standing: &Standing) -> &State
-        requires { IsSome (state_at self.now standing.now) }
-        ensures { state_at self.now standing.now ≡ Some result.now }
+        requires { IsSome (state_of_stage self.now standing.now) }
+        ensures { state_of_stage self.now standing.now ≡ Some result.now }
     {
         let machine = self.machine(standing.role());
         &machine.states[standing.state() as usize]
@@ -115,7 +116,7 @@ impl Session {
     /// The stage of a role that stands at a state of its machine.
     pub(crate) fn stage(&self, standing: Standing) -> Stage
         requires table { standing.table ≡ self.now.table }
-        requires there { IsSome (state_at self.now standing) }
+        requires present { IsSome (state_of_stage self.now standing) }
         ensures of { IsOf self.now result }
         ensures same { sight_of_stage result ≡ standing }
     {
@@ -140,7 +141,7 @@ impl Session {
     /// The peer and the arms of a role that receives.
     pub(crate) fn receiving_arms(&self, standing: &Standing) -> (Role, &[Arm])
         requires { IsReceiving self.now standing.now }
-        ensures { state_at self.now standing.now ≡ Some (Takes result.0 result.1.now) }
+        ensures { state_of_stage self.now standing.now ≡ Some (Takes result.0 result.1.now) }
     {
         match self.state(standing) {
             State::Takes { peer, arms } => (*peer, arms.as_slice()),

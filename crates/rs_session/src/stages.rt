@@ -1,9 +1,10 @@
+//! Where a role of a session stands, by what it may do next; and what its acts answer.
 ghost use Rattle.std.specs.Prelude.{◌≡◌, ◌<◌, ◌^◌, length};
 ghost use Rattle.rs_session.specs.Acts.{SendsBy, SendTells, ReceiveTells};
 ghost use Rattle.rs_session.specs.Stages.{IsReceiving, sight_of_stage};
 
 use crate::sessions::Session;
-use crate::standing::{Found, Standing};
+use crate::standing::{ParcelFound, Standing};
 use rs_model::{Role, Value};
 use rs_rings::Put;
 use rs_slots::Parcel;
@@ -188,12 +189,12 @@ impl Receiving {
         let mut standing = standing;
         let (peer, arms) = session.receiving_arms(&standing);
         match standing.look_take(session.rings(), peer, arms) {
-            Found::One { arm, value } => Taken::Got {
+            ParcelFound::One { arm, value } => Taken::Got {
                 arm,
                 value,
                 stage: session.stage(standing),
             },
-            Found::Nothing { seen } => Taken::Empty {
+            ParcelFound::Nothing { seen } => Taken::Empty {
                 stage: Receiving { standing },
                 seen,
             },

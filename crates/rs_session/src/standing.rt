@@ -1,4 +1,4 @@
-// What is behind a stage of any kind.
+//! What is behind a stage of any kind.
 ghost use Rattle.std.specs.Prelude.{◌≡◌, ◌<◌, ◌^◌, ℕ, [], IfOk, Some, length, slice_get};
 ghost use Rattle.rs_core.specs.Choices.{AreWellFormed};
 ghost use Rattle.rs_core.specs.Configurations.{state_of};
@@ -36,7 +36,7 @@ impl Model for Standing {
 
 /// What a look for a parcel found: the arm by which it came, or nothing.
 #[derive(Drop)]
-pub(crate) enum Found {
+pub(crate) enum ParcelFound {
     One { arm: u16, value: Value },
     Nothing { seen: u64 },
 }
@@ -130,7 +130,7 @@ impl Standing {
     }
 
     /// Takes the oldest parcel out of the ring from the peer; the role goes on by the arm with its label.
-    pub(crate) fn look_take(&mut self, rings: &Rings, peer: Role, arms: &[Arm]) -> Found
+    pub(crate) fn look_take(&mut self, rings: &Rings, peer: Role, arms: &[Arm]) -> ParcelFound
         requires table { self.old.table ≡ rings.now.table }
         requires well_formed { AreWellFormed rings.now.machines }
         requires stands { state_of (slice_get rings.now.machines self.old.role.0) self.old.part.state ≡ Some (Takes peer arms.now) }
@@ -142,12 +142,12 @@ impl Standing {
                 let arm = place_by_label(arms, parcel.label);
                 self.state = arms[arm as usize].next;
                 self.acts += 1;
-                Found::One {
+                ParcelFound::One {
                     arm,
                     value: parcel.value,
                 }
             }
-            Got::Empty { seen } => Found::Nothing { seen },
+            Got::Empty { seen } => ParcelFound::Nothing { seen },
         }
     }
 }

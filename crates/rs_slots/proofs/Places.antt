@@ -14,7 +14,8 @@ turns : (a b n : ℕ) → a ≤ b → b < a + n → a % n ≡ b % n → Dec (b /
 turns a b n le lt e (yes d) = let m : b / n * n ≤ a / n * n = mul-le-mul_right n d in let p = div-add-mod' a n in let q = div-add-mod' b n in
     let x : ℕ = a / n * n in let y : ℕ = b / n * n in let r : ℕ = b % n in let p' : x + r ≡ a = ap (λ (k : ℕ). x + k) (sym e) ∙ p in let q' : y + r ≡ b = q in let m' : y ≤ x = m in omega arith
 turns a b n le lt e (no d) = let m = further (a / n) (b / n) n (lt_of_not-le d) in let p = div-add-mod' a n in let q = div-add-mod' b n in
-    let x : ℕ = a / n * n in let y : ℕ = b / n * n in let r : ℕ = b % n in let p' : x + r ≡ a = ap (λ (k : ℕ). x + k) (sym e) ∙ p in let q' : y + r ≡ b = q in let m' : x + n ≤ y = m in absurd (omega arith)
+    let x : ℕ = a / n * n in let y : ℕ = b / n * n in let r : ℕ = b % n in let p' : x + r ≡ a = ap (λ (k : ℕ). x + k) (sym e)
+    ∙ p in let q' : y + r ≡ b = q in let m' : x + n ≤ y = m in absurd (omega arith)
 
 -- two numbers less than n apart, with one remainder, are one number
 one_turn : (a b n : ℕ) → a ≤ b → b < a + n → a % n ≡ b % n → a ≡ b
@@ -33,8 +34,10 @@ column_below n p q t = let a = t.sender in let b = t.receiver in dite (dec_le p 
 
 one_column : (p q y : ℕ) → p ≢ q → p ≢ y → column p q ≡ column p y → q ≡ y
 one_column p q y a b e = dite (dec_le p q)
-    (λ le. let l : p < q = omega arith in let f = higher p q l in dite (dec_le p y) (λ le'. let l' : p < y = omega arith in let f' = higher p y l' in omega arith) (λ no. let l' : y < p = omega arith in let f' = lower p y l' in omega arith))
-    (λ no. let l : q < p = omega arith in let f = lower p q l in dite (dec_le p y) (λ le'. let l' : p < y = omega arith in let f' = higher p y l' in omega arith) (λ no'. let l' : y < p = omega arith in let f' = lower p y l' in omega arith))
+    (λ le. let l : p < q = omega arith in let f = higher p q l in dite (dec_le p y) (λ le'. let l' : p < y = omega arith in let f' = higher p y l' in omega arith)
+    (λ no. let l' : y < p = omega arith in let f' = lower p y l' in omega arith))
+    (λ no. let l : q < p = omega arith in let f = lower p q l in dite (dec_le p y) (λ le'. let l' : p < y = omega arith in let f' = higher p y l' in omega arith)
+    (λ no'. let l' : y < p = omega arith in let f' = lower p y l' in omega arith))
 
 pub one_ring : (n p q x y : ℕ) → IsPair n p q → IsPair n x y → ring_of n p q ≡ ring_of n x y → (p ≡ x) × (q ≡ y)
 one_ring n p q x y s t e =

@@ -1,7 +1,8 @@
-ghost use Rattle.std.specs.Prelude.{◌≡◌, ◌≢◌, ◌*◌, ◌<◌, ◌≤◌};
+//! Which words and slots of a table are whose: each ring has two words, and slots behind those of the rings before it.
+ghost use Rattle.std.specs.Prelude.{◌≡◌, ◌*◌, ◌<◌, ◌≤◌};
 ghost use Rattle.rs_model.specs.Limits.{IsCapacity};
 ghost use Rattle.rs_model.specs.declared.limits.TheConstants.{MOST_CAPACITY, MOST_ROLES};
-ghost use Rattle.rs_slots.specs.Places.{ring_count, ring_of, head_word, tail_word, slot_of};
+ghost use Rattle.rs_slots.specs.Places.{IsPair, ring_count, ring_of, head_word, tail_word, slot_of};
 
 use rs_model::Role;
 
@@ -12,7 +13,7 @@ pub struct Layout {
     roles: u8,
     capacity: u16,
     pub ghost some: { 2 ≤ roles },
-    pub ghost few: { roles ≤ MOST_ROLES },
+    pub ghost bounded: { roles ≤ MOST_ROLES },
     pub ghost roomy: { 1 ≤ capacity },
     pub ghost small: { capacity ≤ MOST_CAPACITY },
 }
@@ -29,8 +30,7 @@ impl Layout {
 
     /// The number of the ring from `sender` to `receiver`, from 0.
     pub fn ring(&self, sender: Role, receiver: Role) -> usize
-        requires there { (sender.0 < self.now.roles) × (receiver.0 < self.now.roles) }
-        requires differ { sender.0 ≢ receiver.0 }
+        requires pair { IsPair self.now.roles sender.0 receiver.0 }
         ensures value { result ≡ ring_of self.now.roles sender.0 receiver.0 }
         ensures below { result < ring_count self.now.roles }
     {
@@ -44,7 +44,7 @@ impl Layout {
 
     /// The word that tells how many parcels the ring's receiver has taken.
     pub fn head_word(&self, ring: usize) -> usize
-        requires there { ring < ring_count self.now.roles }
+        requires present { ring < ring_count self.now.roles }
         ensures value { result ≡ head_word ring }
         ensures below { result < 2 * ring_count self.now.roles }
     {
@@ -53,7 +53,7 @@ impl Layout {
 
     /// The word that tells how many parcels the ring's sender has put.
     pub fn tail_word(&self, ring: usize) -> usize
-        requires there { ring < ring_count self.now.roles }
+        requires present { ring < ring_count self.now.roles }
         ensures value { result ≡ tail_word ring }
         ensures below { result < 2 * ring_count self.now.roles }
     {
@@ -62,7 +62,7 @@ impl Layout {
 
     /// The slot of the ring's parcel with the number `count`, from 0.
     pub fn slot(&self, ring: usize, count: u64) -> usize
-        requires there { ring < ring_count self.now.roles }
+        requires present { ring < ring_count self.now.roles }
         ensures value { result ≡ slot_of self.now.capacity ring count }
         ensures below { result < ring_count self.now.roles * self.now.capacity }
     {

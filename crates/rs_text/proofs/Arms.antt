@@ -15,7 +15,8 @@ use Rattle.std.proofs.lemmas.Slice.Eq.{bytes_eq-Decides}
 use Rattle.rs_text.specs.declared.faults.Wanted.{Wanted}
 use Rattle.rs_text.specs.declared.faults.Wanted.TheVariants as wanted
 
-pub sort_pick : (b : Bool) (text : List ℕ) (a s : Sort) (rest : Option Sort) → (b ≡ true → text ≡ sort_text a) → (rest ≡ Some s → sort_text s ≡ text) → (if b then Some a else rest) ≡ Some s → sort_text s ≡ text
+pub sort_pick : (b : Bool) (text : List ℕ) (a s : Sort) (rest : Option Sort) → (b ≡ true → text ≡ sort_text a) → (rest ≡ Some s → sort_text s ≡ text) → (if b then Some a else rest) ≡ Some s
+    → sort_text s ≡ text
 sort_pick true text a s rest h k e = let same : a ≡ s = cc in ap sort_text (sym same) ∙ sym (h refl)
 sort_pick false text a s rest h k e = k e
 
@@ -45,7 +46,9 @@ sort_is_word sort.Octets = refl
 sort_is_word sort.Numbers = refl
 
 pub closing_written : (behind : List ℕ) → IsWritten (close_paren ∷ dot ∷ []) (codes "). ") behind
-closing_written behind = before_mark close_paren (dot ∷ []) (codes ")") (codes ". ") behind refl refl (before_mark dot [] (codes ".") (codes " ") behind refl refl (before_blank 32 [] [] behind refl (nothing_written behind)))
+closing_written behind =
+    before_mark close_paren (dot ∷ []) (codes ")") (codes ". ") behind refl refl
+    (before_mark dot [] (codes ".") (codes " ") behind refl refl (before_blank 32 [] [] behind refl (nothing_written behind)))
 
 pub sort_written : (sort : Option Sort) (behind : List ℕ) → IsWritten (sort_signs sort ++ close_paren ∷ dot ∷ []) (shown_text sort ++ codes "). ") behind
 sort_written None behind = closing_written behind

@@ -1,5 +1,6 @@
 -- Small laws of tests, options and lists.
-use Rattle.std.proofs.Common.{Some, Bool, refl, true, false, inr, inl, arith, suc, nat_lt, slice_get, List, zero, ap, drop, length, subst, ◌≡◌, ◌≢◌, ℕ, ◌+◌, ◌<◌, [], ◌∷◌, ◌++◌, ◌&&◌, ◌||◌, ◌==◌, ◌∙◌, map, sym}
+use Rattle.std.proofs.Common.{Some, Bool, refl, true, false, inr, inl, arith, suc, nat_lt, slice_get, List, zero, ap, drop, length, subst, ◌≡◌, ◌≢◌, ℕ, ◌+◌, ◌<◌, [], ◌∷◌, ◌++◌, ◌&&◌, ◌||◌, ◌==◌, ◌∙◌}
+use Rattle.std.proofs.Common.{map, sym}
 use Rattle.std.proofs.lemmas.Bool.Decides.{eqb_tells, leb_tells}
 use Rattle.std.specs.List.{list_any, list_all}
 use Rattle.rs_text.proofs.Gaps.{true_or_false}
@@ -101,7 +102,8 @@ pub all_again : {A B : Type 0} (seen : A → B) (back : B → A) → ((a : A) �
 all_again seen back h [] = refl
 all_again seen back h (x ∷ xs) = ap (λ z. z ∷ map back (map seen xs)) (h x) ∙ ap (λ z. x ∷ z) (all_again seen back h xs)
 
-pub found_again : {A B : Type 0} (seen : A → B) (back : B → A) → ((a : A) → back (seen a) ≡ a) → (xs : List A) (n : ℕ) (y : B) → slice_get (map seen xs) n ≡ Some y → (slice_get xs n ≡ Some (back y)) × (y ≡ seen (back y))
+pub found_again : {A B : Type 0} (seen : A → B) (back : B → A) → ((a : A) → back (seen a) ≡ a) → (xs : List A) (n : ℕ) (y : B) → slice_get (map seen xs) n ≡ Some y
+    → (slice_get xs n ≡ Some (back y)) × (y ≡ seen (back y))
 found_again seen back h [] n y e = absurd (cc e)
 found_again seen back h (x ∷ xs) zero y e =
     let same : seen x ≡ y = some_is (seen x) y e in

@@ -1,4 +1,4 @@
-use Rattle.std.proofs.Common.{◌≡◌, ℕ, ◌+◌, ◌-◌, ◌≤◌, List, ◌∷◌, length, length-append, drop, drop-drop, true, false, sym, ap, ◌∙◌, arith}
+use Rattle.std.proofs.Common.{◌≡◌, ℕ, ◌+◌, ◌-◌, ◌≤◌, List, ◌∷◌, length, length-append, drop, drop-drop, false, sym, ap, ◌∙◌, arith}
 use Rattle.std.proofs.lemmas.List.{length-drop}
 use Rattle.rs_text.specs.Lexing.{length_of_blanks, front, front_of, lexeme_at, next_lexeme}
 use Rattle.rs_text.specs.Signs.{Sign}
@@ -14,7 +14,8 @@ blanks_within bytes =
     omega arith
 
 -- the offset of what stands behind the gap
-from_is : (bytes here : List ℕ) (at : ℕ) → at ≤ length bytes → here ≡ drop (length_of_blanks false (drop at bytes)) (drop at bytes) → length bytes - length here ≡ at + length_of_blanks false (drop at bytes)
+from_is : (bytes here : List ℕ) (at : ℕ) → at ≤ length bytes → here ≡ drop (length_of_blanks false (drop at bytes)) (drop at bytes)
+    → length bytes - length here ≡ at + length_of_blanks false (drop at bytes)
 from_is bytes here at within e =
     let left : length (drop at bytes) ≡ length bytes - at = length-drop at bytes in
     let few : length_of_blanks false (drop at bytes) ≤ length (drop at bytes) = blanks_within (drop at bytes) in
@@ -29,8 +30,3 @@ next_is bytes here at size sign within e f =
     let behind : here ≡ drop (at + length_of_blanks false (drop at bytes)) bytes = e ∙ drop-drop (length_of_blanks false (drop at bytes)) at bytes in
     let token : front sign size ≡ front_of (drop (at + length_of_blanks false (drop at bytes)) bytes) = sym f ∙ ap front_of behind in
     ap (λ (z : ℕ). lexeme_at z (front sign size)) from ∙ ap (λ z. lexeme_at (at + length_of_blanks false (drop at bytes)) z) token
-
--- what stands behind a comment
-pub behind_comment : (behind rest : List ℕ) (n : ℕ) → length_of_blanks true behind ≡ n + length_of_blanks false (drop n behind) → rest ≡ drop n behind → drop (length_of_blanks false rest) rest ≡ drop (length_of_blanks false (35 ∷ behind)) (35 ∷ behind)
-behind_comment behind rest n e f =
-    rw f (drop-drop (length_of_blanks false (drop n behind)) n behind ∙ ap (λ (z : ℕ). drop z behind) (sym e))

@@ -35,13 +35,46 @@ abbrev on_blank : (b : ℕ) (bs : List ℕ) (n : ℕ) → is_blank b ≡ true �
 on_blank b bs n h p = record { gap = blank b p.gap; behind = p.behind; parts = ap (λ xs. b ∷ xs) p.parts; size = ap suc p.size; right = (h, p.right); stops = p.stops }
 
 abbrev on_comment : (bs : List ℕ) (n : ℕ) → Held bs n → Passed (35 ∷ bs) (suc n)
-on_comment bs n p = record { gap = comment p.held p.gap; behind = p.behind; parts = ap (λ xs. 35 ∷ xs) (p.parts ∙ sym (append_assoc p.held (gap_bytes p.gap) p.behind)); size = ap suc (p.size ∙ sym (length-append p.held (gap_bytes p.gap))); right = (p.no_line, p.ends, p.right); stops = p.stops }
+on_comment bs n p =
+    record {
+      gap = comment p.held p.gap;
+      behind = p.behind;
+      parts = ap (λ xs. 35 ∷ xs) (p.parts ∙ sym (append_assoc p.held (gap_bytes p.gap) p.behind));
+      size = ap suc
+          (p.size ∙ sym (length-append p.held (gap_bytes p.gap)));
+      right = (p.no_line, p.ends, p.right);
+      stops = p.stops;
+    }
 
 abbrev on_line_end : (b : ℕ) (bs : List ℕ) (n : ℕ) → b ≡ 10 → Passed bs n → Held (b ∷ bs) (suc n)
-on_line_end b bs n h p = record { held = []; gap = blank b p.gap; behind = p.behind; parts = ap (λ xs. b ∷ xs) p.parts; size = (let e = p.size in omega arith); no_line = refl; ends = h; right = (rw h refl, p.right); stops = p.stops }
+on_line_end b bs n h p =
+    record {
+      held = [];
+      gap = blank b p.gap;
+      behind = p.behind;
+      parts = ap
+          (λ xs. b ∷ xs) p.parts;
+      size = (let e = p.size in omega arith);
+      no_line = refl;
+      ends = h;
+      right = (rw h refl, p.right);
+      stops = p.stops;
+    }
 
 abbrev on_held : (b : ℕ) (bs : List ℕ) (n : ℕ) → (b == 10) ≡ false → Held bs n → Held (b ∷ bs) (suc n)
-on_held b bs n h p = record { held = b ∷ p.held; gap = p.gap; behind = p.behind; parts = ap (λ xs. b ∷ xs) p.parts; size = (let e = p.size in omega arith); no_line = rw h p.no_line; ends = p.ends; right = p.right; stops = p.stops }
+on_held b bs n h p =
+    record {
+      held = b ∷ p.held;
+      gap = p.gap;
+      behind = p.behind;
+      parts = ap
+          (λ xs. b ∷ xs) p.parts;
+      size = (let e = p.size in omega arith);
+      no_line = rw h p.no_line;
+      ends = p.ends;
+      right = p.right;
+      stops = p.stops;
+    }
 
 on_stop : (b : ℕ) (bs : List ℕ) → is_blank b ≡ false → b ≢ 35 → Passed (b ∷ bs) 0
 on_stop b bs h k = record { gap = nothing; behind = b ∷ bs; parts = refl; size = refl; right = tt; stops = (h, k) }

@@ -8,7 +8,7 @@ use Rattle.rs_text.specs.declared.faults.TextFault.{TextFault}
 use Rattle.rs_text.specs.declared.faults.TextKind.{TextKind}
 use Rattle.rs_text.specs.declared.faults.TextKind.TheVariants as kind
 use Rattle.rs_text.specs.Faults.{kind_number}
-use Rattle.rs_text.specs.FirstFaults.{FaultRule, IsWhole, IsClear, AllClear, FirstFaultBy, next_of}
+use Rattle.rs_text.specs.FirstFaults.{FaultRule, IsWhole, IsClear, AllClear, FirstFaultBy, sign_after}
 use Rattle.rs_text.specs.Lexemes.{Lexeme, signs_of, is_last}
 use Rattle.rs_text.specs.Lexing.{Lexed, next_lexeme}
 use Rattle.rs_text.specs.Readings.{Automaton, Reading, feed_sign, next_lexeme_of, read_all, last_of}
@@ -111,25 +111,27 @@ pub record Found {R : Type 0} (rule : FaultRule) (Left : List Sign → R → Typ
   pub ys : List Lexeme
   pub split : ls ≡ xs ++ t ∷ ys
   pub stands : t.from ≡ offset
-  pub fault : rule (before ++ signs_of xs) t.sign (next_of (signs_of ys)) kind
+  pub fault : rule (before ++ signs_of xs) t.sign (sign_after (signs_of ys)) kind
   pub clear : AllClear rule before (signs_of xs) (signs_of (t ∷ ys))
-  pub only : (k : TextKind) → rule (before ++ signs_of xs) t.sign (next_of (signs_of ys)) k → k ≡ kind
+  pub only : (k : TextKind) → rule (before ++ signs_of xs) t.sign (sign_after (signs_of ys)) k → k ≡ kind
   pub left : Left (before ++ signs_of xs) last
 
-found_here : {R : Type 0} (rule : FaultRule) (Left : List Sign → R → Type 0) (xs : List Sign) (l : Lexeme) (ls : List Lexeme) (g e : TextFault) (r : R) → g ≡ e → Left xs r → Here rule xs l.sign l.from (next_of (signs_of ls)) g → Found rule Left xs (l ∷ ls) e.kind e.at r
+found_here : {R : Type 0} (rule : FaultRule) (Left : List Sign → R → Type 0) (xs : List Sign) (l : Lexeme) (ls : List Lexeme) (g e : TextFault) (r : R) → g ≡ e → Left xs r
+    → Here rule xs l.sign l.from (sign_after (signs_of ls)) g → Found rule Left xs (l ∷ ls) e.kind e.at r
 found_here rule Left xs l ls g e r same left h = subst (λ (z : TextFault). Found rule Left xs (l ∷ ls) z.kind z.at r) same (record {
   xs = [];
   t = l;
   ys = ls;
   split = refl;
   stands = sym h.at_is;
-  fault = subst (λ (z : List Sign). rule z l.sign (next_of (signs_of ls)) g.kind) (sym (append-nil xs)) h.fault;
+  fault = subst (λ (z : List Sign). rule z l.sign (sign_after (signs_of ls)) g.kind) (sym (append-nil xs)) h.fault;
   clear = tt;
-  only = λ k f. h.only k (subst (λ (z : List Sign). rule z l.sign (next_of (signs_of ls)) k) (append-nil xs) f);
+  only = λ k f. h.only k (subst (λ (z : List Sign). rule z l.sign (sign_after (signs_of ls)) k) (append-nil xs) f);
   left = subst (λ (z : List Sign). Left z r) (sym (append-nil xs)) left;
 })
 
-found_later : {R : Type 0} (rule : FaultRule) (Left : List Sign → R → Type 0) (xs : List Sign) (l : Lexeme) (ls : List Lexeme) (kind : TextKind) (at : ℕ) (last : R) → IsClear rule xs l.sign (next_of (signs_of ls)) → Found rule Left (xs ++ l.sign ∷ []) ls kind at last → Found rule Left xs (l ∷ ls) kind at last
+found_later : {R : Type 0} (rule : FaultRule) (Left : List Sign → R → Type 0) (xs : List Sign) (l : Lexeme) (ls : List Lexeme) (kind : TextKind) (at : ℕ) (last : R)
+    → IsClear rule xs l.sign (sign_after (signs_of ls)) → Found rule Left (xs ++ l.sign ∷ []) ls kind at last → Found rule Left xs (l ∷ ls) kind at last
 found_later rule Left xs l ls kind at last c h =
     let signs : signs_of ls ≡ signs_of h.xs ++ signs_of (h.t ∷ h.ys) = ap signs_of h.split ∙ signs_append h.xs (h.t ∷ h.ys) in
     let shape : (xs ++ l.sign ∷ []) ++ signs_of h.xs ≡ xs ++ (l.sign ∷ signs_of h.xs) = append_assoc xs (l.sign ∷ []) (signs_of h.xs) in
@@ -139,37 +141,43 @@ found_later rule Left xs l ls kind at last c h =
       ys = h.ys;
       split = ap (λ z. l ∷ z) h.split;
       stands = h.stands;
-      fault = subst (λ (z : List Sign). rule z h.t.sign (next_of (signs_of h.ys)) kind) shape h.fault;
-      clear = ((λ j f. c j (subst (λ (z : List Sign). rule xs l.sign (next_of z) j) (sym signs) f)), h.clear);
-      only = λ j f. h.only j (subst (λ (z : List Sign). rule z h.t.sign (next_of (signs_of h.ys)) j) (sym shape) f);
+      fault = subst (λ (z : List Sign). rule z h.t.sign (sign_after (signs_of h.ys)) kind) shape h.fault;
+      clear = ((λ j f. c j (subst (λ (z : List Sign). rule xs l.sign (sign_after z) j) (sym signs) f)), h.clear);
+      only = λ j f. h.only j (subst (λ (z : List Sign). rule z h.t.sign (sign_after (signs_of h.ys)) j) (sym shape) f);
       left = subst (λ (z : List Sign). Left z last) shape h.left;
     }
 
 err_same : {R : Type 0} (a : Automaton R) (g e : TextFault) (ls : List Lexeme) → read_all a (Err g) ls ≡ Err e → g ≡ e
 err_same a g e ls h = cc
 
-end_found : {R : Type 0} {a : Automaton R} {rule : FaultRule} {At : List Sign → Sign → R → Type 1} {Left : List Sign → R → Type 0} (j : Judges a rule At Left) (x : Result R TextFault) (xs : List Sign) (l : Lexeme) (r : R) (e : TextFault)
-    → feed_sign a l.sign l.from (lexeme finish 0 0) r ≡ x → Left xs r → Verdict rule Left r xs l.sign l.from (lexeme finish 0 0) x → is_last l.sign ≡ true → read_all a x [] ≡ Err e → Found rule Left xs (l ∷ []) e.kind e.at (last_of a r x [])
+end_found : {R : Type 0} {a : Automaton R} {rule : FaultRule} {At : List Sign → Sign → R → Type 1} {Left : List Sign → R → Type 0} (j : Judges a rule At Left) (x : Result R TextFault) (xs : List Sign)
+    (l : Lexeme) (r : R) (e : TextFault)
+    → feed_sign a l.sign l.from (lexeme finish 0 0) r ≡ x → Left xs r → Verdict rule Left r xs l.sign l.from (lexeme finish 0 0) x → is_last l.sign ≡ true → read_all a x [] ≡ Err e
+    → Found rule Left xs (l ∷ []) e.kind e.at (last_of a r x [])
 end_found j (Ok d) xs l r e g k v h f = absurd (last_faulty j.ends l.sign l.from (lexeme finish 0 0) r d h g)
 end_found {R} {a} {rule} {At} {Left} j (Err g) xs l r e q k v h f = elim v [
   | inl x ↦ found_here rule Left xs l [] g e r (err_same a g e [] f) k x
   | inr x ↦ absurd (cc x.broken_is)
 ]
 
-more_found : {R : Type 0} {a : Automaton R} {rule : FaultRule} {At : List Sign → Sign → R → Type 1} {Left : List Sign → R → Type 0} (j : Judges a rule At Left) (y : Result R TextFault) (xs : List Sign) (l x : Lexeme) (ls : List Lexeme) (r : R) (e : TextFault)
+more_found : {R : Type 0} {a : Automaton R} {rule : FaultRule} {At : List Sign → Sign → R → Type 1} {Left : List Sign → R → Type 0} (j : Judges a rule At Left) (y : Result R TextFault)
+    (xs : List Sign) (l x : Lexeme) (ls : List Lexeme) (r : R) (e : TextFault)
     → At xs l.sign r → IsNamed l.sign → a.is_read r ≡ false → feed_sign a l.sign l.from x r ≡ y → Verdict rule Left r xs l.sign l.from x y → read_all a y (x ∷ ls) ≡ Err e
     → ((d : R) → At (xs ++ l.sign ∷ []) x.sign d → read_all a (Ok d) (x ∷ ls) ≡ Err e → Found rule Left (xs ++ l.sign ∷ []) (x ∷ ls) e.kind e.at (last_of a d (Ok d) (x ∷ ls)))
     → Found rule Left xs (l ∷ x ∷ ls) e.kind e.at (last_of a r y (x ∷ ls))
-more_found {R} {a} {rule} {At} {Left} j (Ok d) xs l x ls r e stands name unread g v f k = found_later rule Left xs l (x ∷ ls) e.kind e.at (last_of a r (Ok d) (x ∷ ls)) v (k d (j.taken xs l.sign l.from x r d stands name unread g) f)
+more_found {R} {a} {rule} {At} {Left} j (Ok d) xs l x ls r e stands name unread g v f k =
+    found_later rule Left xs l (x ∷ ls) e.kind e.at (last_of a r (Ok d) (x ∷ ls)) v (k d (j.taken xs l.sign l.from x r d stands name unread g) f)
 more_found {R} {a} {rule} {At} {Left} j (Err g) xs l x ls r e stands name unread q v f k = elim v [
   | inl h ↦ found_here rule Left xs l (x ∷ ls) g e r (err_same a g e (x ∷ ls) f) (j.left xs l.sign r stands) h
-  | inr h ↦ found_later rule Left xs l (x ∷ ls) e.kind e.at r h.clear (found_here rule Left (xs ++ l.sign ∷ []) x ls g e r (err_same a g e (x ∷ ls) f) h.left (h.later (next_of (signs_of ls))))
+  | inr h ↦ found_later rule Left xs l (x ∷ ls) e.kind e.at r h.clear (found_here rule Left (xs ++ l.sign ∷ []) x ls g e r (err_same a g e (x ∷ ls) f) h.left (h.later (sign_after (signs_of ls))))
 ]
 
-last_goes : {R : Type 0} (a : Automaton R) (r : R) (l : Lexeme) (ls : List Lexeme) → a.is_read r ≡ false → last_of a r (feed_sign a l.sign l.from (next_lexeme_of l ls) r) ls ≡ last_of a r (Ok r) (l ∷ ls)
+last_goes : {R : Type 0} (a : Automaton R) (r : R) (l : Lexeme) (ls : List Lexeme) → a.is_read r ≡ false
+    → last_of a r (feed_sign a l.sign l.from (next_lexeme_of l ls) r) ls ≡ last_of a r (Ok r) (l ∷ ls)
 last_goes a r l ls e = rw e refl
 
-finds : {R : Type 0} {a : Automaton R} {rule : FaultRule} {At : List Sign → Sign → R → Type 1} {Left : List Sign → R → Type 0} (j : Judges a rule At Left) (ls : List Lexeme) (l : Lexeme) (xs : List Sign) (r : R) (e : TextFault) (bytes : List ℕ) (now : ℕ)
+finds : {R : Type 0} {a : Automaton R} {rule : FaultRule} {At : List Sign → Sign → R → Type 1} {Left : List Sign → R → Type 0} (j : Judges a rule At Left) (ls : List Lexeme) (l : Lexeme)
+    (xs : List Sign) (r : R) (e : TextFault) (bytes : List ℕ) (now : ℕ)
     → Lexed bytes now (l ∷ ls) → At xs l.sign r → read_all a (Ok r) (l ∷ ls) ≡ Err e → Found rule Left xs (l ∷ ls) e.kind e.at (last_of a r (Ok r) (l ∷ ls))
 finds {R} {a} {rule} {At} {Left} j [] l xs r e bytes now h stands f =
     let u = unread_if (a.is_read r) _ _ e f in
@@ -177,7 +185,8 @@ finds {R} {a} {rule} {At} {Left} j [] l xs r e bytes now h stands f =
       | inl last ↦ (
           let same : feed_sign a l.sign l.from (lexeme finish 0 0) r ≡ feed_sign a l.sign l.from l r = last_same j.ends l.sign l.from (lexeme finish 0 0) l r last in
           subst (λ (z : Result R TextFault). Found rule Left xs (l ∷ []) e.kind e.at (last_of a r z [])) same
-          (end_found j (feed_sign a l.sign l.from (lexeme finish 0 0) r) xs l r e refl (j.left xs l.sign r stands) (j.verdict xs l.sign l.from (lexeme finish 0 0) r stands (named bytes now l h.0) u.0) last (ap (λ z. read_all a z []) same ∙ u.1)))
+          (end_found j (feed_sign a l.sign l.from (lexeme finish 0 0) r) xs l r e refl (j.left xs l.sign r stands)
+          (j.verdict xs l.sign l.from (lexeme finish 0 0) r stands (named bytes now l h.0) u.0) last (ap (λ z. read_all a z []) same ∙ u.1)))
       | inr more ↦ absurd (h.2 more)
     ])
 finds {R} {a} {rule} {At} {Left} j (x ∷ ls) l xs r e bytes now h stands f =
@@ -189,7 +198,8 @@ finds {R} {a} {rule} {At} {Left} j (x ∷ ls) l xs r e bytes now h stands f =
     ])
 
 -- the fault that the reading of these tokens gives is the first one
-pub found : {R : Type 0} {a : Automaton R} {rule : FaultRule} {At : List Sign → Sign → R → Type 1} {Left : List Sign → R → Type 0} (j : Judges a rule At Left) (o : R) (bytes : List ℕ) (at : ℕ) (ls : List Lexeme) (e : TextFault)
+pub found : {R : Type 0} {a : Automaton R} {rule : FaultRule} {At : List Sign → Sign → R → Type 1} {Left : List Sign → R → Type 0} (j : Judges a rule At Left) (o : R) (bytes : List ℕ) (at : ℕ)
+    (ls : List Lexeme) (e : TextFault)
     → ((t : Sign) → At [] t o) → Lexed bytes at ls → read_all a (Ok o) ls ≡ Err e → Found rule Left [] ls e.kind e.at (last_of a o (Ok o) ls)
 found j o bytes at [] e begins h f = absurd h
 found j o bytes at (l ∷ ls) e begins h f = finds j ls l [] o e bytes at h (begins l.sign) f
@@ -202,9 +212,20 @@ one_least _ = omega arith
 pub least_same : (k j : TextKind) → j ≡ k → kind_number k ≤ kind_number j
 least_same k j e = let n : kind_number j ≡ kind_number k = ap kind_number e in omega arith
 
-abbrev pub first_of : {R : Type 0} (rule : FaultRule) (Left : List Sign → R → Type 0) (bytes : List ℕ) (at : ℕ) (ls : List Lexeme) (e : TextFault) (last : R) → Lexed bytes at ls → Found rule Left [] ls e.kind e.at last → FirstFaultBy rule bytes at e.kind e.at
+abbrev pub first_of : {R : Type 0} (rule : FaultRule) (Left : List Sign → R → Type 0) (bytes : List ℕ) (at : ℕ) (ls : List Lexeme) (e : TextFault) (last : R) → Lexed bytes at ls
+    → Found rule Left [] ls e.kind e.at last → FirstFaultBy rule bytes at e.kind e.at
 first_of rule Left bytes at ls e last h x =
-    record { before = x.xs; token = x.t; others = x.ys; lexed = subst (λ (z : List Lexeme). Lexed bytes at z) x.split h; stands = x.stands; fault = x.fault; clear = x.clear; least = λ k g. least_same e.kind k (x.only k g) }
+    record {
+      before = x.xs;
+      token = x.t;
+      others = x.ys;
+      lexed = subst
+          (λ (z : List Lexeme). Lexed bytes at z) x.split h;
+      stands = x.stands;
+      fault = x.fault;
+      clear = x.clear;
+      least = λ k g. least_same e.kind k (x.only k g);
+    }
 
 -- ---- what is read has no fault
 
@@ -226,20 +247,25 @@ pub nothing_read : {R : Type 0} (a : Automaton R) (z : Result R TextFault) (y : 
 nothing_read a (Ok d) y h = cc
 nothing_read a (Err e) y h = cc
 
-on_taken : {R : Type 0} {a : Automaton R} {rule : FaultRule} {At : List Sign → Sign → R → Type 1} {Left : List Sign → R → Type 0} (j : Judges a rule At Left) (z : Result R TextFault) (xs : List Sign) (l x : Lexeme) (rest : List Lexeme) (r : R) (y : Reading R)
+on_taken : {R : Type 0} {a : Automaton R} {rule : FaultRule} {At : List Sign → Sign → R → Type 1} {Left : List Sign → R → Type 0} (j : Judges a rule At Left) (z : Result R TextFault) (xs : List Sign)
+    (l x : Lexeme) (rest : List Lexeme) (r : R) (y : Reading R)
     → At xs l.sign r → IsNamed l.sign → a.is_read r ≡ false → feed_sign a l.sign l.from x r ≡ z → Verdict rule Left r xs l.sign l.from x z → read_all a z (x ∷ rest) ≡ Ok y
     → ((d : R) → At (xs ++ l.sign ∷ []) x.sign d → IsClear rule xs l.sign x.sign → read_all a (Ok d) (x ∷ rest) ≡ Ok y → ⊥) → ⊥
 on_taken j (Ok d) xs l x rest r y stands name unread e v f k = k d (j.taken xs l.sign l.from x r d stands name unread e) v f
 on_taken j (Err g) xs l x rest r y stands name unread e v f k = cc
 
-taken_on : {R : Type 0} {a : Automaton R} {rule : FaultRule} {At : List Sign → Sign → R → Type 1} {Left : List Sign → R → Type 0} (j : Judges a rule At Left) (xs : List Sign) (l x : Lexeme) (rest : List Lexeme) (r : R) (y : Reading R) (bytes : List ℕ) (now : ℕ)
+taken_on : {R : Type 0} {a : Automaton R} {rule : FaultRule} {At : List Sign → Sign → R → Type 1} {Left : List Sign → R → Type 0} (j : Judges a rule At Left) (xs : List Sign) (l x : Lexeme)
+    (rest : List Lexeme) (r : R) (y : Reading R) (bytes : List ℕ) (now : ℕ)
     → Lexed bytes now (l ∷ x ∷ rest) → At xs l.sign r → a.is_read r ≡ false → read_all a (Ok r) (l ∷ x ∷ rest) ≡ Ok y
     → ((d : R) → At (xs ++ l.sign ∷ []) x.sign d → IsClear rule xs l.sign x.sign → read_all a (Ok d) (x ∷ rest) ≡ Ok y → ⊥) → ⊥
 taken_on {R} {a} j xs l x rest r y bytes now h stands u f k =
-    on_taken j (feed_sign a l.sign l.from x r) xs l x rest r y stands (named bytes now l h.0) u refl (j.verdict xs l.sign l.from x r stands (named bytes now l h.0) u) (if_false (a.is_read r) _ _ y u f) k
+    on_taken j (feed_sign a l.sign l.from x r) xs l x rest r y stands (named bytes now l h.0) u refl (j.verdict xs l.sign l.from x r stands (named bytes now l h.0) u)
+    (if_false (a.is_read r) _ _ y u f) k
 
-clear_of_read : {R : Type 0} {a : Automaton R} {rule : FaultRule} {At : List Sign → Sign → R → Type 1} {Left : List Sign → R → Type 0} (j : Judges a rule At Left) (before : List Lexeme) (token : Lexeme) (others : List Lexeme) (xs : List Sign) (r : R) (y : Reading R) (k : TextKind) (bytes : List ℕ) (now : ℕ)
-    → Lexed bytes now (before ++ token ∷ others) → At xs (sign_behind (signs_of before) token.sign) r → read_all a (Ok r) (before ++ token ∷ others) ≡ Ok y → rule (xs ++ signs_of before) token.sign (next_of (signs_of others)) k → ⊥
+clear_of_read : {R : Type 0} {a : Automaton R} {rule : FaultRule} {At : List Sign → Sign → R → Type 1} {Left : List Sign → R → Type 0} (j : Judges a rule At Left) (before : List Lexeme)
+    (token : Lexeme) (others : List Lexeme) (xs : List Sign) (r : R) (y : Reading R) (k : TextKind) (bytes : List ℕ) (now : ℕ)
+    → Lexed bytes now (before ++ token ∷ others) → At xs (sign_behind (signs_of before) token.sign) r → read_all a (Ok r) (before ++ token ∷ others) ≡ Ok y
+    → rule (xs ++ signs_of before) token.sign (sign_after (signs_of others)) k → ⊥
 clear_of_read {R} {a} {rule} j [] token [] xs r y k bytes now h stands f g =
     let at : rule xs token.sign finish k = subst (λ (z : List Sign). rule z token.sign finish k) (append-nil xs) g in
     elim (true_or_false (a.is_read r)) [
@@ -255,56 +281,63 @@ clear_of_read {R} {a} {rule} j [] token (x ∷ others) xs r y k bytes now h stan
 clear_of_read {R} {a} {rule} j (l ∷ []) token others xs r y k bytes now h stands f g =
     let on = lexed_on bytes now l token others h in
     elim (true_or_false (a.is_read r)) [
-      | inl u ↦ j.beyond xs l.sign [] token.sign (next_of (signs_of others)) r k stands u (whole_of_more l.sign on.0) g
+      | inl u ↦ j.beyond xs l.sign [] token.sign (sign_after (signs_of others)) r k stands u (whole_of_more l.sign on.0) g
       | inr u ↦ taken_on j xs l token others r y bytes now h stands u f (λ d stands' clear f'. clear_of_read j [] token others (xs ++ l.sign ∷ []) d y k bytes l.until on.1 stands' f'
-          (subst (λ (z : List Sign). rule z token.sign (next_of (signs_of others)) k) (sym (append-nil (xs ++ l.sign ∷ []))) g))
+          (subst (λ (z : List Sign). rule z token.sign (sign_after (signs_of others)) k) (sym (append-nil (xs ++ l.sign ∷ []))) g))
     ]
 clear_of_read {R} {a} {rule} j (l ∷ m ∷ before) token others xs r y k bytes now h stands f g =
     let on = lexed_on bytes now l m (before ++ token ∷ others) h in
     elim (true_or_false (a.is_read r)) [
-      | inl u ↦ j.beyond xs l.sign (m.sign ∷ signs_of before) token.sign (next_of (signs_of others)) r k stands u (whole_of_more l.sign on.0) g
-      | inr u ↦ taken_on j xs l m (before ++ token ∷ others) r y bytes now h stands u f (λ d stands' clear f'. clear_of_read j (m ∷ before) token others (xs ++ l.sign ∷ []) d y k bytes l.until on.1 stands' f'
-          (subst (λ (z : List Sign). rule z token.sign (next_of (signs_of others)) k) (sym (append_assoc xs (l.sign ∷ []) (m.sign ∷ signs_of before))) g))
+      | inl u ↦ j.beyond xs l.sign (m.sign ∷ signs_of before) token.sign (sign_after (signs_of others)) r k stands u (whole_of_more l.sign on.0) g
+      | inr u ↦ taken_on j xs l m (before ++ token ∷ others) r y bytes now h stands u f
+          (λ d stands' clear f'. clear_of_read j (m ∷ before) token others (xs ++ l.sign ∷ []) d y k bytes l.until on.1 stands' f'
+          (subst (λ (z : List Sign). rule z token.sign (sign_after (signs_of others)) k) (sym (append_assoc xs (l.sign ∷ []) (m.sign ∷ signs_of before))) g))
     ]
 
-pub no_fault : {R : Type 0} {a : Automaton R} {rule : FaultRule} {At : List Sign → Sign → R → Type 1} {Left : List Sign → R → Type 0} (j : Judges a rule At Left) (o : R) (bytes : List ℕ) (at : ℕ) (y : Reading R) (k : TextKind) (offset : ℕ) (f : FirstFaultBy rule bytes at k offset)
+pub no_fault : {R : Type 0} {a : Automaton R} {rule : FaultRule} {At : List Sign → Sign → R → Type 1} {Left : List Sign → R → Type 0} (j : Judges a rule At Left) (o : R) (bytes : List ℕ) (at : ℕ)
+    (y : Reading R) (k : TextKind) (offset : ℕ) (f : FirstFaultBy rule bytes at k offset)
     → ((t : Sign) → At [] t o) → read_all a (Ok o) (f.before ++ f.token ∷ f.others) ≡ Ok y → ⊥
 no_fault j o bytes at y k offset f begins e = clear_of_read j f.before f.token f.others [] o y k bytes at f.lexed (begins (sign_behind (signs_of f.before) f.token.sign)) e f.fault
 
 -- ---- one fault at most
 
-pub same_place : (rule : FaultRule) (b c : List Lexeme) (t s : Lexeme) (os ps : List Lexeme) (xs : List Sign) (j k : TextKind) → b ++ t ∷ os ≡ c ++ s ∷ ps → rule (xs ++ signs_of b) t.sign (next_of (signs_of os)) j → AllClear rule xs (signs_of b) (signs_of (t ∷ os))
-    → rule (xs ++ signs_of c) s.sign (next_of (signs_of ps)) k → AllClear rule xs (signs_of c) (signs_of (s ∷ ps)) → (b ≡ c) × ((t ≡ s) × (os ≡ ps))
+pub same_place : (rule : FaultRule) (b c : List Lexeme) (t s : Lexeme) (os ps : List Lexeme) (xs : List Sign) (j k : TextKind) → b ++ t ∷ os ≡ c ++ s ∷ ps
+    → rule (xs ++ signs_of b) t.sign (sign_after (signs_of os)) j → AllClear rule xs (signs_of b) (signs_of (t ∷ os))
+    → rule (xs ++ signs_of c) s.sign (sign_after (signs_of ps)) k → AllClear rule xs (signs_of c) (signs_of (s ∷ ps)) → (b ≡ c) × ((t ≡ s) × (os ≡ ps))
 same_place rule [] [] t s os ps xs j k h f cf g cg = (refl, (cc, cc))
 same_place rule [] (x ∷ c) t s os ps xs j k h f cf g cg =
     let one : t ≡ x = cc in
     let more : os ≡ c ++ s ∷ ps = cc in
     let signs : signs_of os ≡ signs_of c ++ signs_of (s ∷ ps) = ap signs_of more ∙ signs_append c (s ∷ ps) in
-    absurd (cg.0 j (subst (λ (z : List Sign). rule xs x.sign (next_of z) j) signs (subst (λ (z : Lexeme). rule xs z.sign (next_of (signs_of os)) j) one (subst (λ (z : List Sign). rule z t.sign (next_of (signs_of os)) j) (append-nil xs) f))))
+    absurd (cg.0 j (subst (λ (z : List Sign). rule xs x.sign (sign_after z) j) signs
+    (subst (λ (z : Lexeme). rule xs z.sign (sign_after (signs_of os)) j) one (subst (λ (z : List Sign). rule z t.sign (sign_after (signs_of os)) j) (append-nil xs) f))))
 same_place rule (x ∷ b) [] t s os ps xs j k h f cf g cg =
     let one : s ≡ x = cc in
     let more : ps ≡ b ++ t ∷ os = cc in
     let signs : signs_of ps ≡ signs_of b ++ signs_of (t ∷ os) = ap signs_of more ∙ signs_append b (t ∷ os) in
-    absurd (cf.0 k (subst (λ (z : List Sign). rule xs x.sign (next_of z) k) signs (subst (λ (z : Lexeme). rule xs z.sign (next_of (signs_of ps)) k) one (subst (λ (z : List Sign). rule z s.sign (next_of (signs_of ps)) k) (append-nil xs) g))))
+    absurd (cf.0 k (subst (λ (z : List Sign). rule xs x.sign (sign_after z) k) signs
+    (subst (λ (z : Lexeme). rule xs z.sign (sign_after (signs_of ps)) k) one (subst (λ (z : List Sign). rule z s.sign (sign_after (signs_of ps)) k) (append-nil xs) g))))
 same_place rule (x ∷ b) (y ∷ c) t s os ps xs j k h f cf g cg =
     let one : y ≡ x = cc in
     let more : b ++ t ∷ os ≡ c ++ s ∷ ps = cc in
     let shape : (zs : List Lexeme) → xs ++ (x.sign ∷ signs_of zs) ≡ (xs ++ x.sign ∷ []) ++ signs_of zs = λ zs. sym (append_assoc xs (x.sign ∷ []) (signs_of zs)) in
-    let g' : rule (xs ++ (x.sign ∷ signs_of c)) s.sign (next_of (signs_of ps)) k = subst (λ (z : Lexeme). rule (xs ++ (z.sign ∷ signs_of c)) s.sign (next_of (signs_of ps)) k) one g in
-    let z = same_place rule b c t s os ps (xs ++ x.sign ∷ []) j k more (subst (λ (z : List Sign). rule z t.sign (next_of (signs_of os)) j) (shape b) f) cf.1
-    (subst (λ (z : List Sign). rule z s.sign (next_of (signs_of ps)) k) (shape c) g') (subst (λ (z : Lexeme). AllClear rule (xs ++ z.sign ∷ []) (signs_of c) (signs_of (s ∷ ps))) one cg.1) in
+    let g' : rule (xs ++ (x.sign ∷ signs_of c)) s.sign (sign_after (signs_of ps)) k = subst (λ (z : Lexeme). rule (xs ++ (z.sign ∷ signs_of c)) s.sign (sign_after (signs_of ps)) k) one g in
+    let z = same_place rule b c t s os ps (xs ++ x.sign ∷ []) j k more (subst (λ (z : List Sign). rule z t.sign (sign_after (signs_of os)) j) (shape b) f) cf.1
+    (subst (λ (z : List Sign). rule z s.sign (sign_after (signs_of ps)) k) (shape c) g') (subst (λ (z : Lexeme). AllClear rule (xs ++ z.sign ∷ []) (signs_of c) (signs_of (s ∷ ps))) one cg.1) in
     (ap (λ o. x ∷ o) z.0 ∙ ap (λ o. o ∷ c) (sym one), z.1)
 
 -- a first fault is the one that is found
-found_is : {R : Type 0} (rule : FaultRule) (Left : List Sign → R → Type 0) (bytes : List ℕ) (at : ℕ) (k : TextKind) (offset : ℕ) (e : TextFault) (ls : List Lexeme) (last : R) (f : FirstFaultBy rule bytes at k offset) → Lexed bytes at ls → Found rule Left [] ls e.kind e.at last → (k ≡ e.kind) × (offset ≡ e.at)
+found_is : {R : Type 0} (rule : FaultRule) (Left : List Sign → R → Type 0) (bytes : List ℕ) (at : ℕ) (k : TextKind) (offset : ℕ) (e : TextFault) (ls : List Lexeme) (last : R)
+    (f : FirstFaultBy rule bytes at k offset) → Lexed bytes at ls → Found rule Left [] ls e.kind e.at last → (k ≡ e.kind) × (offset ≡ e.at)
 found_is rule Left bytes at k offset e ls last f h x =
     let same = same_place rule f.before x.xs f.token x.t f.others x.ys [] k e.kind (one_list bytes (f.before ++ f.token ∷ f.others) ls at f.lexed h ∙ x.split) f.fault f.clear x.fault x.clear in
-    let a : rule (signs_of x.xs) f.token.sign (next_of (signs_of f.others)) k = subst (λ (z : List Lexeme). rule (signs_of z) f.token.sign (next_of (signs_of f.others)) k) same.0 f.fault in
-    let b : rule (signs_of x.xs) x.t.sign (next_of (signs_of f.others)) k = subst (λ (z : Lexeme). rule (signs_of x.xs) z.sign (next_of (signs_of f.others)) k) same.1.0 a in
-    let c : rule (signs_of x.xs) x.t.sign (next_of (signs_of x.ys)) k = subst (λ (z : List Lexeme). rule (signs_of x.xs) x.t.sign (next_of (signs_of z)) k) same.1.1 b in
+    let a : rule (signs_of x.xs) f.token.sign (sign_after (signs_of f.others)) k = subst (λ (z : List Lexeme). rule (signs_of z) f.token.sign (sign_after (signs_of f.others)) k) same.0 f.fault in
+    let b : rule (signs_of x.xs) x.t.sign (sign_after (signs_of f.others)) k = subst (λ (z : Lexeme). rule (signs_of x.xs) z.sign (sign_after (signs_of f.others)) k) same.1.0 a in
+    let c : rule (signs_of x.xs) x.t.sign (sign_after (signs_of x.ys)) k = subst (λ (z : List Lexeme). rule (signs_of x.xs) x.t.sign (sign_after (signs_of z)) k) same.1.1 b in
     (x.only k c, sym f.stands ∙ ap (λ z. z.from) same.1.0 ∙ x.stands)
 
-told_by : {R : Type 0} {a : Automaton R} {rule : FaultRule} {At : List Sign → Sign → R → Type 1} {Left : List Sign → R → Type 0} (j : Judges a rule At Left) (o : R) (z : Result (Reading R) TextFault) (bytes : List ℕ) (at : ℕ) (k : TextKind) (offset : ℕ) (f : FirstFaultBy rule bytes at k offset)
+told_by : {R : Type 0} {a : Automaton R} {rule : FaultRule} {At : List Sign → Sign → R → Type 1} {Left : List Sign → R → Type 0} (j : Judges a rule At Left) (o : R) (z : Result (Reading R) TextFault)
+    (bytes : List ℕ) (at : ℕ) (k : TextKind) (offset : ℕ) (f : FirstFaultBy rule bytes at k offset)
     → ((t : Sign) → At [] t o) → read_all a (Ok o) (f.before ++ f.token ∷ f.others) ≡ z → z ≡ Err (record { kind = k; at = offset })
 told_by j o (Ok y) bytes at k offset f begins e = absurd (no_fault j o bytes at y k offset f begins e)
 told_by {R} {a} {rule} {At} {Left} j o (Err g) bytes at k offset f begins e =
@@ -313,7 +346,8 @@ told_by {R} {a} {rule} {At} {Left} j o (Err g) bytes at k offset f begins e =
     ap (λ i. Err (record { kind = i; at = g.at })) (sym same.0) ∙ ap (λ i. Err (record { kind = k; at = i })) (sym same.1)
 
 -- the first fault of a text is told
-pub tells : {R : Type 0} {a : Automaton R} {rule : FaultRule} {At : List Sign → Sign → R → Type 1} {Left : List Sign → R → Type 0} (j : Judges a rule At Left) (o : R) (bytes : List ℕ) (at : ℕ) (k : TextKind) (offset : ℕ) → ((t : Sign) → At [] t o) → FirstFaultBy rule bytes at k offset
+pub tells : {R : Type 0} {a : Automaton R} {rule : FaultRule} {At : List Sign → Sign → R → Type 1} {Left : List Sign → R → Type 0} (j : Judges a rule At Left) (o : R) (bytes : List ℕ) (at : ℕ)
+    (k : TextKind) (offset : ℕ) → ((t : Sign) → At [] t o) → FirstFaultBy rule bytes at k offset
     → (ls : List Lexeme) → Lexed bytes at ls → read_all a (Ok o) ls ≡ Err (record { kind = k; at = offset })
 tells {R} {a} j o bytes at k offset begins f ls h =
     ap (λ z. read_all a (Ok o) z) (one_list bytes ls (f.before ++ f.token ∷ f.others) at h f.lexed) ∙ told_by j o (read_all a (Ok o) (f.before ++ f.token ∷ f.others)) bytes at k offset f begins refl
@@ -322,10 +356,12 @@ told_same : {R : Type 0} (g e : TextFault) (x : Result (Reading R) TextFault) �
 told_same g e x h k = cc
 
 -- a text has one first fault at most
-pub one_fault : {R : Type 0} {a : Automaton R} {rule : FaultRule} {At : List Sign → Sign → R → Type 1} {Left : List Sign → R → Type 0} (j : Judges a rule At Left) (o : R) (bytes : List ℕ) (at : ℕ) (i k : TextKind) (n m : ℕ) → ((t : Sign) → At [] t o) → FirstFaultBy rule bytes at i n → FirstFaultBy rule bytes at k m → (i ≡ k) × (n ≡ m)
+pub one_fault : {R : Type 0} {a : Automaton R} {rule : FaultRule} {At : List Sign → Sign → R → Type 1} {Left : List Sign → R → Type 0} (j : Judges a rule At Left) (o : R) (bytes : List ℕ) (at : ℕ)
+    (i k : TextKind) (n m : ℕ) → ((t : Sign) → At [] t o) → FirstFaultBy rule bytes at i n → FirstFaultBy rule bytes at k m → (i ≡ k) × (n ≡ m)
 one_fault {R} {a} j o bytes at i k n m begins f g =
     let ls : List Lexeme = f.before ++ f.token ∷ f.others in
-    let e : record { kind = i; at = n } ≡ record { kind = k; at = m } = told_same (record { kind = i; at = n }) (record { kind = k; at = m }) (read_all a (Ok o) ls) (tells j o bytes at i n begins f ls f.lexed) (tells j o bytes at k m begins g ls f.lexed) in
+    let e : record { kind = i; at = n } ≡ record { kind = k; at = m }
+    = told_same (record { kind = i; at = n }) (record { kind = k; at = m }) (read_all a (Ok o) ls) (tells j o bytes at i n begins f ls f.lexed) (tells j o bytes at k m begins g ls f.lexed) in
     (ap (λ (z : TextFault). z.kind) e, ap (λ (z : TextFault). z.at) e)
 
 -- ---- where the reading stops
@@ -339,7 +375,8 @@ pub record Halt {R : Type 0} (a : Automaton R) (At : List Sign → Sign → R �
   pub read : a.is_read x.reader ≡ true
   pub until : x.until ≡ l.from
 
-halt_later : {R : Type 0} (a : Automaton R) (At : List Sign → Sign → R → Type 1) (before : List Sign) (l : Lexeme) (ls : List Lexeme) (x : Reading R) → Halt a At (before ++ l.sign ∷ []) ls x → Halt a At before (l ∷ ls) x
+halt_later : {R : Type 0} (a : Automaton R) (At : List Sign → Sign → R → Type 1) (before : List Sign) (l : Lexeme) (ls : List Lexeme) (x : Reading R) → Halt a At (before ++ l.sign ∷ []) ls x
+    → Halt a At before (l ∷ ls) x
 halt_later a At before l ls x s = record {
   xs = l ∷ s.xs;
   l = s.l;
@@ -353,7 +390,8 @@ halt_later a At before l ls x s = record {
 ok_is : {R : Type 0} (x y : Reading R) (z : Result (Reading R) TextFault) → z ≡ Ok x → z ≡ Ok y → x ≡ y
 ok_is x y z h k = cc
 
-halt_here : {R : Type 0} (a : Automaton R) (At : List Sign → Sign → R → Type 1) (before : List Sign) (l : Lexeme) (ls : List Lexeme) (r : R) (x : Reading R) → record { reader = r; until = l.from } ≡ x → At before l.sign r → a.is_read r ≡ true → Halt a At before (l ∷ ls) x
+halt_here : {R : Type 0} (a : Automaton R) (At : List Sign → Sign → R → Type 1) (before : List Sign) (l : Lexeme) (ls : List Lexeme) (r : R) (x : Reading R) → record { reader = r; until = l.from } ≡ x
+    → At before l.sign r → a.is_read r ≡ true → Halt a At before (l ∷ ls) x
 halt_here {R} a At before l ls r x same stands h =
     subst (λ (z : Reading R). Halt a At before (l ∷ ls) z) same (record {
       xs = [];
@@ -369,10 +407,12 @@ on_read : {R : Type 0} (a : Automaton R) (y : Result R TextFault) (ls : List Lex
 on_read a (Ok d) ls x h = (d, refl, h)
 on_read a (Err e) ls x h = absurd (cc h)
 
-read_first : {R : Type 0} (a : Automaton R) (l : Lexeme) (ls : List Lexeme) (r : R) (c : Bool) → a.is_read r ≡ c → read_all a (Ok r) (l ∷ ls) ≡ (if c then Ok (record { reader = r; until = l.from }) else read_all a (feed_sign a l.sign l.from (next_lexeme_of l ls) r) ls)
+read_first : {R : Type 0} (a : Automaton R) (l : Lexeme) (ls : List Lexeme) (r : R) (c : Bool) → a.is_read r ≡ c
+    → read_all a (Ok r) (l ∷ ls) ≡ (if c then Ok (record { reader = r; until = l.from }) else read_all a (feed_sign a l.sign l.from (next_lexeme_of l ls) r) ls)
 read_first a l ls r c e = ap (λ z. if z then Ok (record { reader = r; until = l.from }) else read_all a (feed_sign a l.sign l.from (next_lexeme_of l ls) r) ls) e
 
-halts : {R : Type 0} {a : Automaton R} {rule : FaultRule} {At : List Sign → Sign → R → Type 1} {Left : List Sign → R → Type 0} (j : Judges a rule At Left) (ls : List Lexeme) (l : Lexeme) (before : List Sign) (r : R) (x : Reading R) (bytes : List ℕ) (now : ℕ)
+halts : {R : Type 0} {a : Automaton R} {rule : FaultRule} {At : List Sign → Sign → R → Type 1} {Left : List Sign → R → Type 0} (j : Judges a rule At Left) (ls : List Lexeme) (l : Lexeme)
+    (before : List Sign) (r : R) (x : Reading R) (bytes : List ℕ) (now : ℕ)
     → Lexed bytes now (l ∷ ls) → At before l.sign r → read_all a (Ok r) (l ∷ ls) ≡ Ok x → Halt a At before (l ∷ ls) x
 halts {R} {a} {rule} {At} j [] l before r x bytes now h stands f = elim (true_or_false (a.is_read r)) [
   | inl e ↦ halt_here a At before l [] r x (ok_is (record { reader = r; until = l.from }) x (read_all a (Ok r) (l ∷ [])) (read_first a l [] r true e) f) stands e
@@ -389,7 +429,8 @@ halts {R} {a} {rule} {At} j (y ∷ ls) l before r x bytes now h stands f = elim 
 ]
 
 -- where the reading of the tokens of a text stops
-pub halt : {R : Type 0} {a : Automaton R} {rule : FaultRule} {At : List Sign → Sign → R → Type 1} {Left : List Sign → R → Type 0} (j : Judges a rule At Left) (o : R) (bytes : List ℕ) (at : ℕ) (ls : List Lexeme) (x : Reading R) → ((t : Sign) → At [] t o) → Lexed bytes at ls → read_all a (Ok o) ls ≡ Ok x → Halt a At [] ls x
+pub halt : {R : Type 0} {a : Automaton R} {rule : FaultRule} {At : List Sign → Sign → R → Type 1} {Left : List Sign → R → Type 0} (j : Judges a rule At Left) (o : R) (bytes : List ℕ) (at : ℕ)
+    (ls : List Lexeme) (x : Reading R) → ((t : Sign) → At [] t o) → Lexed bytes at ls → read_all a (Ok o) ls ≡ Ok x → Halt a At [] ls x
 halt j o bytes at [] x begins lexed h = absurd lexed
 halt j o bytes at (l ∷ ls) x begins lexed h = halts j ls l [] o x bytes at lexed (begins l.sign) h
 
@@ -399,21 +440,25 @@ next_sign : (x : Lexeme) (xs : List Lexeme) (l : Lexeme) (others : List Lexeme) 
 next_sign x [] l others = refl
 next_sign x (y ∷ xs) l others = refl
 
-exact_first : {R : Type 0} (a : Automaton R) (t u : Sign) (at : ℕ) (n : Lexeme) (ts : List Sign) (r : R) (N : Type 0) (Q : R → Type 0) → n.sign ≡ sign_behind ts u → Exact a (t ∷ ts) u N Q r → Tells (feed_sign a t at n r) N (λ d. Exact a ts u N Q d)
+exact_first : {R : Type 0} (a : Automaton R) (t u : Sign) (at : ℕ) (n : Lexeme) (ts : List Sign) (r : R) (N : Type 0) (Q : R → Type 0) → n.sign ≡ sign_behind ts u → Exact a (t ∷ ts) u N Q r
+    → Tells (feed_sign a t at n r) N (λ d. Exact a ts u N Q d)
 exact_first a t u at n ts r N Q e h = subst (λ (z : Sign). Tells (feed_sign a t at (lexeme z n.from n.until) r) N (λ d. Exact a ts u N Q d)) (sym e) (h at n.from n.until)
 
 -- the tokens are read as far as l, and lead to such a reader
 abbrev pub Runs : {R : Type 0} → Automaton R → Result R TextFault → List Lexeme → Lexeme → (R → Type 0) → Type 0
 Runs {R} a x ls l Q = (d : R) × (Q d × (read_all a x ls ≡ Ok (record { reader = d; until = l.from })))
 
-on_fed : {R : Type 0} (a : Automaton R) (x : Result R TextFault) (ls : List Lexeme) (l : Lexeme) (N : Type 0) (P Q : R → Type 0) → (N → ⊥) → Tells x N P → ((d : R) → P d → Runs a (Ok d) ls l Q) → Runs a x ls l Q
+on_fed : {R : Type 0} (a : Automaton R) (x : Result R TextFault) (ls : List Lexeme) (l : Lexeme) (N : Type 0) (P Q : R → Type 0) → (N → ⊥) → Tells x N P → ((d : R) → P d → Runs a (Ok d) ls l Q)
+    → Runs a x ls l Q
 on_fed a (Ok d) ls l N P Q never h k = k d h
 on_fed a (Err e) ls l N P Q never h k = absurd (never h)
 
 -- `over` says that a reader that has read all takes no token
-pub runs : {R : Type 0} (a : Automaton R) (over : (t : Sign) (at : ℕ) (n : Lexeme) (r : R) (N : Type 0) (Q : R → Type 0) → a.is_read r ≡ true → Tells (feed_sign a t at n r) N Q → N) (xs : List Lexeme) (l : Lexeme) (others : List Lexeme) (r : R) (N : Type 0) (Q : R → Type 0)
+pub runs : {R : Type 0} (a : Automaton R) (over : (t : Sign) (at : ℕ) (n : Lexeme) (r : R) (N : Type 0) (Q : R → Type 0) → a.is_read r ≡ true → Tells (feed_sign a t at n r) N Q → N) (xs : List Lexeme)
+    (l : Lexeme) (others : List Lexeme) (r : R) (N : Type 0) (Q : R → Type 0)
     → (N → ⊥) → ((d : R) → Q d → a.is_read d ≡ true) → Exact a (signs_of xs) l.sign N Q r → Runs a (Ok r) (xs ++ l ∷ others) l Q
-runs a over [] l others r N Q never q h = (r, (h, ap (λ z. if z then Ok (record { reader = r; until = l.from }) else read_all a (feed_sign a l.sign l.from (next_lexeme_of l others) r) others) (q r h)))
+runs a over [] l others r N Q never q h =
+    (r, (h, ap (λ z. if z then Ok (record { reader = r; until = l.from }) else read_all a (feed_sign a l.sign l.from (next_lexeme_of l others) r) others) (q r h)))
 runs a over (x ∷ xs) l others r N Q never q h =
     let n : Lexeme = next_lexeme_of x (xs ++ l ∷ others) in
     let told : Tells (feed_sign a x.sign x.from n r) N (λ d. Exact a (signs_of xs) l.sign N Q d) = exact_first a x.sign l.sign x.from n (signs_of xs) r N Q (next_sign x xs l others) h in

@@ -103,16 +103,19 @@ fault_within {R} a s o bytes at f h p =
     subst (λ (z : Result (Reading R) TextFault). IfErr z (Below (length bytes))) (p t.0 t.1) (below_all a s (length bytes) t.0 (Ok o) (all_below bytes t.0 at h t.1) tt)
 
 -- what is told stands within the text
-pub told_within : {R : Type 0} (a : Automaton R) → StaysBelow a → (s : Stop) (o : R) (bytes : List ℕ) (at : ℕ) (f : TextFault) → f ≡ fault_of_stop s at → at ≤ length bytes → StopsBy a s o bytes at → f.at ≤ length bytes
+pub told_within : {R : Type 0} (a : Automaton R) → StaysBelow a → (s : Stop) (o : R) (bytes : List ℕ) (at : ℕ) (f : TextFault) → f ≡ fault_of_stop s at → at ≤ length bytes → StopsBy a s o bytes at
+    → f.at ≤ length bytes
 told_within a b stops.Memory o bytes at f e h p = subst (λ (k : ℕ). k ≤ length bytes) (sym (ap (λ z. z.at) e)) h
 told_within a b (stops.Fault g) o bytes at f e h p = subst (λ (k : ℕ). k ≤ length bytes) (sym (ap (λ z. z.at) e)) (fault_within a b o bytes at g h p)
 
 -- ---- refusals
 
 -- what is told of a reading that stops is the first fault of the text, or want of memory
-pub refused : {R : Type 0} {a : Automaton R} {rule : FaultRule} {At : List Sign → Sign → R → Type 1} {Left : List Sign → R → Type 0} (j : Judges a rule At Left) (o : R) → ((t : Sign) → At [] t o) → (s : Stop) (bytes : List ℕ) (at : ℕ) (e : TextFault) → e ≡ fault_of_stop s at → at ≤ length bytes → StopsBy a s o bytes at
+pub refused : {R : Type 0} {a : Automaton R} {rule : FaultRule} {At : List Sign → Sign → R → Type 1} {Left : List Sign → R → Type 0} (j : Judges a rule At Left) (o : R) → ((t : Sign) → At [] t o)
+    → (s : Stop) (bytes : List ℕ) (at : ℕ) (e : TextFault) → e ≡ fault_of_stop s at → at ≤ length bytes → StopsBy a s o bytes at
     → (e.kind ≡ kind.NoMemory) ⊎ FirstFaultBy rule bytes at e.kind e.at
 refused j o begins stops.Memory bytes at e same within h = inl (ap (λ (z : TextFault). z.kind) same)
 refused {R} {a} {rule} {At} {Left} j o begins (stops.Fault f) bytes at e same within h =
     let t = tokens bytes at within in
-    inr (subst (λ (z : TextFault). FirstFaultBy rule bytes at z.kind z.at) (sym same) (first_of rule Left bytes at t.0 f (last_of a o (Ok o) t.0) t.1 (found j o bytes at t.0 f begins t.1 (h t.0 t.1))))
+    inr (subst (λ (z : TextFault). FirstFaultBy rule bytes at z.kind z.at) (sym same)
+    (first_of rule Left bytes at t.0 f (last_of a o (Ok o) t.0) t.1 (found j o bytes at t.0 f begins t.1 (h t.0 t.1))))

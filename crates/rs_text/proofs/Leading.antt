@@ -59,12 +59,16 @@ pub behind_append : (xs ys : List Sign) (u : Sign) → sign_behind (xs ++ ys) u 
 behind_append [] ys u = refl
 behind_append (x ∷ xs) ys u = refl
 
-pub leads_split : {R : Type 0} (a : Automaton R) (E : TextKind → Type 0) (xs ys : List Sign) (u : Sign) (Q : R → Type 0) (r : R) → LeadsOr a E (xs ++ ys) u Q r → LeadsOr a E xs (sign_behind ys u) (λ d. LeadsOr a E ys u Q d) r
+pub leads_split : {R : Type 0} (a : Automaton R) (E : TextKind → Type 0) (xs ys : List Sign) (u : Sign) (Q : R → Type 0) (r : R) → LeadsOr a E (xs ++ ys) u Q r
+    → LeadsOr a E xs (sign_behind ys u) (λ d. LeadsOr a E ys u Q d) r
 leads_split a E [] ys u Q r h = h
-leads_split a E (t ∷ xs) ys u Q r h = λ p f n. subst (λ (z : Sign). LandsOr E (feed_sign a t p (lexeme z f n) r) (λ d. LeadsOr a E xs (sign_behind ys u) (λ d. LeadsOr a E ys u Q d) d)) (behind_append xs ys u)
-    (lands_map E (feed_sign a t p (lexeme (sign_behind (xs ++ ys) u) f n) r) (λ d. LeadsOr a E (xs ++ ys) u Q d) (λ d. LeadsOr a E xs (sign_behind ys u) (λ d. LeadsOr a E ys u Q d) d) (λ d g. leads_split a E xs ys u Q d g) (h p f n))
+leads_split a E (t ∷ xs) ys u Q r h =
+    λ p f n. subst (λ (z : Sign). LandsOr E (feed_sign a t p (lexeme z f n) r) (λ d. LeadsOr a E xs (sign_behind ys u) (λ d. LeadsOr a E ys u Q d) d)) (behind_append xs ys u)
+    (lands_map E (feed_sign a t p (lexeme (sign_behind (xs ++ ys) u) f n) r) (λ d. LeadsOr a E (xs ++ ys) u Q d) (λ d. LeadsOr a E xs (sign_behind ys u) (λ d. LeadsOr a E ys u Q d) d)
+    (λ d g. leads_split a E xs ys u Q d g) (h p f n))
 
-pub reach_on : {R : Type 0} (a : Automaton R) (o : R) (xs : List Sign) (t u : Sign) (at from until : ℕ) (r d : R) → Reached a o xs t r → feed_sign a t at (lexeme u from until) r ≡ Ok d → Reached a o (xs ++ t ∷ []) u d
+pub reach_on : {R : Type 0} (a : Automaton R) (o : R) (xs : List Sign) (t u : Sign) (at from until : ℕ) (r d : R) → Reached a o xs t r → feed_sign a t at (lexeme u from until) r ≡ Ok d
+    → Reached a o (xs ++ t ∷ []) u d
 reach_on {R} a o xs t u at from until r d reach e = λ E Q h.
     let k : LeadsOr a E (t ∷ []) u Q r = reach E (λ d. LeadsOr a E (t ∷ []) u Q d) (leads_split a E xs (t ∷ []) u Q o h) in
     subst (λ (x : Result R TextFault). LandsOr E x Q) e (k at from until)
@@ -80,7 +84,8 @@ pub lands_if : {R : Type 0} (c : Bool) (k : TextKind) (at : ℕ) (x : Result R T
 lands_if true k at x Q n h = n
 lands_if false k at x Q n h = h
 
-pub tells_if : {R : Type 0} (c : Bool) (k : TextKind) (at : ℕ) (x : Result R TextFault) (N : Type 0) (Q : R → Type 0) → (c ≡ true → N) → (c ≡ false → Tells x N Q) → Tells (if c then fault k at else x) N Q
+pub tells_if : {R : Type 0} (c : Bool) (k : TextKind) (at : ℕ) (x : Result R TextFault) (N : Type 0) (Q : R → Type 0) → (c ≡ true → N) → (c ≡ false → Tells x N Q)
+    → Tells (if c then fault k at else x) N Q
 tells_if true k at x N Q n h = n refl
 tells_if false k at x N Q n h = h refl
 

@@ -19,3 +19,4 @@ pub mod MessageLaws
 pub mod Comments
 pub mod PlainNames
 pub mod Sameness
+pub mod Cutting

@@ -1,5 +1,6 @@
 -- What a token makes of a message: where its fault stands, what its label is, and which labels are there behind it.
-use Rattle.std.proofs.Common.{◌≡◌, ◌∙◌, ℕ, ◌≤◌, List, [], ◌∷◌, ◌++◌, append-nil, append_assoc, codes, length, Bool, true, false, ◌&&◌, ◌||◌, if◌then◌else◌, nat_le, nat_lt, Option, Some, None, Ok, IfOk, IfErr, refl, sym, ap, subst}
+use Rattle.std.proofs.Common.{◌≡◌, ◌∙◌, ℕ, ◌≤◌, List, [], ◌∷◌, ◌++◌, append-nil, append_assoc, codes, length, Bool, true, false, ◌&&◌, ◌||◌, if◌then◌else◌, nat_le, nat_lt, Option, Some, None, Ok}
+use Rattle.std.proofs.Common.{IfOk, IfErr, refl, sym, ap, subst}
 use Rattle.std.proofs.lemmas.Slice.Eq.{bytes_eq-Decides}
 use Rattle.std.specs.List.{list_all}
 use Rattle.std.specs.Str.{bytes_eq}
@@ -16,7 +17,7 @@ use Rattle.rs_text.specs.declared.messages.MessagePlace.{MessagePlace}
 use Rattle.rs_text.specs.declared.messages.MessagePlace.TheVariants as place
 use Rattle.rs_text.specs.Arms.{sort_text}
 use Rattle.rs_text.specs.Lexemes.{Lexeme}
-use Rattle.rs_text.specs.Messages.{Message, goes_on, ends, Fed, label_of_number, feed_label_number, feed_label, feed_sort_word, feed_message}
+use Rattle.rs_text.specs.Messages.{MessageFed, goes_on, ends, Fed, label_of_number, feed_label_number, feed_label, feed_sort_word, feed_message}
 use Rattle.rs_text.specs.Names.{place_of, names_with, is_among, differ}
 use Rattle.rs_text.specs.Readings.{Automaton, feed_sign, fault}
 use Rattle.rs_text.specs.Seen.{word_text, sort_named}
@@ -95,13 +96,16 @@ message_below n (place.Close l s) _ at labels h = h
 abbrev pub has_room : List ℕ → List (List ℕ) → Bool
 has_room l labels = is_among l labels || nat_lt (length labels) MOST_LABELS
 
-room_if : (c : Bool) (E : TextKind → Type 0) (Q : Message → Type 0) (at : ℕ) (m : Message) → (c ≡ true → E kind.TooManyLabels) → (c ≡ false → Q m) → LandsOr E (if c then fault kind.TooManyLabels at else Ok m) Q
+room_if : (c : Bool) (E : TextKind → Type 0) (Q : MessageFed → Type 0) (at : ℕ) (m : MessageFed) → (c ≡ true → E kind.TooManyLabels) → (c ≡ false → Q m)
+    → LandsOr E (if c then fault kind.TooManyLabels at else Ok m) Q
 room_if true E Q at m f h = f refl
 room_if false E Q at m f h = h refl
 
 -- the label lands among the labels that were there with it, or there is no room
-pub labelled_lands : (E : TextKind → Type 0) (Q : Message → Type 0) (found : Option ℕ) (l : List ℕ) (at : ℕ) (labels : List (List ℕ)) → place_of l labels ≡ found → (has_room l labels ≡ false → E kind.TooManyLabels)
-    → (has_room l labels ≡ true → (k : ℕ) → place_of l (names_with labels (l ∷ [])) ≡ Some k → Q (goes_on (names_with labels (l ∷ [])) (place.Paren (label_of_number k)))) → LandsOr E (feed_label_number found l at labels) Q
+pub labelled_lands : (E : TextKind → Type 0) (Q : MessageFed → Type 0) (found : Option ℕ) (l : List ℕ) (at : ℕ) (labels : List (List ℕ)) → place_of l labels ≡ found
+    → (has_room l labels ≡ false → E kind.TooManyLabels)
+    → (has_room l labels ≡ true → (k : ℕ) → place_of l (names_with labels (l ∷ [])) ≡ Some k → Q (goes_on (names_with labels (l ∷ [])) (place.Paren (label_of_number k))))
+    → LandsOr E (feed_label_number found l at labels) Q
 labelled_lands E Q (Some k) l at labels e f h =
     let same : names_with labels (l ∷ []) ≡ labels = grown_old labels l k e in
     let room : has_room l labels ≡ true = ap (λ z. z || nat_lt (length labels) MOST_LABELS) (among labels l 0 k e) in
@@ -131,11 +135,12 @@ labels_first names s =
     record { later = []; labels_are = sym (append-nil names.labels); labels_differ = u.0; words = u.1 }
 
 -- the labels behind a token
-abbrev pub GoodBehind : (old labels : List (List ℕ)) → Message → Type 0
+abbrev pub GoodBehind : (old labels : List (List ℕ)) → MessageFed → Type 0
 GoodBehind old labels (goes_on more p) = GoodLabels old more
 GoodBehind old labels (ends l s) = GoodLabels old labels
 
-new_good : (c : Bool) (old labels : List (List ℕ)) (w : List ℕ) (at : ℕ) (p : MessagePlace) → is_among w labels ≡ false → is_word w ≡ true → GoodLabels old labels → IfOk (if c then fault kind.TooManyLabels at else Ok (goes_on (labels ++ w ∷ []) p)) (GoodBehind old labels)
+new_good : (c : Bool) (old labels : List (List ℕ)) (w : List ℕ) (at : ℕ) (p : MessagePlace) → is_among w labels ≡ false → is_word w ≡ true → GoodLabels old labels
+    → IfOk (if c then fault kind.TooManyLabels at else Ok (goes_on (labels ++ w ∷ []) p)) (GoodBehind old labels)
 new_good true old labels w at p e k g = tt
 new_good false old labels w at p e k g = record {
   later = g.later ++ w ∷ [];
@@ -144,11 +149,13 @@ new_good false old labels w at p e k g = record {
   words = new_all is_word labels w e g.words k;
 }
 
-labelled_good : (old labels : List (List ℕ)) (o : Option ℕ) (w : List ℕ) (at : ℕ) → place_of w labels ≡ o → is_word w ≡ true → GoodLabels old labels → IfOk (feed_label_number o w at labels) (GoodBehind old labels)
+labelled_good : (old labels : List (List ℕ)) (o : Option ℕ) (w : List ℕ) (at : ℕ) → place_of w labels ≡ o → is_word w ≡ true → GoodLabels old labels
+    → IfOk (feed_label_number o w at labels) (GoodBehind old labels)
 labelled_good old labels (Some k) w at e f g = g
 labelled_good old labels None w at e f g = new_good (nat_le MOST_LABELS (length labels)) old labels w at _ (not_among labels w 0 e) f g
 
-named_good : (old labels : List (List ℕ)) (v : Wanted) (o : Option (List ℕ)) (at : ℕ) → ((w : List ℕ) → o ≡ Some w → is_word w ≡ true) → GoodLabels old labels → IfOk (feed_label v o at labels) (GoodBehind old labels)
+named_good : (old labels : List (List ℕ)) (v : Wanted) (o : Option (List ℕ)) (at : ℕ) → ((w : List ℕ) → o ≡ Some w → is_word w ≡ true) → GoodLabels old labels
+    → IfOk (feed_label v o at labels) (GoodBehind old labels)
 named_good old labels v None at k g = tt
 named_good old labels v (Some w) at k g = labelled_good old labels (place_of w labels) w at refl (k w refl) g
 

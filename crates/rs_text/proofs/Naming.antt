@@ -1,4 +1,5 @@
-use Rattle.std.proofs.Common.{◌≡◌, ◌≢◌, ℕ, zero, suc, ◌+◌, ◌<◌, List, [], ◌∷◌, ◌++◌, length, Bool, true, false, if◌then◌else◌, ◌&&◌, ◌||◌, Option, Some, None, ◌⊎◌, ◌↔◌, inl, inr, refl, sym, ap, ◌∙◌, arith, slice_get, subst}
+use Rattle.std.proofs.Common.{◌≡◌, ◌≢◌, ℕ, zero, suc, ◌+◌, ◌<◌, List, [], ◌∷◌, ◌++◌, length, Bool, true, false, if◌then◌else◌, ◌&&◌, ◌||◌, Option, Some, None, ◌⊎◌, ◌↔◌, inl, inr, refl, sym, ap, ◌∙◌}
+use Rattle.std.proofs.Common.{arith, slice_get, subst}
 use Rattle.std.proofs.lemmas.Bool.Decides.{Decides-by_and}
 use Rattle.std.proofs.lemmas.List.Folds.{list_any-append, list_all-append}
 use Rattle.std.proofs.lemmas.Slice.Eq.{bytes_eq-Decides}
@@ -61,18 +62,19 @@ among (x ∷ names) name n k h = elim (true_or_false (bytes_eq x name)) [
 some_same : (n k : ℕ) → Some n ≡ Some k → k ≡ n + 0
 some_same n k h = let e : n ≡ k = cc in omega arith
 
-before : (x : List ℕ) (names : List (List ℕ)) (name : List ℕ) (i : ℕ) → bytes_eq x name ≡ false → ((k : ℕ) → k < i → slice_get names k ≢ Some name) → (k : ℕ) → k < suc i → slice_get (x ∷ names) k ≢ Some name
+before : (x : List ℕ) (names : List (List ℕ)) (name : List ℕ) (i : ℕ) → bytes_eq x name ≡ false → ((k : ℕ) → k < i → slice_get names k ≢ Some name) → (k : ℕ) → k < suc i
+    → slice_get (x ∷ names) k ≢ Some name
 before x names name i e rest zero below h = cc ((bytes_eq-Decides x name).1 (some_is x name h), e)
 before x names name i e rest (suc k) below h = rest k (omega arith) h
 
 stands_from : (names : List (List ℕ)) (name : List ℕ) (n k : ℕ) → place_from n name names ≡ Some k → (i : ℕ) × (k ≡ n + i) × StandsFirst name names i
 stands_from [] name n k h = absurd (cc h)
 stands_from (x ∷ names) name n k h = elim (true_or_false (bytes_eq x name)) [
-  | inl e ↦ (0, some_same n k (rw e at h), record { there = ap Some ((bytes_eq-Decides x name).0 e); first = λ i below. absurd (omega arith) })
+  | inl e ↦ (0, some_same n k (rw e at h), record { present = ap Some ((bytes_eq-Decides x name).0 e); first = λ i below. absurd (omega arith) })
   | inr e ↦
       let rest = stands_from names name (suc n) k (rw e at h) in
       let shift = rest.1 in
-      (suc rest.0, omega arith, record { there = rest.2.there; first = before x names name rest.0 e rest.2.first })
+      (suc rest.0, omega arith, record { present = rest.2.present; first = before x names name rest.0 e rest.2.first })
 ]
 
 pub place_stands : (names : List (List ℕ)) (name : List ℕ) (k : ℕ) → place_of name names ≡ Some k → StandsFirst name names k
@@ -83,11 +85,11 @@ place_stands names name k h =
     rw e at found.2
 
 pub stands_place : (names : List (List ℕ)) (name : List ℕ) (n i : ℕ) → StandsFirst name names i → place_from n name names ≡ Some (n + i)
-stands_place [] name n i s = absurd (cc s.there)
-stands_place (x ∷ names) name n zero s = rw ((bytes_eq-Decides x name).1 (some_is x name s.there)) (ap Some (omega arith))
+stands_place [] name n i s = absurd (cc s.present)
+stands_place (x ∷ names) name n zero s = rw ((bytes_eq-Decides x name).1 (some_is x name s.present)) (ap Some (omega arith))
 stands_place (x ∷ names) name n (suc i) s = elim (true_or_false (bytes_eq x name)) [
   | inl e ↦ absurd (s.first 0 (omega arith) (ap Some ((bytes_eq-Decides x name).0 e)))
-  | inr e ↦ rw e (stands_place names name (suc n) i (record { there = s.there; first = λ k below. s.first (suc k) (omega arith) }) ∙ ap Some (omega arith))
+  | inr e ↦ rw e (stands_place names name (suc n) i (record { present = s.present; first = λ k below. s.first (suc k) (omega arith) }) ∙ ap Some (omega arith))
 ]
 
 or_left : (a b : Bool) → (a || b) ≡ false → a ≡ false
@@ -115,7 +117,7 @@ absent_law name names = (
   (λ h k. absent_at names name k (not_among names name 0 h)),
   (λ none. elim (none_or_some (place_of name names)) [
     | inl h ↦ h
-    | inr found ↦ absurd (none found.0 (place_stands names name found.0 found.1).there)
+    | inr found ↦ absurd (none found.0 (place_stands names name found.0 found.1).present)
   ]),
 )
 
@@ -236,7 +238,12 @@ decides_sound names = (
         labels_differ = (decides_differ names.labels).0 (and_left (differ names.labels) (list_all is_word names.labels) labels);
         labels_are_words = (decides_all is_word names.labels).0 (and_right (differ names.labels) (list_all is_word names.labels) labels);
       }),
-  (λ s. rw ((decides_differ names.roles).1 s.roles_differ, (decides_all is_role_word names.roles).1 s.roles_are_words, (decides_differ names.labels).1 s.labels_differ, (decides_all is_word names.labels).1 s.labels_are_words) refl),
+  (λ s. rw (
+    (decides_differ names.roles).1 s.roles_differ,
+    (decides_all is_role_word names.roles).1 s.roles_are_words,
+    (decides_differ names.labels).1 s.labels_differ,
+    (decides_all is_word names.labels).1 s.labels_are_words,
+  ) refl),
 )
 
 pub at_among : (names : List (List ℕ)) (i : ℕ) (x : List ℕ) → slice_get names i ≡ Some x → is_among x names ≡ true

@@ -1,4 +1,5 @@
-use Rattle.std.proofs.Common.{codes, nat_le, ◌≢◌, ◌≡◌, ℕ, zero, suc, ◌+◌, ◌≤◌, ◌<◌, ◌↔◌, inl, inr, List, [], ◌∷◌, ◌++◌, length, drop, Bool, true, false, refl, sym, ap, ◌∙◌, subst, length-append, length-drop, add-zero, arith}
+use Rattle.std.proofs.Common.{codes, nat_le, ◌≢◌, ◌≡◌, ℕ, zero, suc, ◌+◌, ◌≤◌, ◌<◌, ◌↔◌, inl, inr, List, [], ◌∷◌, ◌++◌, length, drop, Bool, true, false, refl, sym, ap, ◌∙◌, subst, length-append}
+use Rattle.std.proofs.Common.{length-drop, add-zero, arith}
 use Rattle.std.proofs.lemmas.List.{drop-drop}
 use Rattle.std.proofs.Math.Seq.{drop-append_seam, drop-length}
 use Rattle.rs_text.specs.Lexemes.{Lexeme, is_last}
@@ -70,7 +71,8 @@ one_list bytes (x ∷ xs) (y ∷ ys) at h k =
 
 pub within : (bytes : List ℕ) (at : ℕ) (l : Lexeme) → at ≤ length bytes → IsNext bytes at l → IsWithin bytes at l
 within bytes at l h x =
-    let size : length (drop at bytes) ≡ length (gap_bytes x.gap) + (length x.text + length x.behind) = rw (x.parts, length-append (gap_bytes x.gap) (x.text ++ x.behind), length-append x.text x.behind) refl in
+    let size : length (drop at bytes) ≡ length (gap_bytes x.gap) + (length x.text + length x.behind)
+    = rw (x.parts, length-append (gap_bytes x.gap) (x.text ++ x.behind), length-append x.text x.behind) refl in
     let all = length-drop at bytes in
     let from = x.from in
     let until = x.until in

@@ -11,7 +11,8 @@ below_if false n k m p pos f h = f h
 
 below_from : (names : List (List ℕ)) (name : List ℕ) (n k : ℕ) → place_from n name names ≡ Some k → k < n + length names
 below_from [] name n k h = cc
-below_from (x ∷ names) name n k h = below_if (bytes_eq x name) n k (length (x ∷ names)) (place_from (suc n) name names) (omega arith) (λ g. let e : k < suc n + length names = below_from names name (suc n) k g in omega arith) h
+below_from (x ∷ names) name n k h =
+    below_if (bytes_eq x name) n k (length (x ∷ names)) (place_from (suc n) name names) (omega arith) (λ g. let e : k < suc n + length names = below_from names name (suc n) k g in omega arith) h
 
 -- a place is below the count of the names
 pub place_below : (names : List (List ℕ)) (name : List ℕ) (k : ℕ) → place_of name names ≡ Some k → k < length names

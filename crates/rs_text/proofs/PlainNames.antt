@@ -1,5 +1,6 @@
 -- Names by number: a letter and the decimal digits.
-use Rattle.std.proofs.Common.{◌≡◌, ℕ, codes, zero, suc, ◌+◌, ◌<◌, ◌≤◌, ◌^◌, List, [], ◌∷◌, ◌++◌, length, Bool, true, false, ◌||◌, nat_le, if◌then◌else◌, Some, inl, inr, refl, sym, ap, ◌∙◌, arith, slice_get, length-append}
+use Rattle.std.proofs.Common.{◌≡◌, ℕ, codes, zero, suc, ◌+◌, ◌<◌, ◌≤◌, ◌^◌, List, [], ◌∷◌, ◌++◌, length, Bool, true, false, ◌||◌, nat_le, if◌then◌else◌, Some, inl, inr, refl, sym, ap, ◌∙◌, arith}
+use Rattle.std.proofs.Common.{slice_get, length-append}
 use Rattle.std.proofs.lemmas.Bool.Decides.{leb_tells}
 use Rattle.std.proofs.lemmas.Fmt.{length-decimal-le}
 use Rattle.std.proofs.lemmas.List.Folds.{list_all-append}
@@ -48,7 +49,8 @@ by_last letter n i lt f = elim (leb_tells n i) [
   | inl e ↦ (
       let le : n ≤ i = e.1 in
       let same : i ≡ n = omega arith in
-      ap (λ z. slice_get (plain_names letter (suc n)) z) (same ∙ sym (plain_count letter n)) ∙ behind_stands (plain_names letter n) (plain_name letter n) ∙ ap (λ z. Some (plain_name letter z)) (sym same))
+      ap (λ z. slice_get (plain_names letter (suc n)) z) (same ∙ sym (plain_count letter n)) ∙ behind_stands (plain_names letter n) (plain_name letter n)
+      ∙ ap (λ z. Some (plain_name letter z)) (sym same))
   | inr e ↦ front_stands (plain_names letter n) (plain_name letter n ∷ []) i (plain_name letter i) (f e.1)
 ]
 
@@ -58,7 +60,7 @@ plain_stands letter (suc n) i lt = by_last letter n i lt (plain_stands letter n 
 
 pub plain_place : (letter n i : ℕ) → i < n → n < 2 ^ 64 → place_of (plain_name letter i) (plain_names letter n) ≡ Some i
 plain_place letter n i lt small = (place_law (plain_name letter i) (plain_names letter n) i).1 (record {
-  there = plain_stands letter n i lt;
+  present = plain_stands letter n i lt;
   first = λ k below same. let e : plain_name letter k ≡ plain_name letter i = some_is (plain_name letter k) (plain_name letter i) (sym (plain_stands letter n k (omega arith)) ∙ same) in
       let number : k ≡ i = plain_is letter k i (omega arith) (omega arith) e in omega arith;
 })
@@ -89,7 +91,9 @@ digit_in_word false digit h = h
 
 digits_in_words : (bytes : List ℕ) → list_all is_digit bytes ≡ true → list_all is_word_byte bytes ≡ true
 digits_in_words [] h = refl
-digits_in_words (b ∷ bs) h = two_true (is_word_byte b) (list_all is_word_byte bs) (digit_in_word (is_letter b) (is_digit b) (first_true (is_digit b) (list_all is_digit bs) h)) (digits_in_words bs (second_true (is_digit b) (list_all is_digit bs) h))
+digits_in_words (b ∷ bs) h =
+    two_true (is_word_byte b) (list_all is_word_byte bs) (digit_in_word (is_letter b) (is_digit b) (first_true (is_digit b) (list_all is_digit bs) h))
+    (digits_in_words bs (second_true (is_digit b) (list_all is_digit bs) h))
 
 within_64 : (n : ℕ) → n ≤ 64 → nat_le n 64 ≡ true
 within_64 n h = elim (leb_tells n 64) [ inl e ↦ e.0 | inr e ↦ absurd (omega arith) ]
@@ -119,4 +123,5 @@ pub plain_all : (test : List ℕ → Bool) (letter n : ℕ) → ((i : ℕ) → i
 plain_all test letter zero h = refl
 plain_all test letter (suc n) h =
     list_all-append test (plain_names letter n) (plain_name letter n ∷ [])
-    ∙ two_true (list_all test (plain_names letter n)) (list_all test (plain_name letter n ∷ [])) (plain_all test letter n (λ i lt. h i (omega arith))) (two_true (test (plain_name letter n)) true (h n (omega arith)) refl)
+    ∙ two_true (list_all test (plain_names letter n)) (list_all test (plain_name letter n ∷ [])) (plain_all test letter n (λ i lt. h i (omega arith)))
+    (two_true (test (plain_name letter n)) true (h n (omega arith)) refl)

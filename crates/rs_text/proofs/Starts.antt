@@ -10,14 +10,15 @@ use Rattle.std.specs.Str.{bytes_eq}
 use Rattle.rs_text.specs.declared.tokens.FaultKind.{FaultKind}
 use Rattle.rs_text.specs.declared.tokens.FaultKind.TheVariants as fault
 use Rattle.rs_text.specs.Bytes.{is_blank, is_letter, is_digit, is_word_byte, begins}
-use Rattle.rs_text.specs.Signs.{Sign, rec_word, end_word, plain, number, arrow, bang, question, colon, dot, comma, open_brace, close_brace, open_paren, close_paren, open_bracket, close_bracket, finish, broken, word_sign}
+use Rattle.rs_text.specs.Signs.{Sign, rec_word, end_word, plain, number, arrow, bang, question, colon, dot, comma, open_brace, close_brace, open_paren, close_paren, open_bracket, close_bracket}
+use Rattle.rs_text.specs.Signs.{finish, broken, word_sign}
 use Rattle.rs_text.specs.Lexemes.{value_of}
-use Rattle.rs_text.specs.Lexing.{Front, front, front_of, word_front, number_front, arrow_front, mark_front, word_length, number_length}
+use Rattle.rs_text.specs.Lexing.{SizedSign, front, front_of, word_front, number_front, arrow_front, mark_front, word_length, number_length}
 use Rattle.rs_text.specs.Tokens.{IsWholeWord, IsWholeNumber, BeginsNothing, IsFaulty, IsToken}
 use Rattle.rs_text.proofs.Gaps.{Stops, true_or_false}
 
 -- the front is a token or a fault of these bytes
-pub record Fits (f : Front) (here : List ℕ) : Type 0 where
+pub record Fits (f : SizedSign) (here : List ℕ) : Type 0 where
   pub behind : List ℕ
   pub text : List ℕ
   pub parts : here ≡ text ++ behind
@@ -115,7 +116,7 @@ arrow_fits (c ∷ bs) = elim (eqb_tells c 62) [
   | inr h ↦ rw h.0 (faulty 45 (c ∷ bs) (lone_dash (c ∷ bs) h.0))
 ]
 
-one_mark : (b mark : ℕ) (bs : List ℕ) (s : Sign) (other : Front) → IsToken s (mark ∷ []) bs → ((b == mark) ≡ false → Fits other (b ∷ bs)) → Fits (if b == mark then front s 1 else other) (b ∷ bs)
+one_mark : (b mark : ℕ) (bs : List ℕ) (s : Sign) (other : SizedSign) → IsToken s (mark ∷ []) bs → ((b == mark) ≡ false → Fits other (b ∷ bs)) → Fits (if b == mark then front s 1 else other) (b ∷ bs)
 one_mark b mark bs s other token rest = elim (eqb_tells b mark) [
   | inl h ↦ rw (h.0, h.1) (record { behind = bs; text = mark ∷ []; parts = refl; size = refl; token = token })
   | inr h ↦ rw h.0 (rest h.0)
@@ -145,7 +146,7 @@ mark_fits b bs blank hash letter digit dash =
 
 -- ---- whatever stops a gap is a token or a fault
 
-pick : (test : Bool) (f g : Front) (here : List ℕ) → (test ≡ true → Fits f here) → (test ≡ false → Fits g here) → Fits (if test then f else g) here
+pick : (test : Bool) (f g : SizedSign) (here : List ℕ) → (test ≡ true → Fits f here) → (test ≡ false → Fits g here) → Fits (if test then f else g) here
 pick true f g here h k = h refl
 pick false f g here h k = k refl
 
@@ -217,16 +218,16 @@ token_stops close_bracket text behind t = mark_stops 93 text [] behind t refl re
 token_stops finish text behind t = rw (t.0, t.1) tt
 token_stops (broken kind) text behind t = rw t.0 (fault_stops kind behind t.1)
 
-picked : (test : Bool) (f g h : Front) → test ≡ true → f ≡ h → (if test then f else g) ≡ h
+picked : (test : Bool) (f g h : SizedSign) → test ≡ true → f ≡ h → (if test then f else g) ≡ h
 picked true f g h e k = k
 picked false f g h e k = absurd (cc e)
 
-not_picked : (test : Bool) (f g h : Front) → test ≡ false → g ≡ h → (if test then f else g) ≡ h
+not_picked : (test : Bool) (f g h : SizedSign) → test ≡ false → g ≡ h → (if test then f else g) ≡ h
 not_picked true f g h e k = absurd (cc e)
 not_picked false f g h e k = k
 
 -- none of several tests passes
-none_picked : (test rest : Bool) (f g h : Front) → (test || rest) ≡ false → (rest ≡ false → g ≡ h) → (if test then f else g) ≡ h
+none_picked : (test rest : Bool) (f g h : SizedSign) → (test || rest) ≡ false → (rest ≡ false → g ≡ h) → (if test then f else g) ≡ h
 none_picked true rest f g h e k = absurd (cc e)
 none_picked false rest f g h e k = k e
 

@@ -7,16 +7,16 @@ use Rattle.rs_text.specs.Signs.{Sign, rec_word, end_word, plain, number, broken}
 use Rattle.rs_text.specs.Terminals.{token_kind}
 use Rattle.rs_text.specs.Tokens.{gap_bytes, IsNext, IsToken}
 use Rattle.rs_text.specs.declared.tokens.FaultKind.{FaultKind}
-use Rattle.rs_text.specs.declared.tokens.Kind.{Kind}
+use Rattle.rs_text.specs.declared.tokens.TokenKind.{TokenKind}
 use Rattle.rs_text.proofs.Nexts.{behind_gap, next_is_next, not_same}
 
-same_kind : (j k : Kind) → (let r : Result Kind FaultKind = Ok j in r) ≡ Ok k → j ≡ k
+same_kind : (j k : TokenKind) → (let r : Result TokenKind FaultKind = Ok j in r) ≡ Ok k → j ≡ k
 same_kind j k e = cc
 
-same_fault : (j k : FaultKind) → (let r : Result Kind FaultKind = Err j in r) ≡ Err k → j ≡ k
+same_fault : (j k : FaultKind) → (let r : Result TokenKind FaultKind = Err j in r) ≡ Err k → j ≡ k
 same_fault j k e = cc
 
-text_sign : (s : Sign) (text behind : List ℕ) (k : Kind) → IsToken s text behind → token_kind s ≡ Ok k → sign_of k text ≡ s
+text_sign : (s : Sign) (text behind : List ℕ) (k : TokenKind) → IsToken s text behind → token_kind s ≡ Ok k → sign_of k text ≡ s
 text_sign rec_word text behind k t e = rw (← same_kind _ k e, t.1) refl
 text_sign end_word text behind k t e = rw (← same_kind _ k e, t.1) refl
 text_sign (plain name) text behind k t e = rw (← same_kind _ k e, not_same text (codes "rec") t.2, not_same text (codes "end") t.3, t.4) refl
@@ -38,12 +38,13 @@ lexeme_is : (l : Lexeme) (s : Sign) (from until : ℕ) → l.sign ≡ s → l.fr
 lexeme_is l s from until p q r = rw (← p, ← q, ← r) refl
 
 -- a token with its kind stands for what was cut off
-pub token_stands : (bytes : List ℕ) (at : ℕ) (l : Lexeme) (k : Kind) → l ≡ next_lexeme bytes at → token_kind l.sign ≡ Ok k → next_lexeme bytes at ≡ lexeme_of bytes (record { kind = k; from = l.from; until = l.until })
+pub token_stands : (bytes : List ℕ) (at : ℕ) (l : Lexeme) (k : TokenKind) → l ≡ next_lexeme bytes at → token_kind l.sign ≡ Ok k
+    → next_lexeme bytes at ≡ lexeme_of bytes (record { kind = k; from = l.from; until = l.until })
 token_stands bytes at l k e h =
     let x : IsNext bytes at l = subst (λ (z : Lexeme). IsNext bytes at z) (sym e) (next_is_next bytes at) in
     rw (← e, token_text bytes at l x, text_sign l.sign x.text x.behind k x.token h) refl
 
--- .. and so does a fault
+-- a fault with its kind stands for what was cut off
 pub fault_stands : (bytes : List ℕ) (at : ℕ) (l : Lexeme) (k : FaultKind) → l ≡ next_lexeme bytes at → token_kind l.sign ≡ Err k → next_lexeme bytes at ≡ broken_at (record { kind = k; at = l.from })
 fault_stands bytes at l k e h =
     let x : IsNext bytes at l = subst (λ (z : Lexeme). IsNext bytes at z) (sym e) (next_is_next bytes at) in

@@ -44,7 +44,8 @@ abbrev standing : Sign → ℕ → List ℕ → Lexeme
 standing sign at text = record { sign = sign; from = at; until = at + length text }
 
 pub token_next : (bytes : List ℕ) (at : ℕ) (sign : Sign) (text behind : List ℕ) → drop at bytes ≡ text ++ behind → IsToken sign text behind → standing sign at text ≡ next_lexeme bytes at
-token_next bytes at sign text behind parts t = one_next bytes at (standing sign at text) (record { gap = nothing; text = text; behind = behind; parts = parts; between = tt; token = t; from = sym (add-zero at); until = refl })
+token_next bytes at sign text behind parts t =
+    one_next bytes at (standing sign at text) (record { gap = nothing; text = text; behind = behind; parts = parts; between = tt; token = t; from = sym (add-zero at); until = refl })
 
 -- ---- the pieces of a text
 
@@ -55,7 +56,8 @@ pub record AreCut (bytes : List ℕ) (at low high : ℕ) (signs : List Sign) (ls
   pub inside : All (λ l. (low ≤ l.from) × (l.until ≤ high)) cut
   pub lexed : Lexed bytes at (cut ++ ls)
 
-cut_more : (bytes : List ℕ) (at low high : ℕ) (sign : Sign) (text behind : List ℕ) (signs : List Sign) (ls : List Lexeme) → drop at bytes ≡ text ++ behind → IsToken sign text behind → is_last sign ≡ false → low ≤ at → at + length text ≤ high
+cut_more : (bytes : List ℕ) (at low high : ℕ) (sign : Sign) (text behind : List ℕ) (signs : List Sign) (ls : List Lexeme) → drop at bytes ≡ text ++ behind → IsToken sign text behind
+    → is_last sign ≡ false → low ≤ at → at + length text ≤ high
     → AreCut bytes (at + length text) low high signs ls → AreCut bytes at low high (sign ∷ signs) ls
 cut_more bytes at low high sign text behind signs ls parts t more from until rest = record {
   cut = standing sign at text ∷ rest.cut;
@@ -64,13 +66,16 @@ cut_more bytes at low high sign text behind signs ls parts t more from until res
   lexed = (token_next bytes at sign text behind parts t, (λ e. absurd (cc (e, more))), λ _. rest.lexed);
 }
 
-pub pieces_cut : (pieces : List TextPiece) (bytes behind : List ℕ) (at low high : ℕ) (ls : List Lexeme) → drop at bytes ≡ flat_map piece_text pieces ++ behind → ArePieces pieces behind → low ≤ at → at + length (flat_map piece_text pieces) ≤ high
+pub pieces_cut : (pieces : List TextPiece) (bytes behind : List ℕ) (at low high : ℕ) (ls : List Lexeme) → drop at bytes ≡ flat_map piece_text pieces ++ behind → ArePieces pieces behind → low ≤ at
+    → at + length (flat_map piece_text pieces) ≤ high
     → Lexed bytes (at + length (flat_map piece_text pieces)) ls → AreCut bytes at low high (flat_map piece_signs pieces) ls
-pieces_cut [] bytes behind at low high ls parts right from until h = record { cut = []; signs_are = refl; inside = All-nil (λ (l : Lexeme). (low ≤ l.from) × (l.until ≤ high)); lexed = rw (add-zero at) at h }
+pieces_cut [] bytes behind at low high ls parts right from until h =
+    record { cut = []; signs_are = refl; inside = All-nil (λ (l : Lexeme). (low ≤ l.from) × (l.until ≤ high)); lexed = rw (add-zero at) at h }
 pieces_cut (blank byte ∷ pieces) bytes behind at low high ls parts right from until h =
     let text = flat_map piece_text pieces in
     let size : at + suc (length text) ≡ at + 1 + length text = omega arith in
-    let rest = pieces_cut pieces bytes behind (at + 1) low high ls (behind_text bytes at (byte ∷ []) (text ++ behind) parts) right.1 (omega arith) (omega arith) (subst (λ n. Lexed bytes n ls) size h) in
+    let rest = pieces_cut pieces bytes behind (at + 1) low high ls (behind_text bytes at (byte ∷ []) (text ++ behind) parts) right.1 (omega arith) (omega arith)
+    (subst (λ n. Lexed bytes n ls) size h) in
     record { cut = rest.cut; signs_are = rest.signs_are; inside = rest.inside; lexed = lexed_after_blank bytes at byte (text ++ behind) (rest.cut ++ ls) parts right.0 rest.lexed }
 pieces_cut (token sign own ∷ pieces) bytes behind at low high ls parts right from until h =
     let text = flat_map piece_text pieces in
@@ -80,13 +85,15 @@ pieces_cut (token sign own ∷ pieces) bytes behind at low high ls parts right f
     cut_more bytes at low high sign own (text ++ behind) (flat_map piece_signs pieces) ls here right.0 right.1 from (omega arith)
     (pieces_cut pieces bytes behind (at + length own) low high ls (behind_text bytes at own (text ++ behind) here) right.2 (omega arith) (omega arith) (subst (λ n. Lexed bytes n ls) size h))
 
-pub written_cut : (bytes : List ℕ) (at : ℕ) (signs : List Sign) (text behind : List ℕ) (ls : List Lexeme) → drop at bytes ≡ text ++ behind → IsWritten signs text behind → Lexed bytes (at + length text) ls → AreCut bytes at at (at + length text) signs ls
+pub written_cut : (bytes : List ℕ) (at : ℕ) (signs : List Sign) (text behind : List ℕ) (ls : List Lexeme) → drop at bytes ≡ text ++ behind → IsWritten signs text behind
+    → Lexed bytes (at + length text) ls → AreCut bytes at at (at + length text) signs ls
 written_cut bytes at signs text behind ls parts w h =
     subst (λ t. AreCut bytes at at (at + length t) signs ls) w.put
     (subst (λ ss. AreCut bytes at at (at + length (flat_map piece_text w.pieces)) ss ls) w.spelt
     (pieces_cut w.pieces bytes behind at at (at + length (flat_map piece_text w.pieces)) ls (rw w.put parts) w.right (omega arith) (omega arith) (rw w.put h)))
 
-pub written_law : (bytes : List ℕ) (at : ℕ) (signs : List Sign) (text behind : List ℕ) (ls : List Lexeme) → drop at bytes ≡ text ++ behind → IsWritten signs text behind → Lexed bytes (at + length text) ls
+pub written_law : (bytes : List ℕ) (at : ℕ) (signs : List Sign) (text behind : List ℕ) (ls : List Lexeme) → drop at bytes ≡ text ++ behind → IsWritten signs text behind
+    → Lexed bytes (at + length text) ls
     → (xs : List Lexeme) × (signs_of xs ≡ signs) × All (λ l. (at ≤ l.from) × (l.until ≤ at + length text)) xs × Lexed bytes at (xs ++ ls)
 written_law bytes at signs text behind ls parts w h = let c = written_cut bytes at signs text behind ls parts w h in (c.cut, c.signs_are, c.inside, c.lexed)
 
@@ -160,7 +167,8 @@ pick_sign true s t h k = h
 pick_sign false s t h k = k
 
 pub word_goes_on : (text : List ℕ) → is_last (word_sign text) ≡ false
-word_goes_on text = pick_sign (bytes_eq text (codes "rec")) rec_word (if bytes_eq text (codes "end") then end_word else plain text) refl (pick_sign (bytes_eq text (codes "end")) end_word (plain text) refl refl)
+word_goes_on text =
+    pick_sign (bytes_eq text (codes "rec")) rec_word (if bytes_eq text (codes "end") then end_word else plain text) refl (pick_sign (bytes_eq text (codes "end")) end_word (plain text) refl refl)
 
 pub word_written : (text behind : List ℕ) → is_word text ≡ true → begins is_word_byte behind ≡ false → IsWritten (word_sign text ∷ []) text behind
 word_written text behind h whole = token_written (word_sign text) text behind (word_token text behind h whole) (word_goes_on text)
@@ -173,14 +181,18 @@ role_written text behind h whole = subst (λ s. IsWritten (s ∷ []) text behind
 pub before_blank : (byte : ℕ) (signs : List Sign) (text behind : List ℕ) → is_blank byte ≡ true → IsWritten signs text behind → IsWritten signs (byte ∷ text) behind
 before_blank byte signs text behind h w = joined [] signs (byte ∷ []) text behind (blank_written byte (text ++ behind) h) w
 
-pub before_mark : (sign : Sign) (signs : List Sign) (own text behind : List ℕ) → IsToken sign own (text ++ behind) → is_last sign ≡ false → IsWritten signs text behind → IsWritten (sign ∷ signs) (own ++ text) behind
+pub before_mark : (sign : Sign) (signs : List Sign) (own text behind : List ℕ) → IsToken sign own (text ++ behind) → is_last sign ≡ false → IsWritten signs text behind
+    → IsWritten (sign ∷ signs) (own ++ text) behind
 before_mark sign signs own text behind t more w = joined (sign ∷ []) signs own text behind (token_written sign own (text ++ behind) t more) w
 
-pub before_word : (word : List ℕ) (signs : List Sign) (text behind : List ℕ) → is_word word ≡ true → begins is_word_byte (text ++ behind) ≡ false → IsWritten signs text behind → IsWritten (word_sign word ∷ signs) (word ++ text) behind
+pub before_word : (word : List ℕ) (signs : List Sign) (text behind : List ℕ) → is_word word ≡ true → begins is_word_byte (text ++ behind) ≡ false → IsWritten signs text behind
+    → IsWritten (word_sign word ∷ signs) (word ++ text) behind
 before_word word signs text behind h whole w = joined (word_sign word ∷ []) signs word text behind (word_written word (text ++ behind) h whole) w
 
-pub before_role : (word : List ℕ) (signs : List Sign) (text behind : List ℕ) → is_role_word word ≡ true → begins is_word_byte (text ++ behind) ≡ false → IsWritten signs text behind → IsWritten (plain word ∷ signs) (word ++ text) behind
+pub before_role : (word : List ℕ) (signs : List Sign) (text behind : List ℕ) → is_role_word word ≡ true → begins is_word_byte (text ++ behind) ≡ false → IsWritten signs text behind
+    → IsWritten (plain word ∷ signs) (word ++ text) behind
 before_role word signs text behind h whole w = joined (plain word ∷ []) signs word text behind (role_written word (text ++ behind) h whole) w
 
-pub before_number : (n : ℕ) (signs : List Sign) (text behind : List ℕ) → n ≤ 4294967295 → begins is_digit (text ++ behind) ≡ false → IsWritten signs text behind → IsWritten (number n ∷ signs) (decimal n ++ text) behind
+pub before_number : (n : ℕ) (signs : List Sign) (text behind : List ℕ) → n ≤ 4294967295 → begins is_digit (text ++ behind) ≡ false → IsWritten signs text behind
+    → IsWritten (number n ∷ signs) (decimal n ++ text) behind
 before_number n signs text behind small whole w = before_mark (number n) signs (decimal n) text behind (decimal_token n (text ++ behind) small whole) refl w

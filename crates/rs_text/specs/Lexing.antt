@@ -2,10 +2,10 @@
 use Rattle.std.specs.Prelude.{◌≡◌, ℕ, suc, ◌+◌, ◌-◌, List, [], ◌∷◌, drop, take, nat_lt, if◌then◌else◌, ◌==◌, Bool, true, false}
 use Rattle.std.specs.List.{prefix_len}
 use Rattle.rs_model.specs.declared.limits.TheConstants.{MOST_NAME_BYTES, MOST_NUMBER}
-use Rattle.rs_text.specs.declared.tokens.Fault.{Fault}
+use Rattle.rs_text.specs.declared.tokens.TokenFault.{TokenFault}
 use Rattle.rs_text.specs.declared.tokens.FaultKind.TheVariants as fault
-use Rattle.rs_text.specs.declared.tokens.Kind.{Kind}
-use Rattle.rs_text.specs.declared.tokens.Kind.TheVariants as kind
+use Rattle.rs_text.specs.declared.tokens.TokenKind.{TokenKind}
+use Rattle.rs_text.specs.declared.tokens.TokenKind.TheVariants as kind
 use Rattle.rs_text.specs.declared.tokens.Token.{Token}
 use Rattle.rs_text.specs.Bytes.{is_blank, is_letter, is_digit, is_word_byte}
 use Rattle.rs_text.specs.Lexemes.{Lexeme, value_of, is_last}
@@ -26,29 +26,29 @@ abbrev pub number_length : List ℕ → ℕ
 number_length bytes = prefix_len is_digit bytes
 
 -- a sign, and how many bytes it takes up. A faulty token and the end take up none
-pub record Front : Type 0 where
+pub record SizedSign : Type 0 where
   pub sign : Sign
   pub size : ℕ
 
 -- a sign with its size
-abbrev pub front : Sign → ℕ → Front
+abbrev pub front : Sign → ℕ → SizedSign
 front sign size = record { sign = sign; size = size }
 
 -- the word of the first n bytes
-abbrev pub word_front : List ℕ → ℕ → Front
+abbrev pub word_front : List ℕ → ℕ → SizedSign
 word_front bytes n = if nat_lt MOST_NAME_BYTES n then front (broken fault.NameTooLong) 0 else front (word_sign (take n bytes)) n
 
 -- the number of the first n bytes
-abbrev pub number_front : List ℕ → ℕ → Front
+abbrev pub number_front : List ℕ → ℕ → SizedSign
 number_front bytes n = if nat_lt MOST_NUMBER (value_of (take n bytes)) then front (broken fault.NumberTooLarge) 0 else front (number (value_of (take n bytes))) n
 
 -- behind a first -
-abbrev pub arrow_front : List ℕ → Front
+abbrev pub arrow_front : List ℕ → SizedSign
 arrow_front [] = front (broken fault.BadByte) 0
 arrow_front (b ∷ bs) = if b == 62 then front arrow 2 else front (broken fault.BadByte) 0
 
 -- a mark of one byte
-abbrev pub mark_front : ℕ → Front
+abbrev pub mark_front : ℕ → SizedSign
 mark_front b =
     if b == 33 then front bang 1
     else if b == 63 then front question 1
@@ -64,7 +64,7 @@ mark_front b =
     else front (broken fault.BadByte) 0
 
 -- the token in front of the bytes
-abbrev pub front_of : List ℕ → Front
+abbrev pub front_of : List ℕ → SizedSign
 front_of [] = front finish 0
 front_of (b ∷ bs) =
     if is_letter b then word_front (b ∷ bs) (word_length (b ∷ bs))
@@ -73,7 +73,7 @@ front_of (b ∷ bs) =
     else mark_front b
 
 -- what stands in front, at its offset
-abbrev pub lexeme_at : ℕ → Front → Lexeme
+abbrev pub lexeme_at : ℕ → SizedSign → Lexeme
 lexeme_at from f = record { sign = f.sign; from = from; until = from + f.size }
 
 -- the next token from an offset on: blanks and comments are passed over
@@ -86,7 +86,7 @@ Lexed bytes at [] = ⊥
 Lexed bytes at (l ∷ ls) = (l ≡ next_lexeme bytes at) × (is_last l.sign ≡ true → ls ≡ []) × (is_last l.sign ≡ false → Lexed bytes l.until ls)
 
 -- the sign of a token with this text
-abbrev pub sign_of : Kind → List ℕ → Sign
+abbrev pub sign_of : TokenKind → List ℕ → Sign
 sign_of kind.Word text = word_sign text
 sign_of kind.Number text = number (value_of text)
 sign_of kind.Arrow text = arrow
@@ -112,5 +112,5 @@ abbrev pub lexeme_of : List ℕ → Token → Lexeme
 lexeme_of bytes token = record { sign = sign_of token.kind (text_of bytes token); from = token.from; until = token.until }
 
 -- what a fault of the lexer stands for
-abbrev pub broken_at : Fault → Lexeme
+abbrev pub broken_at : TokenFault → Lexeme
 broken_at f = record { sign = broken f.kind; from = f.at; until = f.at }

@@ -20,3 +20,4 @@ pub mod FirstFaults
 pub mod Readings
 pub mod Messages
 pub mod Writing
+pub mod Kept

@@ -19,13 +19,13 @@ use Rattle.rs_text.specs.Seen.{word_text, sort_named}
 use Rattle.rs_text.specs.Signs.{Sign, plain, open_paren, close_paren}
 
 -- what a token makes of a message: it goes on at a place, with these labels, or it is read
-pub data Message : Type 0 where
-  goes_on : (labels : List (List ℕ)) → (place : MessagePlace) → Message
-  ends : (label : Label) → (sort : Sort) → Message
+pub data MessageFed : Type 0 where
+  goes_on : (labels : List (List ℕ)) → (place : MessagePlace) → MessageFed
+  ends : (label : Label) → (sort : Sort) → MessageFed
 
--- .. or the fault of the token
+-- what is read with one token more, or the fault of the token
 abbrev pub Fed : Type 0
-Fed = Result Message TextFault
+Fed = Result MessageFed TextFault
 
 -- the label with that number
 abbrev pub label_of_number : ℕ → Label

@@ -3,7 +3,7 @@ use Rattle.std.specs.Prelude.{◌≡◌, ◌≢◌, ◌<◌, slice_get, ℕ, Lis
 
 -- the name stands at the place and at none before it
 pub record StandsFirst (name : List ℕ) (names : List (List ℕ)) (place : ℕ) : Type 0 where
-  pub there : slice_get names place ≡ Some name
+  pub present : slice_get names place ≡ Some name
   pub first : (k : ℕ) → k < place → slice_get names k ≢ Some name
 
 -- the text, where there is one

@@ -22,11 +22,11 @@ names_with names [] = names
 names_with names (x ∷ xs) = names_with (if is_among x names then names else names ++ x ∷ []) xs
 
 -- the recursion names round a place, the nearest first, each with a number
-abbrev pub Bound : Type 0
-Bound = List (List ℕ × ℕ)
+abbrev pub BoundNames : Type 0
+BoundNames = List (List ℕ × ℕ)
 
 -- the number of the nearest one of a name
-abbrev pub nearest_binding : List ℕ → Bound → Option ℕ
+abbrev pub nearest_binding : List ℕ → BoundNames → Option ℕ
 nearest_binding name [] = None
 nearest_binding name (b ∷ bs) = if bytes_eq b.0 name then Some b.1 else nearest_binding name bs
 

@@ -62,12 +62,12 @@ abbrev pub Fails : {R : Type 0} → Stop → Result R TextFault → Type 0
 Fails stops.Memory fed = Unit {0}
 Fails (stops.Fault f) fed = fed ≡ Err f
 
--- the same of a whole reading ..
+-- a stop of a whole reading: by want of memory anywhere, or with the fault that the reading has
 abbrev pub StopsBy : {R : Type 0} → Automaton R → Stop → R → List ℕ → ℕ → Type 0
 StopsBy a stops.Memory r bytes at = Unit {0}
 StopsBy a (stops.Fault f) r bytes at = ReadsBy a r bytes at (Err f)
 
--- .. and d is the reader that refused
+-- d is the reader that refused
 abbrev pub RefusedBy : {R : Type 0} → Automaton R → Stop → R → List ℕ → ℕ → R → Type 0
 RefusedBy a stops.Memory r bytes at d = Unit {0}
 RefusedBy a (stops.Fault f) r bytes at d = (lexemes : List Lexeme) → Lexed bytes at lexemes → last_of a r (Ok r) lexemes ≡ d

@@ -1,7 +1,8 @@
 -- Believed: names that a text can have.
-use Rattle.std.specs.Prelude.{◌≡◌, ◌≢◌, Bool, true, ◌&&◌}
+use Rattle.std.specs.Prelude.{◌≡◌, ◌≢◌, ◌≤◌, length, Bool, true, ◌&&◌}
 use Rattle.std.specs.List.{list_all, All, AllPairs}
 use Rattle.rs_model.specs.Data.{Names_data}
+use Rattle.rs_model.specs.declared.limits.TheConstants.{MOST_LABELS, MOST_ROLES}
 use Rattle.rs_text.specs.Names.{differ}
 use Rattle.rs_text.specs.Words.{is_word, is_role_word}
 
@@ -15,3 +16,9 @@ pub record IsSound (names : Names_data) : Type 0 where
 -- the test of it
 abbrev pub are_sound : Names_data → Bool
 are_sound names = (differ names.roles && list_all is_role_word names.roles) && (differ names.labels && list_all is_word names.labels)
+
+-- names with which a part can be read
+pub record AreReadable (names : Names_data) : Type 0 where
+  pub sound : IsSound names
+  pub roles : length names.roles ≤ MOST_ROLES
+  pub labels : length names.labels ≤ MOST_LABELS

@@ -1,28 +1,20 @@
--- Steps: how the place of a name is found: along a chain of places. Each stands in it as one more than it is; 0 ends a chain.
-use Rattle.std.specs.Prelude.{◌≡◌, ℕ, suc, ◌+◌, ◌-◌, ◌*◌, ◌%◌, ◌<◌, ◌≤◌, List, [], ◌∷◌, drop, length, Some, slice_get, slice_index_or}
+-- Steps: how the place of a name is found: along the chain of places that begins at the head of the name's bucket.
+use Rattle.std.specs.Prelude.{◌≡◌, ℕ, ◌-◌, ◌<◌, List, drop, length}
+use Rattle.rs_model.specs.Chains.{AreChained, bucket_on}
 use Rattle.rs_text.specs.declared.tables.TheConstants.{BUCKETS}
-
--- the bucket of bytes, where those before lead to bucket `seen`
-abbrev pub bucket_on : ℕ → List ℕ → ℕ
-bucket_on seen [] = seen
-bucket_on seen (b ∷ bs) = bucket_on ((seen * 31 + b) % BUCKETS) bs
 
 -- the bucket of a name: that of its last eight bytes
 abbrev pub bucket_of : List ℕ → ℕ
-bucket_of name = bucket_on 0 (drop (length name - 8) name)
+bucket_of name = bucket_on BUCKETS 0 (drop (length name - 8) name)
 
--- the place stands in the chain that begins there
-pub data IsChained (links : List ℕ) : ℕ → ℕ → Type 0 where
-  First : (n : ℕ) → IsChained links (suc n) n
-  Later : (m next n : ℕ) → slice_get links m ≡ Some next → IsChained links next n → IsChained links (suc m) n
+-- every name has to be found
+abbrev pub IsAnyName : List ℕ → Type 0
+IsAnyName name = Unit {0}
 
--- there are so many buckets; the place of each name stands in the chain that begins at the head of the name's bucket, and chains fall
+-- there are so many buckets, and every name is chained by its bucket
 pub record AreFiled (names : List (List ℕ)) (heads links : List ℕ) : Type 0 where
   pub buckets : length heads ≡ BUCKETS
-  pub size : length links ≡ length names
-  pub within : (b : ℕ) → slice_index_or heads b 0 ≤ length names
-  pub falls : (m next : ℕ) → slice_get links m ≡ Some next → next ≤ m
-  pub filed : (n : ℕ) (name : List ℕ) → slice_get names n ≡ Some name → IsChained links (slice_index_or heads (bucket_of name) 0) n
+  pub chained : AreChained bucket_of IsAnyName names heads links
 
 -- the names are filed, where there are buckets
 abbrev pub AreFiledIn : List ℕ → List (List ℕ) → List ℕ → Type 0

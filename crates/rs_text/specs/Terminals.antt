@@ -3,9 +3,10 @@ use Rattle.std.specs.Prelude.{Result, Ok, Err}
 use Rattle.rs_text.specs.declared.terminals.Terminal.{Terminal}
 use Rattle.rs_text.specs.declared.terminals.Terminal.TheVariants as terminal
 use Rattle.rs_text.specs.declared.tokens.FaultKind.{FaultKind}
-use Rattle.rs_text.specs.declared.tokens.Kind.{Kind}
-use Rattle.rs_text.specs.declared.tokens.Kind.TheVariants as kind
-use Rattle.rs_text.specs.Signs.{Sign, rec_word, end_word, plain, number, arrow, bang, question, colon, dot, comma, open_brace, close_brace, open_paren, close_paren, open_bracket, close_bracket, finish, broken}
+use Rattle.rs_text.specs.declared.tokens.TokenKind.{TokenKind}
+use Rattle.rs_text.specs.declared.tokens.TokenKind.TheVariants as kind
+use Rattle.rs_text.specs.Signs.{Sign, rec_word, end_word, plain, number, arrow, bang, question, colon, dot, comma, open_brace, close_brace, open_paren, close_paren, open_bracket, close_bracket}
+use Rattle.rs_text.specs.Signs.{finish, broken}
 
 -- the sign of what the code sees
 abbrev pub terminal_sign : Terminal → Sign
@@ -29,7 +30,7 @@ terminal_sign terminal.Finish = finish
 terminal_sign (terminal.Faulty kind) = broken kind
 
 -- the kind of a token with this sign, or why it is none
-abbrev pub token_kind : Sign → Result Kind FaultKind
+abbrev pub token_kind : Sign → Result TokenKind FaultKind
 token_kind rec_word = Ok kind.Word
 token_kind end_word = Ok kind.Word
 token_kind (plain text) = Ok kind.Word

@@ -5,7 +5,8 @@ use Rattle.rs_model.specs.declared.limits.TheConstants.{MOST_NAME_BYTES, MOST_NU
 use Rattle.rs_text.specs.declared.tokens.FaultKind.{FaultKind}
 use Rattle.rs_text.specs.declared.tokens.FaultKind.TheVariants as fault
 use Rattle.rs_text.specs.Bytes.{is_blank, is_letter, is_digit, is_word_byte, begins}
-use Rattle.rs_text.specs.Signs.{Sign, rec_word, end_word, plain, number, arrow, bang, question, colon, dot, comma, open_brace, close_brace, open_paren, close_paren, open_bracket, close_bracket, finish, broken}
+use Rattle.rs_text.specs.Signs.{Sign, rec_word, end_word, plain, number, arrow, bang, question, colon, dot, comma, open_brace, close_brace, open_paren, close_paren, open_bracket, close_bracket}
+use Rattle.rs_text.specs.Signs.{finish, broken}
 use Rattle.rs_text.specs.Lexemes.{Lexeme, value_of, is_last}
 
 -- what stands between tokens: blanks, and comments of # and further bytes

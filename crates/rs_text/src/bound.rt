@@ -1,3 +1,5 @@
+//! Recursion names that are bound, and the numbers that they lead to.
+
 ghost use Rattle.std.specs.Prelude.{◌≡◌, ◌-◌, length, drop, reverse};
 ghost use Rattle.rs_text.specs.Names.{nearest_binding};
 

@@ -1,7 +1,9 @@
+//! The faults of texts, and what was wanted instead.
+
 ghost use Rattle.std.specs.Prelude.{◌≡◌};
 ghost use Rattle.rs_text.specs.Faults.{wanted_text, kind_of};
 
-use crate::{Fault, FaultKind};
+use crate::{FaultKind, TokenFault};
 
 /// What a reader wanted at a place of the grammar.
 #[derive(Clone, Copy, Debug, PartialEq, Eq)]
@@ -160,12 +162,12 @@ impl From<FaultKind> for TextKind {
     }
 }
 
-impl From<Fault> for TextFault {
+impl From<TokenFault> for TextFault {
     ghost use Rattle.rs_text.specs.Faults.{kind_of};
 
     ghost from_gives = { λ fault result. result ≡ record { kind = kind_of fault.kind; at = fault.at } };
 
-    fn from(fault: Fault) -> Self {
+    fn from(fault: TokenFault) -> Self {
         TextFault {
             kind: TextKind::from(fault.kind),
             at: fault.at,

@@ -1,4 +1,5 @@
-// What the definitions of tokens, names and numbers say together. The functions do nothing: each states a law.
+//! What the definitions of tokens, names and numbers say together. The functions do nothing: each states a law.
+
 ghost use Rattle.std.specs.Prelude.{◌≡◌, ◌≢◌, ◌≤◌, ◌↔◌, ◌||◌, ◌++◌, ◌∷◌, ◌+◌, ℕ, List, [], Bool, Some, None, drop, length, slice_get, true, false};
 ghost use Rattle.std.specs.Fmt.{decimal};
 ghost use Rattle.std.specs.List.{All, list_all};
@@ -22,12 +23,12 @@ pub fn cut_off_are_tokens()
     ensures { (bytes : List ℕ) (at : ℕ) (lexemes : List Lexeme) → Lexed bytes at lexemes ↔ AreTokens bytes at lexemes }
 {}
 
-/// A text has tokens ..
+/// A text has tokens.
 pub fn has_tokens()
     ensures { (bytes : List ℕ) (at : ℕ) → at ≤ length bytes → (lexemes : List Lexeme) × AreTokens bytes at lexemes }
 {}
 
-/// .. and no others.
+/// A text has one list of tokens.
 pub fn has_one_list_of_tokens()
     ensures { (bytes : List ℕ) (at : ℕ) (these others : List Lexeme) → AreTokens bytes at these → AreTokens bytes at others → these ≡ others }
 {}
@@ -59,30 +60,32 @@ pub fn word_is_a_token()
 
 /// A text that is written for some tokens is cut into these, before whatever tokens stand behind it.
 pub fn written_text_is_lexed()
-    ensures { (bytes : List ℕ) (at : ℕ) (signs : List Sign) (text behind : List ℕ) (others : List Lexeme) → drop at bytes ≡ text ++ behind → IsWritten signs text behind → Lexed bytes (at + length text) others → (lexemes : List Lexeme) × (signs_of lexemes ≡ signs) × All (λ l. (at ≤ l.from) × (l.until ≤ at + length text)) lexemes × Lexed bytes at (lexemes ++ others) }
+    ensures { (bytes : List ℕ) (at : ℕ) (signs : List Sign) (text behind : List ℕ) (others : List Lexeme) → drop at bytes ≡ text ++ behind → IsWritten signs text behind
+        → Lexed bytes (at + length text) others → (lexemes : List Lexeme) × (signs_of lexemes ≡ signs) × All (λ l. (at ≤ l.from) × (l.until ≤ at + length text)) lexemes
+        × Lexed bytes at (lexemes ++ others) }
 {}
 
-/// One token is written by its text ..
+/// One token is written by its text.
 pub fn token_is_written()
     ensures { (sign : Sign) (text behind : List ℕ) → IsToken sign text behind → is_last sign ≡ false → IsWritten (sign ∷ []) text behind }
 {}
 
-/// .. a blank is written for none ..
+/// A blank is written for no token.
 pub fn blank_is_written()
     ensures { (byte : ℕ) (behind : List ℕ) → is_blank byte ≡ true → IsWritten [] (byte ∷ []) behind }
 {}
 
-/// .. and two texts, one behind the other, are written for the tokens of both.
+/// Two texts, one behind the other, are written for the tokens of both.
 pub fn written_texts_join()
     ensures { (signs others : List Sign) (text more behind : List ℕ) → IsWritten signs text (more ++ behind) → IsWritten others more behind → IsWritten (signs ++ others) (text ++ more) behind }
 {}
 
-/// The place of a name is the first at which it stands ..
+/// The place of a name is the first at which it stands.
 pub fn place_is_the_first()
     ensures { (name : List ℕ) (names : List (List ℕ)) (place : ℕ) → (place_of name names ≡ Some place) ↔ StandsFirst name names place }
 {}
 
-/// .. and a name that stands nowhere has none.
+/// A name that stands nowhere has no place.
 pub fn absent_has_no_place()
     ensures { (name : List ℕ) (names : List (List ℕ)) → (place_of name names ≡ None) ↔ ((k : ℕ) → slice_get names k ≢ Some name) }
 {}
@@ -107,12 +110,12 @@ pub fn grown_has_both()
     ensures { (name : List ℕ) (names more : List (List ℕ)) → is_among name (names_with names more) ≡ (is_among name names || is_among name more) }
 {}
 
-/// Names that differ still do so when they have grown ..
+/// Names that differ still do so when they have grown.
 pub fn grown_names_differ()
     ensures { (names more : List (List ℕ)) → differ names ≡ true → differ (names_with names more) ≡ true }
 {}
 
-/// .. and what holds of the old and of the further ones holds of them all.
+/// What holds of the old names and of the further ones holds of them all.
 pub fn grown_names_pass()
     ensures { (test : List ℕ → Bool) (names more : List (List ℕ)) → list_all test names ≡ true → list_all test more ≡ true → list_all test (names_with names more) ≡ true }
 {}

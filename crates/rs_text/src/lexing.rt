@@ -1,3 +1,5 @@
+//! The lexer, which cuts a text into tokens.
+
 ghost use Rattle.std.specs.Prelude.{◌≡◌, ℕ, List, ◌+◌, ◌-◌, ◌*◌, ◌<◌, ◌≤◌, ◌∷◌, [], length, take, drop, nat_lt, if◌then◌else◌, Some, None, OnErr, IfErr, IfOk, IfSome, IfNone, false, true};
 ghost use Rattle.rs_text.specs.Bytes as bytes;
 ghost use Rattle.rs_text.specs.Lexemes.{value_behind, value_of};
@@ -5,7 +7,7 @@ ghost use Rattle.rs_text.specs.Lexing.{front, front_of, mark_front, word_front, 
 ghost use Rattle.rs_text.specs.Signs.{word_sign};
 ghost use Rattle.rs_text.specs.Terminals.{terminal_sign};
 
-use crate::{Fault, FaultKind, Terminal, TextToken, Token};
+use crate::{FaultKind, Terminal, TextToken, Token, TokenFault};
 use memchr::memchr;
 use rs_model::MOST_NAME_BYTES;
 use std::marker::Model;
@@ -38,7 +40,7 @@ impl<'a> Lexer<'a> {
     }
 
     /// The next token. At the end it is `Finish`, again and again; after a fault the same fault comes again.
-    pub fn next(&mut self) -> Result<Token, Fault>
+    pub fn next(&mut self) -> Result<Token, TokenFault>
         ensures token { IfOk result (λ t. next_lexeme self.old.bytes self.old.at ≡ lexeme_of self.old.bytes t) }
         ensures fault { IfErr result (λ f. next_lexeme self.old.bytes self.old.at ≡ broken_at f) }
         ensures ahead { IfOk result (λ t. self.old.at ≤ t.from) }
@@ -57,7 +59,7 @@ impl<'a> Lexer<'a> {
                     until: next.until,
                 })
             }
-            Err(kind) => Err(Fault {
+            Err(kind) => Err(TokenFault {
                 kind,
                 at: next.from,
             }),

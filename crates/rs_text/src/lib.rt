@@ -26,4 +26,4 @@ pub use places::place;
 pub use reading::{Stop, expected, fault};
 pub use tables::NameTable;
 pub use terminals::{Terminal, TextToken};
-pub use tokens::{Fault, FaultKind, Kind, Token};
+pub use tokens::{FaultKind, Token, TokenFault, TokenKind};

@@ -43,7 +43,7 @@ pub fn feed_message(
 ) -> Result<MessageStep, Stop>
     requires room { length labels.old ≤ MOST_LABELS }
     ensures step { spec.Feeds result (spec.feed_message place token.now.sign token.now.from labels.old) labels.old labels.new }
-    ensures few { length labels.new ≤ MOST_LABELS }
+    ensures bounded { length labels.new ≤ MOST_LABELS }
 {
     match place {
         MessagePlace::Label => {
@@ -70,7 +70,7 @@ pub fn feed_label(
     ensures ok { IfOk result (λ label. spec.feed_label wanted (word_text token.now.sign) token.now.from labels.old ≡ Ok (spec.goes_on labels.new (MessagePlace.Paren label))) }
     ensures err { IfErr result (λ e. Fails e (spec.feed_label wanted (word_text token.now.sign) token.now.from labels.old)) }
     ensures kept { OnErr result (labels.new ≡ labels.old) }
-    ensures few { length labels.new ≤ MOST_LABELS }
+    ensures bounded { length labels.new ≤ MOST_LABELS }
 {
     let Some(word) = token.word() else {
         return expected(wanted, token.from());
@@ -90,7 +90,7 @@ fn label_of_word(
     ensures ok { IfOk result (λ label. spec.feed_label_number (place_of word.now labels.old) word.now at labels.old ≡ Ok (spec.goes_on labels.new (MessagePlace.Paren label))) }
     ensures err { IfErr result (λ e. Fails e (spec.feed_label_number (place_of word.now labels.old) word.now at labels.old)) }
     ensures kept { OnErr result (labels.new ≡ labels.old) }
-    ensures few { length labels.new ≤ MOST_LABELS }
+    ensures bounded { length labels.new ≤ MOST_LABELS }
 {
     match label_named(labels, word) {
         Some(label) => Ok(label),
@@ -115,7 +115,7 @@ fn new_label(word: &[u8], at: usize, alloc: Global, labels: &mut NameTable) -> R
     ensures ok { IfOk result (λ label. spec.feed_label_number None word.now at labels.old ≡ Ok (spec.goes_on labels.new (MessagePlace.Paren label))) }
     ensures err { IfErr result (λ e. Fails e (spec.feed_label_number None word.now at labels.old)) }
     ensures kept { OnErr result (labels.new ≡ labels.old) }
-    ensures few { length labels.new ≤ MOST_LABELS }
+    ensures bounded { length labels.new ≤ MOST_LABELS }
 {
     if labels.len() >= MOST_LABELS {
         return fault(TextKind::TooManyLabels, at);

@@ -1,3 +1,5 @@
+//! The buffer that a text is written into.
+
 ghost use Rattle.std.specs.Prelude.{◌≡◌, [], ◌++◌, OnOk, OnErr};
 ghost use Rattle.std.specs.Fmt.{decimal};
 

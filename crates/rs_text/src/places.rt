@@ -1,3 +1,5 @@
+//! The line and the column of an offset.
+
 ghost use Rattle.std.specs.Prelude.{◌≡◌, ◌≤◌, length};
 ghost use Rattle.rs_text.specs.Places.{line_of, column_of};
 

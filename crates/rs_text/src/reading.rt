@@ -1,7 +1,9 @@
+//! Why a reading of a text stops, and what is told of it.
+
 ghost use Rattle.std.specs.Prelude.{◌≡◌, Err};
 ghost use Rattle.rs_text.specs.Readings as spec;
 
-use crate::{Fault, TextFault, TextKind, Wanted};
+use crate::{TextFault, TextKind, TokenFault, Wanted};
 use rs_model::NoMemory;
 use std::alloc::{AllocError, AllocFailed};
 
@@ -62,14 +64,14 @@ impl<T: Drop> From<AllocFailed<T>> for Stop {
     }
 }
 
-impl From<Fault> for Stop {
+impl From<TokenFault> for Stop {
     ghost use Rattle.std.specs.Prelude.{◌≡◌};
     ghost use Rattle.rs_text.specs.Faults.{kind_of};
     ghost use Rattle.rs_text.specs.declared.reading.Stop.TheVariants as stops;
 
     ghost from_gives = { λ fault e. e ≡ stops.Fault (record { kind = kind_of fault.kind; at = fault.at }) };
 
-    fn from(fault: Fault) -> Self {
+    fn from(fault: TokenFault) -> Self {
         Stop::Fault(TextFault::from(fault))
     }
 }

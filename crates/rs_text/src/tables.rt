@@ -1,6 +1,9 @@
+//! Names with an index by which one is found.
+
 ghost use Rattle.std.specs.Prelude.{◌≡◌, ◌⊎◌, ◌<◌, ◌≤◌, ◌++◌, ◌∷◌, [], ℕ, true, false, length, slice_get, Some, IfOk, OnOk, OnErr, MatchOption};
 ghost use Rattle.rs_text.specs.Names.{place_of};
-ghost use Rattle.rs_text.specs.Tables.{AreFiled, AreFiledIn, IsChained, bucket_of, bucket_on};
+ghost use Rattle.rs_model.specs.Chains.{IsChained, bucket_on};
+ghost use Rattle.rs_text.specs.Tables.{AreFiled, AreFiledIn, bucket_of};
 ghost use Rattle.rs_text.specs.declared.tables.TheConstants.{BUCKETS};
 
 use crate::names::{are_equal, find};
@@ -149,7 +152,7 @@ fn index_of(alloc: Global, names: &[Name]) -> Result<Index, NoMemory>
 }
 
 fn bucket_of(name: &[u8]) -> usize
-    ensures is { result ≡ bucket_of name.now }
+    ensures bucket { result ≡ bucket_of name.now }
     ensures within { result < BUCKETS }
 {
     let (_, end) = name.split_at(name.len().saturating_sub(8));
@@ -157,7 +160,7 @@ fn bucket_of(name: &[u8]) -> usize
 }
 
 fn bucket_on(bytes: &[u8]) -> usize
-    ensures is { result ≡ bucket_on 0 bytes.now }
+    ensures bucket { result ≡ bucket_on BUCKETS 0 bytes.now }
     ensures within { result < BUCKETS }
 {
     let mut bucket = 0;
@@ -172,7 +175,8 @@ fn place_along(names: &[Name], links: &[usize], head: usize, word: &[u8]) -> Opt
     requires size { length links.now ≡ length names.now }
     requires within { head ≤ length names.now }
     requires falls { (m next : ℕ) → slice_get links.now m ≡ Some next → next ≤ m }
-    ensures { MatchOption result ((n : ℕ) → IsChained links.now head n → slice_get names.now n ≡ Some word.now → ⊥) (λ p. (slice_get names.now p ≡ Some word.now) × ((n : ℕ) → IsChained links.now head n → slice_get names.now n ≡ Some word.now → p ≤ n)) }
+    ensures { MatchOption result ((n : ℕ) → IsChained links.now head n → slice_get names.now n ≡ Some word.now
+        → ⊥) (λ p. (slice_get names.now p ≡ Some word.now) × ((n : ℕ) → IsChained links.now head n → slice_get names.now n ≡ Some word.now → p ≤ n)) }
 {
     let mut found = None;
     let mut left = head;

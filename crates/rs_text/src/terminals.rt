@@ -4,7 +4,7 @@ ghost use Rattle.std.specs.Prelude.{◌≡◌, Some, None, IfSome, IfNone};
 ghost use Rattle.rs_text.specs.Seen.{plain_text, word_text};
 ghost use Rattle.rs_text.specs.Terminals.{terminal_sign, token_kind};
 
-use crate::tokens::{FaultKind, Kind};
+use crate::tokens::{FaultKind, TokenKind};
 use std::marker::Model;
 
 /// What the grammars see of a token.
@@ -117,25 +117,25 @@ impl<'a> TextToken<'a> {
     }
 
     /// The kind of the token, or why it is none.
-    pub fn kind(&self) -> Result<Kind, FaultKind>
+    pub fn kind(&self) -> Result<TokenKind, FaultKind>
         ensures { result ≡ token_kind self.now.sign }
     {
         match self.terminal {
-            Terminal::Rec | Terminal::End | Terminal::Plain(_) => Ok(Kind::Word),
-            Terminal::Number(_) => Ok(Kind::Number),
-            Terminal::Arrow => Ok(Kind::Arrow),
-            Terminal::Bang => Ok(Kind::Bang),
-            Terminal::Question => Ok(Kind::Question),
-            Terminal::Colon => Ok(Kind::Colon),
-            Terminal::Dot => Ok(Kind::Dot),
-            Terminal::Comma => Ok(Kind::Comma),
-            Terminal::OpenBrace => Ok(Kind::OpenBrace),
-            Terminal::CloseBrace => Ok(Kind::CloseBrace),
-            Terminal::OpenParen => Ok(Kind::OpenParen),
-            Terminal::CloseParen => Ok(Kind::CloseParen),
-            Terminal::OpenBracket => Ok(Kind::OpenBracket),
-            Terminal::CloseBracket => Ok(Kind::CloseBracket),
-            Terminal::Finish => Ok(Kind::Finish),
+            Terminal::Rec | Terminal::End | Terminal::Plain(_) => Ok(TokenKind::Word),
+            Terminal::Number(_) => Ok(TokenKind::Number),
+            Terminal::Arrow => Ok(TokenKind::Arrow),
+            Terminal::Bang => Ok(TokenKind::Bang),
+            Terminal::Question => Ok(TokenKind::Question),
+            Terminal::Colon => Ok(TokenKind::Colon),
+            Terminal::Dot => Ok(TokenKind::Dot),
+            Terminal::Comma => Ok(TokenKind::Comma),
+            Terminal::OpenBrace => Ok(TokenKind::OpenBrace),
+            Terminal::CloseBrace => Ok(TokenKind::CloseBrace),
+            Terminal::OpenParen => Ok(TokenKind::OpenParen),
+            Terminal::CloseParen => Ok(TokenKind::CloseParen),
+            Terminal::OpenBracket => Ok(TokenKind::OpenBracket),
+            Terminal::CloseBracket => Ok(TokenKind::CloseBracket),
+            Terminal::Finish => Ok(TokenKind::Finish),
             Terminal::Faulty(kind) => Err(kind),
         }
     }

@@ -1,6 +1,8 @@
+//! Tokens and their kinds.
+
 /// The kinds of tokens. A mark is a token of one or two bytes, always the same.
 #[derive(Clone, Copy, Debug, PartialEq, Eq)]
-pub enum Kind {
+pub enum TokenKind {
     /// A letter or `_`, then letters, digits and `_`: 1 to 64 bytes.
     Word,
     /// Decimal digits, with a value of at most 4,294,967,295.
@@ -36,7 +38,7 @@ pub enum Kind {
 /// A token: its text is the bytes from `from` to before `until`, offsets into the whole text.
 #[derive(Clone, Copy, Debug, PartialEq, Eq)]
 pub struct Token {
-    pub kind: Kind,
+    pub kind: TokenKind,
     pub from: usize,
     pub until: usize,
 }
@@ -54,7 +56,7 @@ pub enum FaultKind {
 
 /// What stands in place of a token, and the offset of its first byte.
 #[derive(Clone, Copy, Debug, PartialEq, Eq)]
-pub struct Fault {
+pub struct TokenFault {
     pub kind: FaultKind,
     pub at: usize,
 }

@@ -1,17 +1,17 @@
 -- A demo that can be performed is performed.
-use Rattle.std.proofs.Common.{◌≡◌, ℕ, ◌≤◌, List, length, Option, Some, None, sym, subst, arith}
+use Rattle.std.proofs.Common.{◌≡◌, ℕ, ◌≤◌, List, length, Option, Some, sym, subst, arith}
 use Rattle.rs_answers.specs.Data.{Answer_data}
 use Rattle.rs_answers.specs.Runs.{capacity_of}
 use Rattle.rs_answers.specs.Sessions.{HasMachines}
 use Rattle.rs_answers.proofs.OneReason.{not_refused, one_session_derived}
 use Rattle.rs_core.specs.Plain.{Ending, IsPlain}
-use Rattle.rs_demo_answers.specs.Demos.{AnswersDemo, HasBadNumbers, IsDocument, AnswersOwn, IsRefused, IsAccepted, IsTooSmall, IsRun, TellsDemoEnd, HasEnded, IsStopped, Opens, actor_at}
-use Rattle.rs_demo_answers.specs.declared.limits.TheConstants.{DEMO_LIMIT}
-use Rattle.rs_demo_answers.proofs.OneAnswer.{one_opening}
-use Rattle.rs_demo_answers.proofs.Stopping.{never_stopped}
+use Rattle.rs_answers.specs.Demos.{AnswersDemo, HasBadNumbers, IsDocument, AnswersOwn, IsRefused, IsAccepted, IsTooSmall, IsRun, TellsDemoEnd, HasEnded, IsStopped, Opens, actor_at}
+use Rattle.rs_answers.specs.declared.limits.TheConstants.{DEMO_LIMIT}
+use Rattle.rs_answers.proofs.OneDemo.{one_opening}
+use Rattle.rs_answers.proofs.Stopping.{never_stopped}
 use Rattle.rs_demos.specs.Acting.{by_demo}
 use Rattle.rs_demos.specs.declared.actors.DemoActor.{DemoActor}
-use Rattle.rs_demos.proofs.Deciding.{not-both}
+use Rattle.rs_demos.proofs.Deciding.{not_both_shown}
 use Rattle.rs_derive.specs.Data.{Derivation_data}
 use Rattle.rs_documents.specs.Data.{Document_data}
 use Rattle.rs_documents.specs.Documents.{SpellsDocument}
@@ -23,18 +23,17 @@ use Rattle.rs_project.specs.Data.{Projection_data}
 use Rattle.rs_safety.specs.Room.{room_of}
 use Rattle.rs_tool.specs.Answers.{AnswersData, DataIsTooLong, DataIsShort}
 use Rattle.rs_tool.specs.Calls.{Ends, Tells, TellsAll, TellsPart, TellsReadFault, TellsNoMemory}
+use Rattle.rs_tool.specs.Data.{Call, CallOutput}
 use Rattle.rs_tool.specs.DemoCompleteness.{CanBePerformed, IsCompleteDemo, IsPerformed}
 use Rattle.rs_tool.specs.Statuses.{status_of}
 use Rattle.rs_tool.specs.Tasks.{SpellsDemo}
-use Rattle.rs_rings.specs.Closed.{Closed_data}
 use Rattle.rs_tool.specs.declared.statuses.Reply.{Reply}
-use Rattle.rs_tool.specs.declared.statuses.Status.{Status}
 use Rattle.rs_tool.specs.declared.statuses.Status.TheVariants as status
-use Rattle.rs_words.specs.declared.limits.TheConstants.{DEFAULT_BOUND}
+use Rattle.rs_model.specs.declared.limits.TheConstants.{DEFAULT_BOUND}
 use Rattle.rs_words.specs.declared.tasks.Task.TheVariants as task
+use Rattle.rs_tool.proofs.Answering.{if_told}
 use Rattle.rs_tool.proofs.Complete.{derived, has_machines}
-use Rattle.rs_tool.proofs.DemoHeadline.{demo-is-answered}
-use Rattle.rs_tool.proofs.Headline.{task-is-answered}
+use Rattle.rs_tool.proofs.Headline.{task_is_answered}
 
 abbrev WasPerformed : Answer_data → Type 0
 WasPerformed a = IsPerformed (status_of a.verdict)
@@ -42,17 +41,22 @@ WasPerformed a = IsPerformed (status_of a.verdict)
 was_performed : (a b : Answer_data) → a ≡ b → WasPerformed b → WasPerformed a
 was_performed a b e h = subst WasPerformed (sym e) h
 
-end_is_performed : (kind : Demo) (bytes : List ℕ) (actors : List DemoActor) (text : List ℕ) (d : Document_data) (ps : List Projection_data) (ms : List Machine_data) (capacity : ℕ) (a : Answer_data) (o : Ending DemoActor) → length bytes ≤ MOST_BYTES
-    → Opens kind bytes actors text → SpellsDocument text d → HasMachines d ps ms → IsPlain ms by_demo (actor_at actors) DEMO_LIMIT (Some capacity) o → TellsDemoEnd kind d.names (length ms) a o → WasPerformed a
+end_is_performed : (kind : Demo) (bytes : List ℕ) (actors : List DemoActor) (text : List ℕ) (d : Document_data) (ps : List Projection_data) (ms : List Machine_data) (capacity : ℕ) (a : Answer_data)
+    (o : Ending DemoActor) → length bytes ≤ MOST_BYTES
+    → Opens kind bytes actors text → SpellsDocument text d → HasMachines d ps ms → IsPlain ms by_demo (actor_at actors) DEMO_LIMIT (Some capacity) o → TellsDemoEnd kind d.names (length ms) a o
+    → WasPerformed a
 end_is_performed kind bytes actors text d ps ms capacity a o short opens spells h plain (HasEnded k xs has x) = was_performed a _ x tt
-end_is_performed kind bytes actors text d ps ms capacity a o short opens spells h plain (IsStopped p k x) = absurd (never_stopped kind bytes actors text d ps ms (Some capacity) p k short opens spells h plain)
+end_is_performed kind bytes actors text d ps ms capacity a o short opens spells h plain (IsStopped p k x) =
+    absurd (never_stopped kind bytes actors text d ps ms (Some capacity) p k short opens spells h plain)
 
 -- what is answered to the document of a demo that can be performed
-own_is_performed : (kind : Demo) (ring : Option ℕ) (bytes : List ℕ) (c : CanBePerformed kind ring bytes) (actors : List DemoActor) (text : List ℕ) (d : Document_data) (a : Answer_data) → Opens kind bytes actors text → SpellsDocument text d → d ≡ c.session.document → AnswersOwn kind ring actors d a → WasPerformed a
+own_is_performed : (kind : Demo) (ring : Option ℕ) (bytes : List ℕ) (c : CanBePerformed kind ring bytes) (actors : List DemoActor) (text : List ℕ) (d : Document_data) (a : Answer_data)
+    → Opens kind bytes actors text → SpellsDocument text d → d ≡ c.session.document → AnswersOwn kind ring actors d a → WasPerformed a
 own_is_performed kind ring bytes c actors text d a opens spells is (IsRefused r h x) =
     let f = derived DEFAULT_BOUND c.text c.session in
     absurd (not_refused DEFAULT_BOUND c.session.document c.session.projections _ f.0 r (has_machines DEFAULT_BOUND c.text c.session) f.1 (rw is at h))
-own_is_performed kind ring bytes c actors text d a opens spells is (IsAccepted ps ms ds h found (IsRun l run)) = end_is_performed kind bytes actors text d ps ms _ a run.end c.short opens spells h run.plain run.tells
+own_is_performed kind ring bytes c actors text d a opens spells is (IsAccepted ps ms ds h found (IsRun l run)) =
+    end_is_performed kind bytes actors text d ps ms _ a run.end c.short opens spells h run.plain run.tells
 own_is_performed kind ring bytes c actors text d a opens spells is (IsAccepted ps ms ds h found (IsTooSmall l x)) =
     let f = derived DEFAULT_BOUND c.text c.session in
     let P : Document_data → Type 0 = λ z. HasMachines z ps ms in
@@ -61,7 +65,7 @@ own_is_performed kind ring bytes c actors text d a opens spells is (IsAccepted p
     absurd (omega (arith, l, enough))
 
 demo_is_performed : (kind : Demo) (ring : Option ℕ) (bytes : List ℕ) (a : Answer_data) → CanBePerformed kind ring bytes → AnswersDemo kind ring bytes a → WasPerformed a
-demo_is_performed kind ring bytes a c (HasBadNumbers n x) = absurd (not-both kind bytes c.actors c.opens.starts n)
+demo_is_performed kind ring bytes a c (HasBadNumbers n x) = absurd (not_both_shown kind bytes c.actors c.opens.starts n)
 demo_is_performed kind ring bytes a c (IsDocument actors text d o h own) =
     let s = one_opening kind bytes actors c.actors text c.text o c.opens in
     let P : List ℕ → Type 0 = λ z. SpellsDocument z d in
@@ -71,17 +75,15 @@ data_is_performed : (kind : Demo) (ring : Option ℕ) (bytes : List ℕ) (a : An
 data_is_performed kind ring bytes a c (DataIsTooLong l x) = let short = c.short in absurd (omega (arith, l, short))
 data_is_performed kind ring bytes a c (DataIsShort s h) = demo_is_performed kind ring bytes a c h
 
-told_is_performed : (words : List (List ℕ)) (kind : Demo) (ring : Option ℕ) (bytes : List ℕ) (old new : Option (List ℕ)) (s : Status) (z : Option Closed_data) → CanBePerformed kind ring bytes → SpellsDemo words kind ring → Tells words bytes old new s z
-    → (s ≡ status.ReadFault → ⊥) → (s ≡ status.WriteFault → ⊥) → IsPerformed s
-told_is_performed words kind ring bytes old new s z c spells (TellsAll a h session text is) no_read no_write =
-    demo-is-answered kind ring spells.0 bytes a (IsPerformed s) (task-is-answered words (task.Demo kind ring spells.0) bytes a spells.1 h) (λ own. subst IsPerformed (sym is) (data_is_performed kind ring bytes a c own))
-told_is_performed words kind ring bytes old new s z c spells (TellsPart a h session text is) no_read no_write = absurd (no_write is)
-told_is_performed words kind ring bytes old new s z c spells (TellsReadFault keeps is none) no_read no_write = absurd (no_read is)
-told_is_performed words kind ring bytes old new s z c spells (TellsNoMemory keeps is none) no_read no_write = subst IsPerformed (sym is) tt
+told_is_performed : {K : Type 0} (words : List (List ℕ)) (kind : Demo) (ring : Option ℕ) (bytes : List ℕ) (output : CallOutput K) (reply : Reply) → CanBePerformed kind ring bytes
+    → SpellsDemo words kind ring → Tells words bytes output reply
+    → (reply.status ≡ status.ReadFault → ⊥) → (reply.status ≡ status.WriteFault → ⊥) → IsPerformed reply.status
+told_is_performed words kind ring bytes output reply c spells (TellsAll a h session text is) no_read no_write =
+    subst IsPerformed (sym is) (data_is_performed kind ring bytes a c (task_is_answered words (task.OnData (record { kind = kind; ring = ring; workers = spells.0 })) bytes a spells.1 h))
+told_is_performed words kind ring bytes output reply c spells (TellsPart a h session text is) no_read no_write = absurd (no_write is)
+told_is_performed words kind ring bytes output reply c spells (TellsReadFault keeps is none) no_read no_write = absurd (no_read is)
+told_is_performed words kind ring bytes output reply c spells (TellsNoMemory keeps is none) no_read no_write = subst IsPerformed (sym is) tt
 
-pub complete_demo : {S : Type 0} (words : List (List ℕ)) (left later old new : Option (List ℕ)) (read_rose write_rose : Type 0) (source behind : S) (reply : Reply) → Ends words left later old new read_rose write_rose source behind reply
-    → IsCompleteDemo words left read_rose write_rose reply.status
-complete_demo words None later old new read_rose write_rose source behind reply ends = λ kind ring spells. tt
-complete_demo words (Some bytes) later old new read_rose write_rose source behind reply ends = λ kind ring spells c no_read no_write.
-    let answer = ends.answer in
-    told_is_performed words kind ring bytes old new reply.status reply.closed c spells answer.told (λ is. no_read (ends.read_fault is)) (λ is. no_write (ends.write_fault is))
+pub complete_demo : {S K : Type 0} (call : Call S K) (reply : Reply) → Ends call reply → IsCompleteDemo call reply.status
+complete_demo call reply ends = λ kind ring spells. if_told call.input.left _ _ (λ bytes tells c no_read no_write.
+    told_is_performed call.words kind ring bytes call.output reply c spells tells (λ is. no_read (ends.read_fault is)) (λ is. no_write (ends.write_fault is))) ends.answer.told

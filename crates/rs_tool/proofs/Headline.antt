@@ -1,5 +1,5 @@
 -- An accepted text spells safe machines.
-use Rattle.std.proofs.Common.{◌≡◌, ℕ, List, [], Bool, true, false, Option, Some, None, sym, ◌∙◌, subst}
+use Rattle.std.proofs.Common.{◌≡◌, ℕ, List, [], Bool, false, sym, ◌∙◌, subst}
 use Rattle.std.specs.Prelude.{IfSome}
 use Rattle.rs_core.specs.Safety.{IsSafe}
 use Rattle.rs_answers.proofs.Derivings.{canonical_safe, session_of}
@@ -10,16 +10,17 @@ use Rattle.rs_answers.proofs.Verified.{verified_safe}
 use Rattle.rs_documents.proofs.Spelt.{one_place_each, spelt_machines}
 use Rattle.rs_text.specs.declared.faults.TextKind.{TextKind}
 use Rattle.rs_tool.specs.Statuses.{status_of}
-use Rattle.rs_rings.specs.Closed.{Closed_data}
+use Rattle.rs_tool.specs.Data.{Call, CallOutput}
+use Rattle.rs_tool.specs.declared.statuses.Reply.{Reply}
 use Rattle.rs_tool.specs.declared.statuses.Status.{Status}
 use Rattle.rs_tool.specs.declared.statuses.Status.TheVariants as status
-use Rattle.rs_pipeline.specs.Pipelines.{pipeline_text, pipeline_of}
-use Rattle.rs_tool.specs.Answers.{Answers, SpellsNothing, CarriesOut, AnswersText, IsTooLong, IsFaulty, IsDocument, AnswersDocument, AnswersTask, ReadsDocument, RunsDemo, MakesPipeline}
-use Rattle.rs_tool.specs.Calls.{ForInput, Tells, TellsAll, TellsPart, TellsReadFault, TellsNoMemory}
-use Rattle.rs_answers.proofs.RunSessions.{IsRefusing, fault-refuses, refusal-refuses}
+use Rattle.rs_tool.specs.Pipelines.{pipeline_text, pipeline_of}
+use Rattle.rs_tool.specs.Answers.{Answers, SpellsNothing, CarriesOut, AnswersPipeline, AnswersText, IsTooLong, IsFaulty, IsDocument, AnswersDocument, AnswersTask}
+use Rattle.rs_tool.specs.Calls.{Ends, Tells, TellsAll, TellsPart, TellsReadFault, TellsNoMemory}
+use Rattle.rs_answers.proofs.RunSessions.{IsRefusing, fault_refuses, refusal_refuses}
 use Rattle.rs_answers.specs.declared.verdicts.Verdict.{Verdict}
 use Rattle.rs_answers.specs.declared.verdicts.Verdict.TheVariants as verdict
-use Rattle.rs_answers.proofs.CheckParts.{Accepted, CheckParts, Refused, check_parts}
+use Rattle.rs_answers.specs.Checks as checks
 use Rattle.rs_answers.specs.Checks.{Checks}
 use Rattle.rs_documents.specs.Data.{Document_data}
 use Rattle.rs_answers.specs.Data.{Answer_data}
@@ -28,7 +29,7 @@ use Rattle.rs_answers.specs.Derivations.{AreCanonical}
 use Rattle.rs_documents.specs.Documents.{SpellsDocument}
 use Rattle.rs_answers.specs.Refusals.{refusal_answer}
 use Rattle.rs_answers.specs.Sessions.{HasMachines}
-use Rattle.rs_words.specs.declared.limits.TheConstants.{DEFAULT_BOUND}
+use Rattle.rs_model.specs.declared.limits.TheConstants.{DEFAULT_BOUND}
 use Rattle.rs_answers.specs.declared.refusals.Refusal.{Refusal}
 use Rattle.rs_derive.specs.Data.{Derivation_data}
 use Rattle.rs_model.specs.Data.{Machine_data, Names_data}
@@ -36,13 +37,18 @@ use Rattle.rs_project.specs.Data.{Projection_data}
 use Rattle.rs_tool.specs.Headline.{SpellsSafeMachines}
 use Rattle.rs_tool.specs.RunHeadline.{IsOfRun}
 use Rattle.rs_answers.specs.Pools as pools
-use Rattle.rs_answers.specs.Pools.{RunsByWorkers, RunsWith, ByOne, BySeveral}
+use Rattle.rs_answers.specs.Pools.{RunsByWorkers, RunsWith}
 use Rattle.rs_answers.specs.Runs as runs
 use Rattle.rs_answers.specs.Runs.{Runs}
-use Rattle.rs_answers.specs.declared.runs.RunOptions.{RunOptions}
-use Rattle.rs_tool.specs.Tasks.{ReadTheInput, SpellsCheck, SpellsRun, reads_input}
+use Rattle.rs_model.specs.declared.runs.RunOptions.{RunOptions}
+use Rattle.rs_model.specs.declared.runs.Workers.{Workers}
+use Rattle.rs_model.specs.declared.runs.Workers.TheVariants.{One, Several}
+use Rattle.rs_tool.specs.Tasks.{ReadTheInput, ReadsTheInput, SpellsCheck, SpellsRun, SpellsVerify}
 use Rattle.rs_words.specs.Meaning.{SpellsTask}
 use Rattle.rs_words.proofs.Exact.{words_spell_one_task}
+use Rattle.rs_tool.proofs.Answering.{if_told}
+use Rattle.rs_words.specs.declared.tasks.DocumentTask.{DocumentTask}
+use Rattle.rs_words.specs.declared.tasks.DocumentTask.TheVariants as on_document
 use Rattle.rs_words.specs.declared.tasks.Task.{Task}
 use Rattle.rs_words.specs.declared.tasks.Task.TheVariants as task
 
@@ -50,30 +56,31 @@ use Rattle.rs_words.specs.declared.tasks.Task.TheVariants as task
 abbrev pub IsNoRun : Answer_data → Type 0
 IsNoRun a = IsOfRun (status_of a.verdict) → ⊥
 
-pub no-run : (a b : Answer_data) → a ≡ b → IsNoRun b → IsNoRun a
-no-run a b e h = subst IsNoRun (sym e) h
+pub no_run : (a b : Answer_data) → a ≡ b → IsNoRun b → IsNoRun a
+no_run a b e h = subst IsNoRun (sym e) h
 
-refusing-is-no-run : (v : Verdict) → IsRefusing v → IsOfRun (status_of v) → ⊥
-refusing-is-no-run verdict.Fine h e = h
-refusing-is-no-run verdict.Refused h e = e
-refusing-is-no-run verdict.Usage h e = e
-refusing-is-no-run verdict.Malformed h e = e
-refusing-is-no-run verdict.Unprojectable h e = e
-refusing-is-no-run verdict.TooLarge h e = e
-refusing-is-no-run verdict.Stopped h e = h
-refusing-is-no-run verdict.Full h e = h
-refusing-is-no-run verdict.RoomTooSmall h e = e
+refusing_is_no_run : (v : Verdict) → IsRefusing v → IsOfRun (status_of v) → ⊥
+refusing_is_no_run verdict.Fine h e = h
+refusing_is_no_run verdict.Refused h e = e
+refusing_is_no_run verdict.Usage h e = e
+refusing_is_no_run verdict.Malformed h e = e
+refusing_is_no_run verdict.Unprojectable h e = e
+refusing_is_no_run verdict.TooLarge h e = e
+refusing_is_no_run verdict.Stopped h e = h
+refusing_is_no_run verdict.Full h e = h
+refusing_is_no_run verdict.RoomTooSmall h e = e
 
-pub fault-is-no-run : (bytes : List ℕ) (k : TextKind) (at : ℕ) → IsNoRun (fault_answer bytes k at)
-fault-is-no-run bytes k at = refusing-is-no-run ((fault_answer bytes k at).verdict) (fault-refuses bytes k at)
+pub fault_is_no_run : (bytes : List ℕ) (k : TextKind) (at : ℕ) → IsNoRun (fault_answer bytes k at)
+fault_is_no_run bytes k at = refusing_is_no_run ((fault_answer bytes k at).verdict) (fault_refuses bytes k at)
 
-pub refusal-is-no-run : (names : Names_data) (r : Refusal) → IsNoRun (refusal_answer names r)
-refusal-is-no-run names r = refusing-is-no-run ((refusal_answer names r).verdict) (refusal-refuses names r)
+pub refusal_is_no_run : (names : Names_data) (r : Refusal) → IsNoRun (refusal_answer names r)
+refusal_is_no_run names r = refusing_is_no_run ((refusal_answer names r).verdict) (refusal_refuses names r)
 
 -- machines that have derivations are safe
-pub derived-is-safe : (bound : ℕ) (bytes : List ℕ) (d : Document_data) (projections : List Projection_data) (machines : List Machine_data) (derivations : List Derivation_data) → SpellsDocument bytes d → HasMachines d projections machines
+pub derived_is_safe : (bound : ℕ) (bytes : List ℕ) (d : Document_data) (projections : List Projection_data) (machines : List Machine_data) (derivations : List Derivation_data) → SpellsDocument bytes d
+    → HasMachines d projections machines
     → AreCanonical bound machines projections derivations → SpellsSafeMachines bytes
-derived-is-safe bound bytes d projections machines derivations doc h found =
+derived_is_safe bound bytes d projections machines derivations doc h found =
     let spelt = spelt_session bytes d doc in
     let spells = spelt_machines bytes d doc in
     let session = session_of d projections machines spelt h.projections_are.well_formed h.projections_are.projected h.machines_are h.well_formed in
@@ -88,29 +95,29 @@ derived-is-safe bound bytes d projections machines derivations doc h found =
       safe = subst IsSafe h.machines_are (canonical_safe bound d.protocol projections machines derivations session found);
     }
 
-part-is-safe : (bound : ℕ) (asked : Bool) (bytes : List ℕ) (d : Document_data) (a : Answer_data) → SpellsDocument bytes d → CheckParts bound asked d a → IsOfRun (status_of a.verdict) → SpellsSafeMachines bytes
-part-is-safe bound asked bytes d a doc (Refused r h is) run = absurd (no-run a _ is (refusal-is-no-run d.names r) run)
-part-is-safe bound asked bytes d a doc (Accepted projections machines derivations h found is) run = derived-is-safe bound bytes d projections machines derivations doc h found
+checked_is_safe : (bound : ℕ) (asked : Bool) (bytes : List ℕ) (d : Document_data) (a : Answer_data) → SpellsDocument bytes d → Checks bound asked d a → IsOfRun (status_of a.verdict)
+    → SpellsSafeMachines bytes
+checked_is_safe bound asked bytes d a doc (checks.IsRefused r h is) run = absurd (no_run a _ is (refusal_is_no_run d.names r) run)
+checked_is_safe bound asked bytes d a doc (checks.IsAccepted projections machines derivations h found is) run = derived_is_safe bound bytes d projections machines derivations doc h found
 
-checked-is-safe : (bound : ℕ) (asked : Bool) (bytes : List ℕ) (d : Document_data) (a : Answer_data) → SpellsDocument bytes d → Checks bound asked d a → IsOfRun (status_of a.verdict) → SpellsSafeMachines bytes
-checked-is-safe bound asked bytes d a doc checks = part-is-safe bound asked bytes d a doc (check_parts bound asked d a checks)
+run_is_safe : (options : RunOptions) (bytes : List ℕ) (d : Document_data) (a : Answer_data) → SpellsDocument bytes d → Runs options d a → IsOfRun (status_of a.verdict) → SpellsSafeMachines bytes
+run_is_safe options bytes d a doc (runs.IsRefused r h is) run = absurd (no_run a _ is (refusal_is_no_run d.names r) run)
+run_is_safe options bytes d a doc (runs.IsRun projections machines derivations h found tells) run = derived_is_safe options.bound bytes d projections machines derivations doc h found
 
-run-is-safe : (options : RunOptions) (bytes : List ℕ) (d : Document_data) (a : Answer_data) → SpellsDocument bytes d → Runs options d a → IsOfRun (status_of a.verdict) → SpellsSafeMachines bytes
-run-is-safe options bytes d a doc (runs.IsRefused r h is) run = absurd (no-run a _ is (refusal-is-no-run d.names r) run)
-run-is-safe options bytes d a doc (runs.IsRun projections machines derivations h found tells) run = derived-is-safe options.bound bytes d projections machines derivations doc h found
+pool_is_safe : (options : RunOptions) (bytes : List ℕ) (d : Document_data) (a : Answer_data) → SpellsDocument bytes d → RunsByWorkers options d a → IsOfRun (status_of a.verdict)
+    → SpellsSafeMachines bytes
+pool_is_safe options bytes d a doc (pools.IsRefused r h is) run = absurd (no_run a _ is (refusal_is_no_run d.names r) run)
+pool_is_safe options bytes d a doc (pools.IsAccepted projections machines derivations h found tells) run = derived_is_safe options.bound bytes d projections machines derivations doc h found
 
-pool-is-safe : (options : RunOptions) (bytes : List ℕ) (d : Document_data) (a : Answer_data) → SpellsDocument bytes d → RunsByWorkers options d a → IsOfRun (status_of a.verdict) → SpellsSafeMachines bytes
-pool-is-safe options bytes d a doc (pools.IsRefused r h is) run = absurd (no-run a _ is (refusal-is-no-run d.names r) run)
-pool-is-safe options bytes d a doc (pools.IsAccepted projections machines derivations h found tells) run = derived-is-safe options.bound bytes d projections machines derivations doc h found
+runs_with_are_safe : (options : RunOptions) (workers : Workers) (bytes : List ℕ) (d : Document_data) (a : Answer_data) → SpellsDocument bytes d → RunsWith workers options d a
+    → IsOfRun (status_of a.verdict) → SpellsSafeMachines bytes
+runs_with_are_safe options One bytes d a doc h run = run_is_safe options bytes d a doc h run
+runs_with_are_safe options (Several n) bytes d a doc h run = pool_is_safe options bytes d a doc h run
 
-runs-with-are-safe : (options : RunOptions) (workers : ℕ) (bytes : List ℕ) (d : Document_data) (a : Answer_data) → SpellsDocument bytes d → RunsWith workers options d a → IsOfRun (status_of a.verdict) → SpellsSafeMachines bytes
-runs-with-are-safe options workers bytes d a doc (ByOne one h) run = run-is-safe options bytes d a doc h run
-runs-with-are-safe options workers bytes d a doc (BySeveral several h) run = pool-is-safe options bytes d a doc h run
-
-verify-is-safe : (bytes : List ℕ) (d : Document_data) (a : Answer_data) → SpellsDocument bytes d → Verifies d a → IsOfRun (status_of a.verdict) → SpellsSafeMachines bytes
-verify-is-safe bytes d a doc (verifying.IsRefused r h is) run = absurd (no-run a _ is (refusal-is-no-run d.names r) run)
-verify-is-safe bytes d a doc (verifying.IsBlamed ps ms h b e is) run = absurd (no-run a _ is (λ e. e) run)
-verify-is-safe bytes d a doc (verifying.IsVerified ps ms h e is) run =
+verify_is_safe : (bytes : List ℕ) (d : Document_data) (a : Answer_data) → SpellsDocument bytes d → Verifies d a → IsOfRun (status_of a.verdict) → SpellsSafeMachines bytes
+verify_is_safe bytes d a doc (verifying.IsRefused r h is) run = absurd (no_run a _ is (refusal_is_no_run d.names r) run)
+verify_is_safe bytes d a doc (verifying.IsBlamed ps ms h b e is) run = absurd (no_run a _ is (λ e. e) run)
+verify_is_safe bytes d a doc (verifying.IsVerified ps ms h e is) run =
     let spelt = spelt_session bytes d doc in
     let spells = spelt_machines bytes d doc in
     let session = session_of d ps ms spelt h.projections_are.well_formed h.projections_are.projected h.machines_are h.well_formed in
@@ -126,78 +133,64 @@ verify-is-safe bytes d a doc (verifying.IsVerified ps ms h e is) run =
     }
 
 -- what a task answers to a document tells that its machines are safe
-abbrev TellsSafe : Task → List ℕ → Answer_data → Type 0
+abbrev TellsSafe : DocumentTask → List ℕ → Answer_data → Type 0
 TellsSafe t bytes a = (d : Document_data) → SpellsDocument bytes d → AnswersDocument t d a → IsOfRun (status_of a.verdict) → SpellsSafeMachines bytes
 
-text-is-safe : (t : Task) (bytes : List ℕ) (a : Answer_data) → TellsSafe t bytes a → AnswersText t bytes a → IsOfRun (status_of a.verdict) → SpellsSafeMachines bytes
-text-is-safe t bytes a safe (IsDocument short d h answers) run = safe d h answers run
-text-is-safe t bytes a safe (IsTooLong long is) run = absurd (no-run a _ is (λ e. e) run)
-text-is-safe t bytes a safe (IsFaulty short k at h is) run = absurd (no-run a _ is (fault-is-no-run bytes k at) run)
-
-check-is-safe : (bound : ℕ) (asked : Bool) (bytes : List ℕ) (a : Answer_data) → AnswersText (task.Check bound asked) bytes a → IsOfRun (status_of a.verdict) → SpellsSafeMachines bytes
-check-is-safe bound asked bytes a h run = text-is-safe (task.Check bound asked) bytes a (λ d doc k is. checked-is-safe bound asked bytes d a doc k is) h run
+text_is_safe : (t : DocumentTask) (bytes : List ℕ) (a : Answer_data) → TellsSafe t bytes a → AnswersText t bytes a → IsOfRun (status_of a.verdict) → SpellsSafeMachines bytes
+text_is_safe t bytes a safe (IsDocument short d h answers) run = safe d h answers run
+text_is_safe t bytes a safe (IsTooLong long is) run = absurd (no_run a _ is (λ e. e) run)
+text_is_safe t bytes a safe (IsFaulty short k at h is) run = absurd (no_run a _ is (fault_is_no_run bytes k at) run)
 
 -- what the words ask for is safe, where it was carried out on an accepted session
-checks-safely : (bound : ℕ) (asked : Bool) (bytes : List ℕ) (a : Answer_data) → AnswersTask (task.Check bound asked) bytes a → IsOfRun (status_of a.verdict) → SpellsSafeMachines bytes
-checks-safely bound asked bytes a (ReadsDocument reads h) run = check-is-safe bound asked bytes a h run
-checks-safely bound asked bytes a (RunsDemo kind own workers same h) run = absurd cc
-checks-safely bound asked bytes a (MakesPipeline number same h) run = absurd cc
+checks_safely : (bound : ℕ) (asked : Bool) (bytes : List ℕ) (a : Answer_data) → AnswersText (on_document.Check (record { bound = bound; derivations = asked })) bytes a → IsOfRun (status_of a.verdict)
+    → SpellsSafeMachines bytes
+checks_safely bound asked bytes a h run = text_is_safe (on_document.Check (record { bound = bound; derivations = asked })) bytes a (λ d doc k is. checked_is_safe bound asked bytes d a doc k is) h run
 
-verifies-safely : (bytes : List ℕ) (a : Answer_data) → AnswersTask task.Verify bytes a → IsOfRun (status_of a.verdict) → SpellsSafeMachines bytes
-verifies-safely bytes a (ReadsDocument reads h) run = text-is-safe task.Verify bytes a (λ d doc k is. verify-is-safe bytes d a doc k is) h run
-verifies-safely bytes a (RunsDemo kind own workers same h) run = absurd cc
-verifies-safely bytes a (MakesPipeline number same h) run = absurd cc
+verifies_safely : (bytes : List ℕ) (a : Answer_data) → AnswersText on_document.Verify bytes a → IsOfRun (status_of a.verdict) → SpellsSafeMachines bytes
+verifies_safely bytes a h run = text_is_safe on_document.Verify bytes a (λ d doc k is. verify_is_safe bytes d a doc k is) h run
 
-runs-safely : (options : RunOptions) (many : ℕ) (bytes : List ℕ) (a : Answer_data) → AnswersTask (task.Run options.bound options.ring many options.limit options.seed) bytes a → IsOfRun (status_of a.verdict) → SpellsSafeMachines bytes
-runs-safely options many bytes a (ReadsDocument reads h) run = text-is-safe (task.Run options.bound options.ring many options.limit options.seed) bytes a (λ d doc k is. runs-with-are-safe options many bytes d a doc k is) h run
-runs-safely options many bytes a (RunsDemo kind own workers same h) run = absurd cc
-runs-safely options many bytes a (MakesPipeline number same h) run = absurd cc
+runs_safely : (options : RunOptions) (workers : Workers) (bytes : List ℕ) (a : Answer_data) → AnswersText (on_document.Run options workers) bytes a → IsOfRun (status_of a.verdict)
+    → SpellsSafeMachines bytes
+runs_safely options workers bytes a h run = text_is_safe (on_document.Run options workers) bytes a (λ d doc k is. runs_with_are_safe options workers bytes d a doc k is) h run
 
-pipes-safely : (number : ℕ) (bytes : List ℕ) (a : Answer_data) → AnswersTask (task.Gen number) bytes a → IsOfRun (status_of a.verdict) → SpellsSafeMachines (pipeline_text (pipeline_of number))
-pipes-safely number bytes a (ReadsDocument reads h) run = absurd cc
-pipes-safely number bytes a (RunsDemo kind own workers same h) run = absurd cc
-pipes-safely number bytes a (MakesPipeline other same h) run =
-    let is : other ≡ number = cc in
-    let checked : IsOfRun (status_of h.checked.verdict) = subst (λ (z : Answer_data). IsOfRun (status_of z.verdict)) h.is run in
-    subst (λ (n : ℕ). SpellsSafeMachines (pipeline_text (pipeline_of n))) is (check-is-safe DEFAULT_BOUND false (pipeline_text (pipeline_of other)) h.checked h.checks checked)
+pipes_safely : (number : ℕ) (a : Answer_data) → AnswersPipeline number a → IsOfRun (status_of a.verdict) → SpellsSafeMachines (pipeline_text (pipeline_of number))
+pipes_safely number a h run =
+    let checked : IsOfRun (status_of h.checked.verdict) = subst (λ (z : Answer_data). IsOfRun (status_of z.verdict)) h.joined run in
+    checks_safely DEFAULT_BOUND false (pipeline_text (pipeline_of number)) h.checked h.checks checked
 
 -- the answer to the words is that of the task that they spell
-pub task-is-answered : (words : List (List ℕ)) (t : Task) (bytes : List ℕ) (a : Answer_data) → SpellsTask words t → Answers words bytes a → AnswersTask t bytes a
-task-is-answered words t bytes a s (SpellsNothing none is) = absurd (none t s)
-task-is-answered words t bytes a s (CarriesOut u r h) = subst (λ (x : Task). AnswersTask x bytes a) (words_spell_one_task words u t r s) h
+pub task_is_answered : (words : List (List ℕ)) (t : Task) (bytes : List ℕ) (a : Answer_data) → SpellsTask words t → Answers words bytes a → AnswersTask t bytes a
+task_is_answered words t bytes a s (SpellsNothing none is) = absurd (none t s)
+task_is_answered words t bytes a s (CarriesOut u r h) = subst (λ (x : Task). AnswersTask x bytes a) (words_spell_one_task words u t r s) h
 
-pub told-is-run : (words : List (List ℕ)) (t : Task) (bytes : List ℕ) (old new : Option (List ℕ)) (s : Status) (z : Option Closed_data) → SpellsTask words t → Tells words bytes old new s z → IsOfRun s → (a : Answer_data) × AnswersTask t bytes a × IsOfRun (status_of a.verdict)
-told-is-run words t bytes old new s z spells (TellsAll a h session text is) run = (a, task-is-answered words t bytes a spells h, subst IsOfRun is run)
-told-is-run words t bytes old new s z spells (TellsPart a h session text is) run = absurd (subst IsOfRun is run)
-told-is-run words t bytes old new s z spells (TellsReadFault keeps is none) run = absurd (subst IsOfRun is run)
-told-is-run words t bytes old new s z spells (TellsNoMemory keeps is none) run = absurd (subst IsOfRun is run)
+pub told_is_run : {K : Type 0} (words : List (List ℕ)) (t : Task) (bytes : List ℕ) (output : CallOutput K) (reply : Reply) → SpellsTask words t → Tells words bytes output reply → IsOfRun reply.status
+    → (a : Answer_data) × AnswersTask t bytes a × IsOfRun (status_of a.verdict)
+told_is_run words t bytes output reply spells (TellsAll a h session text is) run = (a, task_is_answered words t bytes a spells h, subst IsOfRun is run)
+told_is_run words t bytes output reply spells (TellsPart a h session text is) run = absurd (subst IsOfRun is run)
+told_is_run words t bytes output reply spells (TellsReadFault keeps is none) run = absurd (subst IsOfRun is run)
+told_is_run words t bytes output reply spells (TellsNoMemory keeps is none) run = absurd (subst IsOfRun is run)
 
-fine-is-run : (s : Status) → s ≡ status.Fine → IsOfRun s
-fine-is-run s e = subst IsOfRun (sym e) tt
+fine_is_run : (s : Status) → s ≡ status.Fine → IsOfRun s
+fine_is_run s e = subst IsOfRun (sym e) tt
 
-pub fine-is-safe : (words : List (List ℕ)) (o old new : Option (List ℕ)) (s : Status) (z : Option Closed_data) (bound : ℕ) → SpellsCheck words bound → ForInput words o (λ bytes. Tells words bytes old new s z) → IfSome o (λ bytes. s ≡ status.Fine → SpellsSafeMachines bytes)
-fine-is-safe words None old new s z bound check told = tt
-fine-is-safe words (Some bytes) old new s z bound check told = λ fine.
-    let is = told-is-run words (task.Check bound check.0) bytes old new s z check.1 told.told (fine-is-run s fine) in
-    checks-safely bound check.0 bytes is.0 is.1 is.2
+module _ {S K : Type 0} (call : Call S K) (reply : Reply) (ends : Ends call reply) where
+  pub fine_is_safe : (bound : ℕ) → SpellsCheck call.words bound → IfSome call.input.left (λ bytes. reply.status ≡ status.Fine → SpellsSafeMachines bytes)
+  fine_is_safe bound check = if_told call.input.left _ _ (λ bytes told fine.
+      let is = told_is_run call.words (task.OnDocument (on_document.Check (record { bound = bound; derivations = check.0 }))) bytes call.output reply check.1 told (fine_is_run reply.status fine) in
+      checks_safely bound check.0 bytes is.0 is.1 is.2) ends.answer.told
 
-pub verified-is-safe : (words : List (List ℕ)) (o old new : Option (List ℕ)) (s : Status) (z : Option Closed_data) → SpellsTask words task.Verify → ForInput words o (λ bytes. Tells words bytes old new s z) → IfSome o (λ bytes. s ≡ status.Fine → SpellsSafeMachines bytes)
-verified-is-safe words None old new s z spells told = tt
-verified-is-safe words (Some bytes) old new s z spells told = λ fine.
-    let is = told-is-run words task.Verify bytes old new s z spells told.told (fine-is-run s fine) in
-    verifies-safely bytes is.0 is.1 is.2
+  pub verified_is_safe : SpellsVerify call.words → IfSome call.input.left (λ bytes. reply.status ≡ status.Fine → SpellsSafeMachines bytes)
+  verified_is_safe spells = if_told call.input.left _ _ (λ bytes told fine.
+      let is = told_is_run call.words (task.OnDocument on_document.Verify) bytes call.output reply spells told (fine_is_run reply.status fine) in
+      verifies_safely bytes is.0 is.1 is.2) ends.answer.told
 
-pub runs-are-safe : (words : List (List ℕ)) (o old new : Option (List ℕ)) (s : Status) (z : Option Closed_data) (options : RunOptions) → SpellsRun words options → ForInput words o (λ bytes. Tells words bytes old new s z) → IfSome o (λ bytes. IsOfRun s → SpellsSafeMachines bytes)
-runs-are-safe words None old new s z options spells told = tt
-runs-are-safe words (Some bytes) old new s z options spells told = λ run.
-    let is = told-is-run words (task.Run options.bound options.ring spells.0 options.limit options.seed) bytes old new s z spells.1 told.told run in
-    runs-safely options spells.0 bytes is.0 is.1 is.2
+  pub runs_are_safe : (options : RunOptions) → SpellsRun call.words options → IfSome call.input.left (λ bytes. IsOfRun reply.status → SpellsSafeMachines bytes)
+  runs_are_safe options spells = if_told call.input.left _ _ (λ bytes told run.
+      let is = told_is_run call.words (task.OnDocument (on_document.Run options spells.0)) bytes call.output reply spells.1 told run in
+      runs_safely options spells.0 bytes is.0 is.1 is.2) ends.answer.told
 
-pub pipeline-is-safe : (words : List (List ℕ)) (o old new : Option (List ℕ)) (s : Status) (z : Option Closed_data) (number : ℕ) → SpellsTask words (task.Gen number) → ForInput words o (λ bytes. Tells words bytes old new s z) → s ≡ status.Fine → SpellsSafeMachines (pipeline_text (pipeline_of number))
-pipeline-is-safe words o old new s z number spells told fine =
-    let none : ReadTheInput words → ⊥ = λ read. no-gen (words_spell_one_task words read.0 (task.Gen number) read.1 spells) read.2 in
-    let is = told-is-run words (task.Gen number) [] old new s z spells (told.unread none []) (fine-is-run s fine) in
-    pipes-safely number [] is.0 is.1 is.2
-  where
-    no-gen : {t : Task} → t ≡ task.Gen number → reads_input t ≡ true → ⊥
-    no-gen {t} e reads = let no : false ≡ true = subst (λ (x : Task). reads_input x ≡ true) e reads in cc
+  pub pipeline_is_safe : (number : ℕ) → SpellsTask call.words (task.Gen number) → reply.status ≡ status.Fine → SpellsSafeMachines (pipeline_text (pipeline_of number))
+  pipeline_is_safe number spells fine =
+      let none : ReadTheInput call.words → ⊥ = λ read. subst ReadsTheInput (words_spell_one_task call.words read.0 (task.Gen number) read.1 spells) read.2 in
+      let is = told_is_run call.words (task.Gen number) [] call.output reply spells (ends.answer.unread none []) (fine_is_run reply.status fine) in
+      pipes_safely number is.0 is.1 is.2

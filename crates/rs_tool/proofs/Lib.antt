@@ -1,6 +1,7 @@
+pub mod Pieces
 pub mod Answering
+pub mod MadeReady
 pub mod Headline
-pub mod Sessions
 pub mod ItsSession
 pub mod Unique
 pub mod EnoughRoom

@@ -1,5 +1,5 @@
 -- Believed: what a `check` doesn't refuse.
-use Rattle.std.specs.Prelude.{◌≡◌, ◌⊎◌, ℕ, ◌≤◌, List, length, Some, slice_get, Option, IfSome}
+use Rattle.std.specs.Prelude.{◌≡◌, ◌⊎◌, ℕ, ◌≤◌, List, length, Some, slice_get, IfSome}
 use Rattle.rs_documents.specs.Data.{Document_data}
 use Rattle.rs_documents.specs.Documents.{SpellsDocument}
 use Rattle.rs_model.specs.Data.{Machine_data}
@@ -11,6 +11,7 @@ use Rattle.rs_search.specs.Candidates.{AreMoreThan}
 use Rattle.rs_search.specs.Canonical.{CanFollow}
 use Rattle.rs_wellformed.specs.WellFormed.{IsWellFormed}
 use Rattle.rs_answers.specs.Machines.{machines_of}
+use Rattle.rs_tool.specs.Data.{Call}
 use Rattle.rs_tool.specs.Tasks.{SpellsCheck}
 use Rattle.rs_tool.specs.declared.statuses.Status.{Status}
 use Rattle.rs_tool.specs.declared.statuses.Status.TheVariants.{Fine, NoMemory}
@@ -38,6 +39,6 @@ pub record SpellsDerivableSession (bound : ℕ) (bytes : List ℕ) : Type 0 wher
   pub derivable : AreDerivable bound (machines_of document.machines projections) projections
 
 -- a `check` of such a text within the bound, in which no fault of the source or the sink rises, is fine or wants memory
-abbrev pub IsComplete : List (List ℕ) → Option (List ℕ) → Type 0 → Type 0 → Status → Type 0
-IsComplete words left read_rose write_rose status = (bound : ℕ) → SpellsCheck words bound → IfSome left (λ bytes. SpellsDerivableSession bound bytes
-    → (read_rose → ⊥) → (write_rose → ⊥) → (status ≡ Fine) ⊎ (status ≡ NoMemory))
+abbrev pub IsComplete : {S K : Type 0} → Call S K → Status → Type 0
+IsComplete call status = (bound : ℕ) → SpellsCheck call.words bound → IfSome call.input.left (λ bytes. SpellsDerivableSession bound bytes
+    → (call.input.rose → ⊥) → (call.output.rose → ⊥) → (status ≡ Fine) ⊎ (status ≡ NoMemory))

@@ -3,17 +3,18 @@ use Rattle.std.specs.Prelude.{ℕ, ◌≤◌, List, length, Option, IfSome}
 use Rattle.rs_answers.specs.Derivations.{AreCanonical}
 use Rattle.rs_answers.specs.Machines.{machines_of}
 use Rattle.rs_answers.specs.Runs.{capacity_of}
-use Rattle.rs_demo_answers.specs.Demos.{Opens}
+use Rattle.rs_answers.specs.Demos.{Opens}
 use Rattle.rs_demos.specs.declared.actors.DemoActor.{DemoActor}
 use Rattle.rs_derive.specs.Data.{Derivation_data}
 use Rattle.rs_model.specs.declared.limits.TheConstants.{MOST_BYTES}
 use Rattle.rs_model.specs.declared.demos.Demo.{Demo}
 use Rattle.rs_safety.specs.Room.{room_of}
 use Rattle.rs_tool.specs.Completeness.{SpellsDerivableSession}
+use Rattle.rs_tool.specs.Data.{Call}
 use Rattle.rs_tool.specs.Tasks.{SpellsDemo}
 use Rattle.rs_tool.specs.declared.statuses.Status.{Status}
 use Rattle.rs_tool.specs.declared.statuses.Status.TheVariants as status
-use Rattle.rs_words.specs.declared.limits.TheConstants.{DEFAULT_BOUND}
+use Rattle.rs_model.specs.declared.limits.TheConstants.{DEFAULT_BOUND}
 
 -- the bytes are data of the demo within the limit; the text of its document spells a session whose machines may be
 -- derived; and the rings hold as many messages as its room says
@@ -33,6 +34,6 @@ IsPerformed status.NoMemory = Unit {0}
 IsPerformed other = ⊥
 
 -- a `demo` on such data, in which no fault of the source or the sink rises, is run or wants memory
-abbrev pub IsCompleteDemo : List (List ℕ) → Option (List ℕ) → Type 0 → Type 0 → Status → Type 0
-IsCompleteDemo words left read_rose write_rose status = (kind : Demo) (ring : Option ℕ) → SpellsDemo words kind ring → IfSome left (λ bytes. CanBePerformed kind ring bytes
-    → (read_rose → ⊥) → (write_rose → ⊥) → IsPerformed status)
+abbrev pub IsCompleteDemo : {S K : Type 0} → Call S K → Status → Type 0
+IsCompleteDemo call status = (kind : Demo) (ring : Option ℕ) → SpellsDemo call.words kind ring → IfSome call.input.left (λ bytes. CanBePerformed kind ring bytes
+    → (call.input.rose → ⊥) → (call.output.rose → ⊥) → IsPerformed status)

@@ -1,6 +1,6 @@
 -- Believed: what the statuses of a `demo` tell that was carried out.
 use Rattle.std.specs.Prelude.{ℕ, List}
-use Rattle.rs_demo_answers.specs.Demos.{Opens}
+use Rattle.rs_answers.specs.Demos.{Opens}
 use Rattle.rs_demos.specs.declared.actors.DemoActor.{DemoActor}
 use Rattle.rs_model.specs.declared.demos.Demo.{Demo}
 use Rattle.rs_tool.specs.Headline.{SpellsSafeMachines}

@@ -1,10 +1,12 @@
 pub mod Answers
-pub mod Attempts
 pub mod Calls
 pub mod Completeness
+pub mod Data
 pub mod DemoCompleteness
 pub mod DemoHeadline
 pub mod Headline
+pub mod Pipelines
+pub mod Preparing
 pub mod RunHeadline
 pub mod Sessions
 pub mod Statuses

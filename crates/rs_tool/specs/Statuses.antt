@@ -2,8 +2,8 @@
 use Rattle.std.specs.Prelude.{ℕ}
 use Rattle.rs_tool.specs.declared.statuses.Status.{Status}
 use Rattle.rs_tool.specs.declared.statuses.Status.TheVariants as status
-use Rattle.rs_tool.specs.declared.statuses.Stop.{Stop}
-use Rattle.rs_tool.specs.declared.statuses.Stop.TheVariants as stop
+use Rattle.rs_tool.specs.declared.statuses.CallStop.{CallStop}
+use Rattle.rs_tool.specs.declared.statuses.CallStop.TheVariants as stop
 use Rattle.rs_answers.specs.declared.verdicts.Verdict.{Verdict}
 use Rattle.rs_answers.specs.declared.verdicts.Verdict.TheVariants as verdict
 
@@ -35,6 +35,6 @@ status_of verdict.Full = status.Full
 status_of verdict.RoomTooSmall = status.RoomTooSmall
 
 -- the status of a call that stopped before its answer was made
-abbrev pub status_after : Stop → Status
+abbrev pub status_after : CallStop → Status
 status_after stop.ReadFault = status.ReadFault
 status_after stop.NoMemory = status.NoMemory

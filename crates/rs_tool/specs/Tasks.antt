@@ -1,47 +1,40 @@
--- Believed: which tasks read the input, and which need workers.
-use Rattle.std.specs.Prelude.{◌≡◌, ◌==◌, ℕ, List, Option, Bool, not, true, false}
+-- Believed: what tasks ask for.
+use Rattle.std.specs.Prelude.{◌≡◌, ℕ, List, Option, Bool}
 use Rattle.rs_model.specs.declared.demos.Demo.{Demo}
+use Rattle.rs_model.specs.declared.runs.RunOptions.{RunOptions}
+use Rattle.rs_model.specs.declared.runs.Workers.{Workers}
+use Rattle.rs_model.specs.declared.runs.Workers.TheVariants.{Several}
 use Rattle.rs_words.specs.Meaning.{SpellsTask}
-use Rattle.rs_answers.specs.declared.runs.RunOptions.{RunOptions}
+use Rattle.rs_words.specs.Tasks.{workers_of}
+use Rattle.rs_words.specs.declared.tasks.DocumentTask.TheVariants as on_document
 use Rattle.rs_words.specs.declared.tasks.Task.{Task}
 use Rattle.rs_words.specs.declared.tasks.Task.TheVariants as task
 
--- the task is carried out on the document that the input spells
-abbrev pub reads_document : Task → Bool
-reads_document (task.Check bound derivations) = true
-reads_document task.Verify = true
-reads_document task.Show = true
-reads_document task.Project = true
-reads_document (task.Run bound ring workers limit seed) = true
-reads_document _ = false
-
 -- the task is carried out on the input: on its document, or on its data
-abbrev pub reads_input : Task → Bool
-reads_input (task.Demo kind ring workers) = true
-reads_input spelt = reads_document spelt
-
--- the task runs a session by several workers
-abbrev pub needs_workers : Task → Bool
-needs_workers (task.Run bound ring workers limit seed) = not (workers == 1)
-needs_workers (task.Demo kind ring workers) = not (workers == 1)
-needs_workers _ = false
+abbrev pub ReadsTheInput : Task → Type 0
+ReadsTheInput (task.Gen number) = ⊥
+ReadsTheInput other = Unit {0}
 
 -- the words ask for a task that reads the input
 abbrev pub ReadTheInput : List (List ℕ) → Type 0
-ReadTheInput words = (spelt : Task) × SpellsTask words spelt × (reads_input spelt ≡ true)
+ReadTheInput words = (spelt : Task) × SpellsTask words spelt × ReadsTheInput spelt
 
 -- the words ask for a run by several workers
 abbrev pub AskForWorkers : List (List ℕ) → Type 0
-AskForWorkers words = (spelt : Task) × SpellsTask words spelt × (needs_workers spelt ≡ true)
+AskForWorkers words = (spelt : Task) × (crew : ℕ) × SpellsTask words spelt × (workers_of spelt ≡ Several crew)
 
 -- the words are those of a `check` within this bound, which asks for the derivations or not
 abbrev pub SpellsCheck : List (List ℕ) → ℕ → Type 0
-SpellsCheck words bound = (derivations : Bool) × SpellsTask words (task.Check bound derivations)
+SpellsCheck words bound = (derivations : Bool) × SpellsTask words (task.OnDocument (on_document.Check (record { bound = bound; derivations = derivations })))
+
+-- the words are those of `verify`
+abbrev pub SpellsVerify : List (List ℕ) → Type 0
+SpellsVerify words = SpellsTask words (task.OnDocument on_document.Verify)
 
 -- the words are those of a `run` with these options, by any number of workers
 abbrev pub SpellsRun : List (List ℕ) → RunOptions → Type 0
-SpellsRun words options = (workers : ℕ) × SpellsTask words (task.Run options.bound options.ring workers options.limit options.seed)
+SpellsRun words options = (workers : Workers) × SpellsTask words (task.OnDocument (on_document.Run options workers))
 
 -- the words are those of a `demo`, with rings of this capacity where one is asked for, by any number of workers
 abbrev pub SpellsDemo : List (List ℕ) → Demo → Option ℕ → Type 0
-SpellsDemo words kind ring = (workers : ℕ) × SpellsTask words (task.Demo kind ring workers)
+SpellsDemo words kind ring = (workers : Workers) × SpellsTask words (task.OnData (record { kind = kind; ring = ring; workers = workers }))

@@ -7,16 +7,17 @@ ghost use Rattle.rs_derive.specs.Data.{Derivation_data};
 ghost use Rattle.rs_documents.specs.Data.{Document_data};
 ghost use Rattle.rs_documents.specs.Documents.{SpellsDocument};
 ghost use Rattle.rs_model.specs.Data.{Machine_data};
+ghost use Rattle.rs_model.specs.Limits.{IsBound};
 ghost use Rattle.rs_project.specs.Data.{Projection_data};
 ghost use Rattle.rs_safety.specs.Room.{room_of};
 ghost use Rattle.rs_tool.specs.Answers.{Answers};
 ghost use Rattle.rs_answers.specs.Data.{Answer_data};
 ghost use Rattle.rs_tool.specs.Headline.{SpellsSafeMachines};
-ghost use Rattle.rs_answers.specs.Derivations.{AreCanonical, IsSearchBound};
+ghost use Rattle.rs_answers.specs.Derivations.{AreCanonical};
 ghost use Rattle.rs_answers.specs.Machines.{machines_of};
 ghost use Rattle.rs_answers.specs.Runs.{Runs, capacity_of};
 ghost use Rattle.rs_answers.specs.Sessions.{HasMachines};
-ghost use Rattle.rs_answers.specs.declared.runs.RunOptions.{RunOptions};
+ghost use Rattle.rs_model.specs.declared.runs.RunOptions.{RunOptions};
 ghost use Rattle.rs_answers.specs.declared.verdicts.Verdict.TheVariants.{Full, Stopped};
 ghost use Rattle.rs_tool.specs.Tasks.{AskForWorkers};
 
@@ -45,13 +46,16 @@ pub fn headline_has_a_machine_a_role()
 /// Wherever the machines of the headline can get, none meets a message that it doesn't take, and some machine can step or all
 /// have ended with every queue empty.
 pub fn headline_tells_of_safe_machines()
-    ensures fits { (bytes : List ℕ) (h : SpellsSafeMachines bytes) (c : Configuration) → IsReachable (machines_of h.machines h.projections) c → HasMismatch (machines_of h.machines h.projections) c → ⊥ }
-    ensures goes_on { (bytes : List ℕ) (h : SpellsSafeMachines bytes) (c : Configuration) → IsReachable (machines_of h.machines h.projections) c → CanStep (machines_of h.machines h.projections) c ⊎ AllEnded (machines_of h.machines h.projections) c }
+    ensures fits { (bytes : List ℕ) (h : SpellsSafeMachines bytes) (c : Configuration) → IsReachable (machines_of h.machines h.projections) c → HasMismatch (machines_of h.machines h.projections) c
+        → ⊥ }
+    ensures goes_on { (bytes : List ℕ) (h : SpellsSafeMachines bytes) (c : Configuration) → IsReachable (machines_of h.machines h.projections) c
+        → CanStep (machines_of h.machines h.projections) c ⊎ AllEnded (machines_of h.machines h.projections) c }
 {}
 
 /// A run whose queues hold as many messages as the room of the session says is never full.
 pub fn runs_with_enough_room_are_never_full()
-    ensures { (options : RunOptions) (bytes : List ℕ) (document : Document_data) (projections : List Projection_data) (machines : List Machine_data) (derivations : List Derivation_data) (answer : Answer_data)
-        → IsSearchBound options.bound → SpellsDocument bytes document → HasMachines document projections machines → AreCanonical options.bound machines projections derivations
+    ensures { (options : RunOptions) (bytes : List ℕ) (document : Document_data) (projections : List Projection_data) (machines : List Machine_data) (derivations : List Derivation_data)
+        (answer : Answer_data)
+        → IsBound options.bound → SpellsDocument bytes document → HasMachines document projections machines → AreCanonical options.bound machines projections derivations
         → room_of derivations ≤ capacity_of options.ring (room_of derivations) → Runs options document answer → answer.verdict ≡ Full → ⊥ }
 {}

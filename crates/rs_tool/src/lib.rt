@@ -1,17 +1,18 @@
 //! `command`: the program's words, carried out on its input.
 #![tactic(auto)]
 
-mod answers;
 mod calls;
-mod inputs;
+mod generating;
 pub mod laws;
 mod pipelines;
-mod pools;
+mod preparing;
 mod statuses;
-mod tasks;
+mod texts;
 
 pub use calls::{command, command_serial};
+pub use pipelines::{Pipeline, pipeline_of};
 pub use rs_documents::{Document, print_document, read_document};
+pub use rs_model::DEFAULT_BOUND;
 pub use rs_pool::{Gate, NoGate};
-pub use rs_words::DEFAULT_BOUND;
 pub use statuses::{Reply, Serial, Status};
+pub use texts::{pipeline_summary, pipeline_text};

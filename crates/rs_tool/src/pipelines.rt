@@ -1,30 +1,27 @@
-//! The answer to `gen`.
+//! What a pipeline is.
 
-ghost use Rattle.std.specs.Prelude.{IfOk};
-ghost use Rattle.rs_tool.specs.Answers.{AnswersPipeline};
+ghost use Rattle.std.specs.Prelude.{◌≡◌};
+ghost use Rattle.rs_tool.specs.Pipelines as spec;
 
-use crate::answers::answer_to_text;
-use rs_answers::Answer;
-use rs_model::NoMemory;
-use rs_pipeline::{pipeline_of, pipeline_summary, pipeline_text};
-use rs_words::{DEFAULT_BOUND, Task};
-use std::alloc::Global;
+/// A pipeline: round after round, a value goes from each role to the next one, and the last role acknowledges it to the
+/// first. The first role may send some values before it takes the first acknowledgement.
+#[derive(Clone, Copy, Debug, PartialEq, Eq)]
+pub struct Pipeline {
+    /// How many roles there are.
+    pub roles: u32,
+    /// How many values the first role sends ahead.
+    pub ahead: u32,
+    /// How many rounds there are before the protocol begins again.
+    pub rounds: u32,
+}
 
-/// The line that says what the pipeline of the number is, and what `check` answers to its document.
-pub fn answer_to_gen(alloc: Global, number: u32) -> Result<Answer, NoMemory>
-    ensures { IfOk result (AnswersPipeline number) }
+/// The pipeline of the number: 2 to 15 roles, 0 to 4 values ahead, 1 to 61 rounds.
+pub fn pipeline_of(number: u32) -> Pipeline
+    ensures { result ≡ spec.pipeline_of number }
 {
-    let pipeline = pipeline_of(number);
-    let document = pipeline_text(alloc, pipeline)?;
-    let check = Task::Check {
-        bound: DEFAULT_BOUND,
-        derivations: false,
-    };
-    let checked = answer_to_text(alloc, check, document.as_slice())?.answer;
-    let mut text = pipeline_summary(alloc, pipeline)?;
-    text.push(checked.text.as_slice())?;
-    Ok(Answer {
-        text,
-        verdict: checked.verdict,
-    })
+    Pipeline {
+        roles: 2 + number % 14,
+        ahead: number % 5,
+        rounds: 1 + number % 61,
+    }
 }

@@ -81,32 +81,32 @@ impl From<Verdict> for Status {
 
 /// Why no answer was made.
 #[derive(Clone, Copy, Debug, PartialEq, Eq)]
-pub enum Stop {
+pub enum CallStop {
     ReadFault,
     NoMemory,
 }
 
-impl From<NoMemory> for Stop {
+impl From<NoMemory> for CallStop {
     ghost use Rattle.std.specs.Prelude.{◌≡◌};
-    ghost use Rattle.rs_tool.specs.declared.statuses.Stop.TheVariants.{NoMemory};
+    ghost use Rattle.rs_tool.specs.declared.statuses.CallStop.TheVariants.{NoMemory};
 
     ghost from_gives = { λ _ e. e ≡ NoMemory };
 
     fn from(_error: NoMemory) -> Self {
-        Stop::NoMemory
+        CallStop::NoMemory
     }
 }
 
-impl From<Stop> for Status {
+impl From<CallStop> for Status {
     ghost use Rattle.std.specs.Prelude.{◌≡◌};
     ghost use Rattle.rs_tool.specs.Statuses.{status_after};
 
     ghost from_gives = { λ stop status. status ≡ status_after stop };
 
-    fn from(stop: Stop) -> Self {
+    fn from(stop: CallStop) -> Self {
         match stop {
-            Stop::ReadFault => Status::ReadFault,
-            Stop::NoMemory => Status::NoMemory,
+            CallStop::ReadFault => Status::ReadFault,
+            CallStop::NoMemory => Status::NoMemory,
         }
     }
 }

@@ -1,5 +1,6 @@
 -- What the first fault of a protocol says, and that a protocol has none exactly where it is well formed.
-use Rattle.std.proofs.Common.{◌≡◌, ◌≢◌, ◌⊎◌, ℕ, zero, suc, ◌+◌, ◌<◌, ◌≤◌, List, [], ◌∷◌, length, Bool, true, cond, eqb, ltb, leb, ◌||◌, Option, Some, None, slice_get, inl, inr, ⊎_elim, sym, refl, ap, subst, ◌∙◌, arith, zero-add}
+use Rattle.std.proofs.Common.{◌≡◌, ◌≢◌, ◌⊎◌, ℕ, zero, suc, ◌+◌, ◌<◌, ◌≤◌, List, [], ◌∷◌, length, Bool, true, cond, eqb, ltb, leb, ◌||◌, Option, Some, None, slice_get, inl, inr, ⊎_elim, sym, refl, ap}
+use Rattle.std.proofs.Common.{subst, ◌∙◌, arith, zero-add}
 use Rattle.std.proofs.lemmas.Bool.{ltb-true, ltb-false, leb-true, leb-false, eqb-true, eqb-false, or_cases, or_parts}
 use Rattle.std.proofs.lemmas.Option.{none-some, same_Some}
 use Rattle.std.specs.List.{list_any}
@@ -14,7 +15,7 @@ use Rattle.rs_model.specs.declared.graph.Role.{Role}
 use Rattle.rs_wellformed.proofs.Order.{in_order}
 use Rattle.rs_wellformed.specs.Checks.{self_fault, count_fault, next_fault, talk_fault, node_fault, nodes_fault, root_fault, protocol_fault}
 use Rattle.rs_model.specs.Talks.{Talks}
-use Rattle.rs_wellformed.specs.Faults.{LeadsOut, Blames, first_fault}
+use Rattle.rs_wellformed.specs.Faults.{ArmLeadsOut, Blames, first_fault}
 use Rattle.rs_wellformed.specs.WellFormed.{TalkFits, IsWellFormed}
 use Rattle.rs_wellformed.specs.declared.checks.WfFault.{WfFault}
 use Rattle.rs_wellformed.specs.declared.checks.WfFault.TheVariants.{SelfTalk, NoArms, TooManyArms, TwiceLabel, BadNext}
@@ -80,7 +81,7 @@ twice_blamed p n sender receiver arms f e t =
 -- why a next or a role is none
 out : (p : Protocol_data) (sender receiver : Role) (arms : List Arm)
     → (list_any (λ a. leb (length p.nodes) a.next) arms || (leb p.roles sender.0 || leb p.roles receiver.0)) ≡ true
-    → LeadsOut (length p.nodes) arms ⊎ ((p.roles ≤ sender.0) ⊎ (p.roles ≤ receiver.0))
+    → ArmLeadsOut (length p.nodes) arms ⊎ ((p.roles ≤ sender.0) ⊎ (p.roles ≤ receiver.0))
 out p sender receiver arms e =
     ⊎_elim
     (λ h. let r = any_place (λ a. leb (length p.nodes) a.next) arms h in
@@ -157,7 +158,7 @@ talk_fits p n sender receiver arms e =
       puts = placed.puts;
       takes = placed.takes;
       some = arms_some n arms q.0;
-      few = arms_few n arms q.0;
+      bounded = arms_few n arms q.0;
       once = once arms (label_none (λ l. TwiceLabel n l) (first_repeat arms []) r.0);
       nexts = placed.nexts;
     }
@@ -227,7 +228,7 @@ wrong : (p : Protocol_data) (f : WfFault) → Blames p f → IsWellFormed p → 
 wrong p (SelfTalk n) b w = (w.talks n b.0 b.0 b.1 b.2).others refl
 wrong p (NoArms n) b w = (w.talks n b.0 b.1 [] b.2).some refl
 wrong p (TooManyArms n) b w =
-    let z : length b.2 ≤ 32 = (w.talks n b.0 b.1 b.2 b.3).few in
+    let z : length b.2 ≤ 32 = (w.talks n b.0 b.1 b.2 b.3).bounded in
     let y : 32 < length b.2 = b.4 in
     omega arith
 wrong p (TwiceLabel n l) b w =

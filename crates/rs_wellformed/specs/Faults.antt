@@ -47,7 +47,7 @@ unfoldable pub first_fault : Protocol_data → Option WfFault
 first_fault p = first_failed (tests_of p)
 
 -- an arm leads to none of so many nodes
-pub record LeadsOut (count : ℕ) (arms : List Arm) : Type 0 where
+pub record ArmLeadsOut (count : ℕ) (arms : List Arm) : Type 0 where
   pub place : ℕ
   pub arm : Arm
   pub stands : slice_get arms place ≡ Some arm
@@ -64,4 +64,4 @@ Blames p (TwiceLabel n label) =
 Blames p (BadNext n) =
     ((n ≡ p.root) × (length p.nodes ≤ p.root))
     ⊎ ((sender : Role) × (receiver : Role) × (arms : List Arm) × Talks p n sender receiver arms
-    × (LeadsOut (length p.nodes) arms ⊎ ((p.roles ≤ sender.0) ⊎ (p.roles ≤ receiver.0))))
+    × (ArmLeadsOut (length p.nodes) arms ⊎ ((p.roles ≤ sender.0) ⊎ (p.roles ≤ receiver.0))))

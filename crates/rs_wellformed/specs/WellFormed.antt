@@ -12,7 +12,7 @@ pub record TalkFits (protocol : Protocol_data) (sender receiver : Role) (arms : 
   pub puts : sender.0 < protocol.roles
   pub takes : receiver.0 < protocol.roles
   pub some : arms ≢ []
-  pub few : length arms ≤ MOST_ARMS
+  pub bounded : length arms ≤ MOST_ARMS
   pub once : (i j : ℕ) (a b : Arm) → slice_get arms i ≡ Some a → slice_get arms j ≡ Some b → a.label ≡ b.label → i ≡ j
   pub nexts : (i : ℕ) (a : Arm) → slice_get arms i ≡ Some a → a.next < length protocol.nodes
 

@@ -1,3 +1,5 @@
+//! The test of a protocol.
+
 ghost use Rattle.std.specs.Prelude.{◌≡◌, ◌<◌, ◌^◌, length, IfErr, OnOk, None};
 ghost use Rattle.rs_wellformed.specs.Checks.{node_fault, protocol_fault, talk_fault};
 ghost use Rattle.rs_wellformed.specs.Faults.{first_fault};

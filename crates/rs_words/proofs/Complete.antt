@@ -12,10 +12,13 @@ use Rattle.clap.specs.Faults.{settle_fault, turn_fault, use_fault}
 use Rattle.clap.proofs.LexerLemmas.{name_and_value-at, name_and_value-without}
 use Rattle.clap.specs.declared.error.kind.ErrorKind.TheVariants as kind
 use Rattle.rs_words.specs.Clap.{dashes_are_allowed, dash_is_allowed}
-use Rattle.rs_words.specs.Grammar.{AllNew, AllStand, EndingStands, WordsEnd, Form, WordPiece, Bytes, Use, value_behind, begins_with_dash, option_word, dashes_and_word, ending_uses, ending_words, flag, HasChoice, has_use, value_joined, nothing, use_of, positional, word_id, words_of, dashes_alone}
+use Rattle.rs_words.specs.Grammar.{AllNew, AllStand, EndingStands, WordsEnd, Form, WordPiece, Bytes, Use, value_behind, begins_with_dash, option_word, dashes_and_word, ending_uses, ending_words}
+use Rattle.rs_words.specs.Grammar.{flag, HasChoice, has_use, value_joined, nothing, use_of, positional, word_id, words_of, dashes_alone}
 use Rattle.rs_words.proofs.Lookups.{built_choice, built_rules, built_shape, built_word, by_id, by_index, by_long, flagger, lacks_from, taker}
 use Rattle.rs_words.proofs.Sound.{HasOwnWord, choice_known, run_end, run_fault, run_rows, run_step, word_is, word_known}
-use Rattle.rs_words.proofs.Turns.{Known, again, append_nil, value_behind_turn, value_behind_walk, dashes, dashes_walk, flag_adds, flag_faults, flag_turn, flag_walk, held, value_joined_turn, value_joined_walk, placed_turn, placed_turn_behind, placed_walk, placed_walk_behind, plain_is_no_dash, resting, rows_of_uses, settle_faults, settles, stored, trailing, use_adds, use_faults, value_turn, value_walk, waiting}
+use Rattle.rs_words.proofs.Turns.{Known, again, append_nil, value_behind_turn, value_behind_walk, dashes, dashes_walk, flag_adds, flag_faults, flag_turn, flag_walk, held, value_joined_turn}
+use Rattle.rs_words.proofs.Turns.{value_joined_walk, placed_turn, placed_turn_behind, placed_walk, placed_walk_behind, plain_is_no_dash, resting, rows_of_uses, settle_faults, settles, stored}
+use Rattle.rs_words.proofs.Turns.{trailing, use_adds, use_faults, value_turn, value_walk, waiting}
 
 -- the names of the options are texts without `=`, and not empty
 abbrev pub HasPlainNames : Form → Type 0
@@ -31,7 +34,8 @@ pub record IsTakenFrom (f : Form) (w : Walk) (words : List Bytes) (uses : List U
   pub rows_are : run_rows f w words ≡ rows_of_uses uses
 
 -- one word on
-goes : (f : Form) (w next : Walk) (x : Bytes) (xs : List Bytes) → turn_fault (built_shape f) [] w x ≡ [] → walked (built_rules f) [] w x ≡ next → (run_fault f w (x ∷ xs) ≡ run_fault f next xs) × (run_rows f w (x ∷ xs) ≡ run_rows f next xs)
+goes : (f : Form) (w next : Walk) (x : Bytes) (xs : List Bytes) → turn_fault (built_shape f) [] w x ≡ [] → walked (built_rules f) [] w x ≡ next
+    → (run_fault f w (x ∷ xs) ≡ run_fault f next xs) × (run_rows f w (x ∷ xs) ≡ run_rows f next xs)
 goes f w next x xs turn is =
     (run_step f w x xs ∙ ap (λ k. or_else k (run_fault f (walked (built_rules f) [] w x) xs)) turn ∙ ap (λ n. run_fault f n xs) is, ap (λ n. run_rows f n xs) is)
 
@@ -76,7 +80,8 @@ some_same a b e = cc
 
 -- ---- the end
 
-end_case : (f : Form) → HasOwnWord f → (ending : WordsEnd) (us : List Use) (o : Option Use) (placed : Bool) → Known f o → again us o ≡ false → EndingStands f ending → AllNew (stored us o) (ending_uses f ending) → PlaceFits f (stored us o) placed
+end_case : (f : Form) → HasOwnWord f → (ending : WordsEnd) (us : List Use) (o : Option Use) (placed : Bool) → Known f o → again us o ≡ false → EndingStands f ending
+    → AllNew (stored us o) (ending_uses f ending) → PlaceFits f (stored us o) placed
     → IsTakenFrom f (resting us o placed) (ending_words ending) (stored us o ++ ending_uses f ending)
 end_case f good nothing us o placed k fresh e new fits =
     let t = end_took f us o (resting us o placed) k fresh refl in
@@ -108,18 +113,27 @@ end_case f good (dashes_and_word t) us o false k fresh e new fits =
 -- ---- the pieces
 
 abbrev pub Complete : Form → List WordPiece → WordsEnd → Type 0
-Complete f pieces ending = (us : List Use) (o : Option Use) (placed : Bool) → Known f o → again us o ≡ false → AllStand f pieces → AllNew (stored us o) (map (use_of f) pieces ++ ending_uses f ending) → PlaceFits f (stored us o) placed
+Complete f pieces ending = (us : List Use) (o : Option Use) (placed : Bool) → Known f o → again us o ≡ false → AllStand f pieces → AllNew (stored us o) (map (use_of f) pieces ++ ending_uses f ending)
+    → PlaceFits f (stored us o) placed
     → IsTakenFrom f (resting us o placed) (flat_map words_of pieces ++ ending_words ending) (stored us o ++ (map (use_of f) pieces ++ ending_uses f ending))
 
 -- ---- options as words
 
-long_joined : (name v : Bytes) → list_any (λ x. x == 61) name ≡ false → (x : ℕ) (xs : Bytes) → name ≡ x ∷ xs → (bytes_eq (option_word (name ++ 61 ∷ v)) dashes ≡ false) × (long_of (option_word (name ++ 61 ∷ v)) ≡ Some (name, Some v))
-long_joined name v lacks x xs e =
-    (ap (λ n. bytes_eq (option_word (n ++ 61 ∷ v)) dashes) e, ap (λ n. long_of (option_word (n ++ 61 ∷ v))) e ∙ ap (λ n. Some (name_and_value (n ++ 61 ∷ v))) (sym e) ∙ ap (λ p. Some p) (name_and_value-at name v (lacks_from name lacks)))
+long_joined : (name v : Bytes) → list_any (λ x. x == 61) name ≡ false → (x : ℕ) (xs : Bytes) → name ≡ x ∷ xs
+    → (bytes_eq (option_word (name ++ 61 ∷ v)) dashes ≡ false) × (long_of (option_word (name ++ 61 ∷ v)) ≡ Some (name, Some v))
+long_joined name v lacks x xs e = (
+  ap (λ n. bytes_eq (option_word (n ++ 61 ∷ v)) dashes) e,
+  ap (λ n. long_of (option_word (n ++ 61 ∷ v))) e ∙ ap (λ n. Some (name_and_value (n ++ 61 ∷ v))) (sym e)
+      ∙ ap (λ p. Some p) (name_and_value-at name v (lacks_from name lacks)),
+)
 
-long_alone : (name : Bytes) → list_any (λ x. x == 61) name ≡ false → (x : ℕ) (xs : Bytes) → name ≡ x ∷ xs → (bytes_eq (option_word name) dashes ≡ false) × (long_of (option_word name) ≡ Some (name, None))
-long_alone name lacks x xs e =
-    (ap (λ n. bytes_eq (option_word n) dashes) e, ap (λ n. long_of (option_word n)) e ∙ ap (λ n. Some (name_and_value n)) (sym e) ∙ ap (λ p. Some p) (name_and_value-without name (lacks_from name lacks)))
+long_alone : (name : Bytes) → list_any (λ x. x == 61) name ≡ false → (x : ℕ) (xs : Bytes) → name ≡ x ∷ xs
+    → (bytes_eq (option_word name) dashes ≡ false) × (long_of (option_word name) ≡ Some (name, None))
+long_alone name lacks x xs e = (
+  ap (λ n. bytes_eq (option_word n) dashes) e,
+  ap (λ n. long_of (option_word n)) e ∙ ap (λ n. Some (name_and_value n)) (sym e)
+      ∙ ap (λ p. Some p) (name_and_value-without name (lacks_from name lacks)),
+)
 
 still_fits : (f : Form) (us : List Use) (u : Use) (placed : Bool) → PlaceFits f us placed → PlaceFits f (us ++ u ∷ []) placed
 still_fits f us u placed fits = λ id w e. has_use_more id us u (fits id w e)
@@ -137,7 +151,9 @@ value_joined_took f names name v ps ending ih us o placed k fresh stand new fits
     ap (use_fault false (taker name (Some name) None) (v ∷ [])) rows ∙ use_faults u (Some name) None (stored us o) ∙ ap (λ b. cond b (kind.ArgumentConflict ∷ []) []) new.0 in
     let turn = value_joined_turn f us o placed w name v long.0 long.1 found ∙ ap₂ (λ a b. or_else (or_else a b) []) (no_settle f us o k fresh) unused in
     let next : walked (built_rules f) [] (resting us o placed) w ≡ resting (stored us o ++ u ∷ []) None placed =
-    value_joined_walk f us o placed w name v long.0 long.1 found ∙ ap (λ l. record (resting us None placed) { held = record { rows = l; pending = None; skip = 0 } }) (ap (used (taker name (Some name) None) (v ∷ [])) rows ∙ use_adds u (Some name) None (stored us o) new.0) in
+    value_joined_walk f us o placed w name v long.0 long.1 found
+    ∙ ap (λ l. record (resting us None placed) { held = record { rows = l; pending = None; skip = 0 } })
+    (ap (used (taker name (Some name) None) (v ∷ [])) rows ∙ use_adds u (Some name) None (stored us o) new.0) in
     let g = goes f (resting us o placed) (resting (stored us o ++ u ∷ []) None placed) w ws turn next in
     let r = ih (stored us o ++ u ∷ []) None placed tt refl stand.1 new.1 (still_fits f (stored us o) u placed fits) in
     record {
@@ -159,7 +175,8 @@ flag_took f names name ps ending ih us o placed k fresh stand new fits =
     ap (use_fault false (flagger name) []) rows ∙ flag_faults name (stored us o) ∙ ap (λ b. cond b (kind.ArgumentConflict ∷ []) []) new.0 in
     let turn = flag_turn f us o placed w name long.0 long.1 found ∙ ap₂ (λ a b. or_else (or_else a b) []) (no_settle f us o k fresh) unused in
     let next : walked (built_rules f) [] (resting us o placed) w ≡ resting (stored us o ++ u ∷ []) None placed =
-    flag_walk f us o placed w name long.0 long.1 found ∙ ap (λ l. record (resting us None placed) { held = record { rows = l; pending = None; skip = 0 } }) (ap (used (flagger name) []) rows ∙ flag_adds name (stored us o) new.0) in
+    flag_walk f us o placed w name long.0 long.1 found ∙ ap (λ l. record (resting us None placed) { held = record { rows = l; pending = None; skip = 0 } })
+    (ap (used (flagger name) []) rows ∙ flag_adds name (stored us o) new.0) in
     let g = goes f (resting us o placed) (resting (stored us o ++ u ∷ []) None placed) w ws turn next in
     let r = ih (stored us o ++ u ∷ []) None placed tt refl stand.1 new.1 (still_fits f (stored us o) u placed fits) in
     record {
@@ -182,7 +199,8 @@ value_behind_took f names name v ps ending ih us o placed k fresh stand new fits
     let next : walked (built_rules f) [] (resting us o placed) w ≡ waiting (stored us o) name placed =
     value_behind_walk f us o placed w name long.0 long.1 found ∙ ap (λ h. record (waiting us name placed) { held = record h { pending = Some (name, []) } }) (settles f us o k fresh) in
     let g = goes f (resting us o placed) (waiting (stored us o) name placed) w (v ∷ ws) turn next in
-    let h = goes f (waiting (stored us o) name placed) (resting (stored us o) (Some u) placed) v ws (value_turn f (stored us o) name placed known v stand.0.1) (value_walk f (stored us o) name placed known v stand.0.1) in
+    let h = goes f (waiting (stored us o) name placed) (resting (stored us o) (Some u) placed) v ws (value_turn f (stored us o) name placed known v stand.0.1)
+    (value_walk f (stored us o) name placed known v stand.0.1) in
     let r = ih (stored us o) (Some u) placed (choice_known f name v has) new.0 stand.1 new.1 (still_fits f (stored us o) u placed fits) in
     record {
       allowed = is_allowed_before w (v ∷ ws) refl long.0 (is_allowed_before v ws (plain_is_allowed v stand.0.1) (plain_is_no_dash v stand.0.1).0 r.allowed);

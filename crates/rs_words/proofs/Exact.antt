@@ -10,7 +10,7 @@ use Rattle.clap.proofs.WalkLemmas.{both}
 use Rattle.rs_words.specs.declared.tasks.Task.{Task}
 use Rattle.rs_words.specs.Clap.{app, dashes_are_allowed, task_found, dash_is_allowed}
 use Rattle.rs_words.specs.Grammar.{AllNew, Form, SpellsUses, Bytes, Use, ending_uses, forms, use_of}
-use Rattle.rs_words.specs.Meaning.{IsMeaning, SpellsTask, task_of, value_of}
+use Rattle.rs_words.specs.Meaning.{IsMeaning, SpellsTask, task_of, text_of_use}
 use Rattle.rs_words.proofs.Lookups.{built_rules, found_passes, same_text}
 use Rattle.rs_words.proofs.Turns.{dashes, plain_is_no_dash, rows_of_uses}
 use Rattle.rs_words.proofs.Sound.{clash, run_fault, run_rows, sound}
@@ -26,7 +26,8 @@ made : (f : Form) → IsKnown f → WellMade f
 made f k = well_made f (found_test form_test (λ g. bytes_eq g.name f.name) forms f forms_pass k)
 
 -- what clap's rows ask for is what the uses ask for
-task_is : (f : Form) → IsKnown f → (rest : List Bytes) (s : (uses : List Use) × SpellsUses f rest uses) → run_rows f start rest ≡ rows_of_uses s.0 → task_found (subcommand_of app (f.name ∷ rest)) ≡ task_of f.name (λ id. value_of id s.0)
+task_is : (f : Form) → IsKnown f → (rest : List Bytes) (s : (uses : List Use) × SpellsUses f rest uses) → run_rows f start rest ≡ rows_of_uses s.0
+    → task_found (subcommand_of app (f.name ∷ rest)) ≡ task_of f.name (λ id. text_of_use id s.0)
 task_is f k rest s rows =
     let m = made f k in
     let only = uses_true f m s.1.pieces s.1.ending s.1.pieces_stand s.1.ending_stands in
@@ -63,7 +64,7 @@ record IsSpelt (words : List Bytes) : Type 0 where
   uses : List Use
   text : words ≡ form.name ∷ rest
   spelt : SpellsUses form rest uses
-  found : task_found (subcommand_of app words) ≡ task_of form.name (λ id. value_of id uses)
+  found : task_found (subcommand_of app words) ≡ task_of form.name (λ id. text_of_use id uses)
 
 from_clap : (words : List Bytes) → dashes_are_allowed words false ≡ true → fault_of app words ≡ [] → IsSpelt words
 from_clap [] allowed e = absurd (no_words e)
@@ -95,7 +96,8 @@ from_clap (n ∷ rest) allowed e = by_form (find (λ g. bytes_eq g.name n) forms
         }
 
 -- where clap took the words
-pub meaning_of_taken : (words : List Bytes) (spelt : Option Task) → dashes_are_allowed words false ≡ true → fault_of app words ≡ [] → spelt ≡ task_found (subcommand_of app words) → IsMeaning words spelt
+pub meaning_of_taken : (words : List Bytes) (spelt : Option Task) → dashes_are_allowed words false ≡ true → fault_of app words ≡ [] → spelt ≡ task_found (subcommand_of app words)
+    → IsMeaning words spelt
 meaning_of_taken words None allowed e is = λ t s. let taken = to_clap words t s in not_both (task_found (subcommand_of app words)) t (sym is) taken.found
   where
     not_both : (o : Option Task) (t : Task) → o ≡ None → o ≡ Some t → ⊥
@@ -108,7 +110,7 @@ meaning_of_taken words (Some t) allowed e is =
 pub meaning_of_refused : (words : List Bytes) → (dashes_are_allowed words false ≡ true → fault_of app words ≡ [] → ⊥) → IsMeaning words None
 meaning_of_refused words refused = λ t s. let taken = to_clap words t s in refused taken.allowed taken.passes
 
--- a list of words has a meaning ..
+-- a list of words has a meaning
 pub words_mean_something : (words : List Bytes) → (meaning : Option Task) × IsMeaning words meaning
 words_mean_something words = by_dashes (dashes_are_allowed words false) refl
   where
@@ -126,7 +128,7 @@ words_spell_one_task words one other s t = some_same (sym (to_clap words one s).
     some_same : Some one ≡ Some other → one ≡ other
     some_same e = cc
 
--- .. and no other one
+-- a list of words has one meaning at most
 pub words_mean_one_thing : (words : List Bytes) (one other : Option Task) → IsMeaning words one → IsMeaning words other → one ≡ other
 words_mean_one_thing words None None a b = refl
 words_mean_one_thing words None (Some t) a b = absurd (a t b)

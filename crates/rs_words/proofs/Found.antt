@@ -1,5 +1,6 @@
 -- The texts that clap's rows have are those of the uses.
-use Rattle.std.proofs.Common.{◌≡◌, ◌==◌, ℕ, Bool, length, nat_lt, true, false, not, ◌&&◌, ◌||◌, List, [], ◌∷◌, ◌++◌, map, Option, Some, None, option_map, is_some, cond, refl, sym, ap, subst, ◌∙◌, true≢false, codes, ◌⊎◌, inl, inr, ⊎_elim}
+use Rattle.std.proofs.Common.{◌≡◌, ◌==◌, ℕ, Bool, length, nat_lt, true, false, not, ◌&&◌, ◌||◌, List, [], ◌∷◌, ◌++◌, map, Option, Some, None, option_map, is_some, cond, refl, sym, ap, subst, ◌∙◌}
+use Rattle.std.proofs.Common.{true≢false, codes, ◌⊎◌, inl, inr, ⊎_elim}
 use Rattle.std.specs.Prelude.{find, fold, slice_get, option_and_then}
 use Rattle.std.specs.List.{list_all, list_any}
 use Rattle.std.specs.Str.{bytes_eq}
@@ -12,17 +13,19 @@ use Rattle.rs_words.proofs.Complete.{HasPlainNames}
 use Rattle.clap.specs.declared.parser.matches.ValueSource.TheVariants.{DefaultValue}
 use Rattle.clap.specs.declared.builder.value_parser.Reading.TheVariants as reading
 use Rattle.rs_words.specs.Clap.{found_text, is_true_text}
-use Rattle.rs_words.specs.Grammar.{AllStand, CommandOption, EndingStands, WordsEnd, Form, WordPiece, PieceStands, Bytes, Use, value_behind, begins_with_dash, dashes_and_word, forms, ending_uses, flag, HasChoice, value_joined, nothing, use_of, positional, dashes_alone}
-use Rattle.rs_words.specs.Meaning.{value_of}
+use Rattle.rs_words.specs.Grammar.{AllStand, CommandOption, EndingStands, WordsEnd, Form, WordPiece, PieceStands, Bytes, Use, value_behind, begins_with_dash, dashes_and_word, forms, ending_uses}
+use Rattle.rs_words.specs.Grammar.{flag, HasChoice, value_joined, nothing, use_of, positional, dashes_alone}
+use Rattle.rs_words.specs.Meaning.{text_of_use}
 use Rattle.rs_words.proofs.Lookups.{built_choice, built_rules, built_word, flagger, same_text, taker}
 use Rattle.rs_words.proofs.Turns.{rows_of_uses, row_of_use}
 
-pub first_is : (id : Bytes) (us : List Use) → first_of id (rows_of_uses us) ≡ value_of id us
+pub first_is : (id : Bytes) (us : List Use) → first_of id (rows_of_uses us) ≡ text_of_use id us
 first_is id [] = refl
 first_is id (u ∷ us) = go (bytes_eq u.id id) (first_is id us)
   where
-    go : (b : Bool) → first_of id (rows_of_uses us) ≡ value_of id us
-        → option_and_then (λ r. slice_get r.values 0) (cond b (Some (row_of_use u)) (find (λ r. bytes_eq r.id id) (rows_of_uses us))) ≡ option_map (λ v. v.value) (cond b (Some u) (find (λ v. bytes_eq v.id id) us))
+    go : (b : Bool) → first_of id (rows_of_uses us) ≡ text_of_use id us
+        → option_and_then (λ r. slice_get r.values 0) (cond b (Some (row_of_use u)) (find (λ r. bytes_eq r.id id) (rows_of_uses us))) ≡ option_map (λ v. v.value)
+        (cond b (Some u) (find (λ v. bytes_eq v.id id) us))
     go true h = refl
     go false h = h
 
@@ -49,7 +52,8 @@ row_appended : (name : Bytes) (change : Row → List Row) (missing rows : List R
 row_appended name change missing [] e = refl
 row_appended name change missing (r ∷ rs) e = go (bytes_eq r.id name) e (row_appended name change missing rs)
   where
-    go : (b : Bool) → (b || has_row name rs) ≡ false → (has_row name rs ≡ false → at_row name change missing rs ≡ rs ++ missing) → cond b (change r ++ rs) (r ∷ at_row name change missing rs) ≡ r ∷ (rs ++ missing)
+    go : (b : Bool) → (b || has_row name rs) ≡ false → (has_row name rs ≡ false → at_row name change missing rs ≡ rs ++ missing)
+        → cond b (change r ++ rs) (r ∷ at_row name change missing rs) ≡ r ∷ (rs ++ missing)
     go true h more = absurd (true≢false h)
     go false h more = ap (λ l. r ∷ l) (more h)
 
@@ -58,7 +62,8 @@ first_own : (id : Bytes) (rows : List Row) (r : Row) → has_row id rows ≡ fal
 first_own id [] r e same = rw same refl
 first_own id (s ∷ rs) r e same = go (bytes_eq s.id id) e (λ h. first_own id rs r h same)
   where
-    go : (b : Bool) → (b || has_row id rs) ≡ false → (has_row id rs ≡ false → first_of id (rs ++ r ∷ []) ≡ slice_get r.values 0) → first_in (cond b (Some s) (find (λ t. bytes_eq t.id id) (rs ++ r ∷ []))) ≡ slice_get r.values 0
+    go : (b : Bool) → (b || has_row id rs) ≡ false → (has_row id rs ≡ false → first_of id (rs ++ r ∷ []) ≡ slice_get r.values 0)
+        → first_in (cond b (Some s) (find (λ t. bytes_eq t.id id) (rs ++ r ∷ []))) ≡ slice_get r.values 0
     go true h more = absurd (true≢false h)
     go false h more = more h
 
@@ -66,7 +71,8 @@ first_other : (id : Bytes) (rows : List Row) (r : Row) → bytes_eq r.id id ≡ 
 first_other id [] r other = rw other refl
 first_other id (s ∷ rs) r other = go (bytes_eq s.id id) (first_other id rs r other)
   where
-    go : (b : Bool) → first_of id (rs ++ r ∷ []) ≡ first_of id rs → first_in (cond b (Some s) (find (λ t. bytes_eq t.id id) (rs ++ r ∷ []))) ≡ first_in (cond b (Some s) (find (λ t. bytes_eq t.id id) rs))
+    go : (b : Bool) → first_of id (rs ++ r ∷ []) ≡ first_of id rs
+        → first_in (cond b (Some s) (find (λ t. bytes_eq t.id id) (rs ++ r ∷ []))) ≡ first_in (cond b (Some s) (find (λ t. bytes_eq t.id id) rs))
     go true h = refl
     go false h = h
 
@@ -101,19 +107,24 @@ after_defaults id (Some i) [] rows = inl (ap (first_of id) (taker_default rows i
 after_defaults id w (c ∷ cs) rows = by_kind c.is_valued c.name (after_defaults id w cs)
   where
     by_kind : (v : Bool) (name : Bytes) → ((rs : List Row) → Unchanged id rs (fold with_default rs (map built_choice cs ++ built_word w)) (flags_named id cs))
-        → Unchanged id rows (fold with_default (with_default rows (built_choice (record { name = name; is_valued = v }))) (map built_choice cs ++ built_word w)) ((not v && bytes_eq name id) || flags_named id cs)
+        → Unchanged id rows (fold with_default (with_default rows (built_choice (record { name = name; is_valued = v }))) (map built_choice cs ++ built_word w))
+        ((not v && bytes_eq name id) || flags_named id cs)
     by_kind true name ih = subst (λ rs. Unchanged id rows (fold with_default rs (map built_choice cs ++ built_word w)) (flags_named id cs)) (sym (taker_default rows name (Some name) None)) (ih rows)
     by_kind false name ih = by_there (has_row name rows) refl
       where
-        by_there : (b : Bool) → has_row name rows ≡ b → Unchanged id rows (fold with_default (with_default rows (flagger name)) (map built_choice cs ++ built_word w)) (bytes_eq name id || flags_named id cs)
-        by_there true e = subst (λ rs. Unchanged id rows (fold with_default rs (map built_choice cs ++ built_word w)) (bytes_eq name id || flags_named id cs)) (sym (flag_there rows name e)) (more_flags id rows (fold with_default rows (map built_choice cs ++ built_word w)) (bytes_eq name id) (flags_named id cs) (ih rows))
-        by_there false e = subst (λ rs. Unchanged id rows (fold with_default rs (map built_choice cs ++ built_word w)) (bytes_eq name id || flags_named id cs)) (sym (flag_default rows name e)) (by_name (bytes_eq name id) refl)
+        by_there : (b : Bool) → has_row name rows ≡ b → Unchanged id rows (fold with_default (with_default rows (flagger name)) (map built_choice cs ++ built_word w))
+            (bytes_eq name id || flags_named id cs)
+        by_there true e = subst (λ rs. Unchanged id rows (fold with_default rs (map built_choice cs ++ built_word w)) (bytes_eq name id || flags_named id cs)) (sym (flag_there rows name e))
+            (more_flags id rows (fold with_default rows (map built_choice cs ++ built_word w)) (bytes_eq name id) (flags_named id cs) (ih rows))
+        by_there false e = subst (λ rs. Unchanged id rows (fold with_default rs (map built_choice cs ++ built_word w)) (bytes_eq name id || flags_named id cs)) (sym (flag_default rows name e))
+            (by_name (bytes_eq name id) refl)
           where
             by_name : (b : Bool) → bytes_eq name id ≡ b → Unchanged id rows (fold with_default (rows ++ default_row name ∷ []) (map built_choice cs ++ built_word w)) (b || flags_named id cs)
             by_name true same =
                 let there : has_row id rows ≡ false = subst (λ n. has_row n rows ≡ false) (same_text name id same) e in
                 let own : first_of id (rows ++ default_row name ∷ []) ≡ Some (codes "false") = first_own id rows (default_row name) there same in
-                ⊎_elim (λ s. inr (none_there id rows there, s ∙ own, refl)) (λ h. absurd (not_both (first_of id (rows ++ default_row name ∷ [])) (codes "false") h.0 own)) (ih (rows ++ default_row name ∷ []))
+                ⊎_elim (λ s. inr (none_there id rows there, s ∙ own, refl)) (λ h. absurd (not_both (first_of id (rows ++ default_row name ∷ [])) (codes "false") h.0 own))
+                (ih (rows ++ default_row name ∷ []))
             by_name false other =
                 let as_before : first_of id (rows ++ default_row name ∷ []) ≡ first_of id rows = first_other id rows (default_row name) other in
                 ⊎_elim (λ s. inl (s ∙ as_before)) (λ h. inr (sym as_before ∙ h.0, h.1, h.2)) (ih (rows ++ default_row name ∷ []))
@@ -165,7 +176,8 @@ flags_are : (id : Bytes) (cs : List CommandOption) → list_all choice_test cs �
 flags_are id [] a e = absurd (true≢false (sym e))
 flags_are id (c ∷ cs) a e = go c.is_valued c.name (both (choice_test c) (list_all choice_test cs) a).0 e (flags_are id cs (both (choice_test c) (list_all choice_test cs) a).1)
   where
-    go : (v : Bool) (name : Bytes) → choice_test (record { name = name; is_valued = v }) ≡ true → ((not v && bytes_eq name id) || flags_named id cs) ≡ true → (flags_named id cs ≡ true → bytes_eq id derivations ≡ true) → bytes_eq id derivations ≡ true
+    go : (v : Bool) (name : Bytes) → choice_test (record { name = name; is_valued = v }) ≡ true → ((not v && bytes_eq name id) || flags_named id cs) ≡ true
+        → (flags_named id cs ≡ true → bytes_eq id derivations ≡ true) → bytes_eq id derivations ≡ true
     go true name t h later = later h
     go false name t h later = by_name (bytes_eq name id) refl h
       where
@@ -180,7 +192,8 @@ pub well_made : (f : Form) → form_test f ≡ true → WellMade f
 well_made f e = record {
   plain = is_false (begins_with_dash f.name) first.0;
   good = λ id w. is_none (find (λ k. bytes_eq k.name id) f.choices) (words id w).0;
-  names = λ name b has. let t = tested name b has in let u = both (not (list_any (λ x. x == 61) name)) (nat_lt 0 (length name) && cond b (not (bytes_eq name derivations)) (bytes_eq name derivations)) t in
+  names = λ name b has. let t = tested name b has in let u = both (not (list_any (λ x. x == 61) name)) (nat_lt 0 (length name) && cond b (not (bytes_eq name derivations)) (bytes_eq name derivations))
+      t in
       (is_false (list_any (λ x. x == 61) name) u.0, some_text name (both (nat_lt 0 (length name)) (cond b (not (bytes_eq name derivations)) (bytes_eq name derivations)) u.1).0);
   flags = λ id h. flags_are id f.choices second.0 h;
   unvalued = λ has. true≢false (sym (tested derivations true has));
@@ -206,12 +219,13 @@ abbrev pub TrueOnly : List Use → Type 0
 TrueOnly [] = Unit {0}
 TrueOnly (u ∷ us) = (bytes_eq u.id derivations ≡ true → u.value ≡ codes "true") × TrueOnly us
 
-flag_value : (us : List Use) → TrueOnly us → (value_of derivations us ≡ None) ⊎ (value_of derivations us ≡ Some (codes "true"))
+flag_value : (us : List Use) → TrueOnly us → (text_of_use derivations us ≡ None) ⊎ (text_of_use derivations us ≡ Some (codes "true"))
 flag_value [] t = inl refl
 flag_value (u ∷ us) t = go (bytes_eq u.id derivations) refl (flag_value us t.1)
   where
-    go : (b : Bool) → bytes_eq u.id derivations ≡ b → (value_of derivations us ≡ None) ⊎ (value_of derivations us ≡ Some (codes "true"))
-        → (option_map (λ v. v.value) (cond b (Some u) (find (λ v. bytes_eq v.id derivations) us)) ≡ None) ⊎ (option_map (λ v. v.value) (cond b (Some u) (find (λ v. bytes_eq v.id derivations) us)) ≡ Some (codes "true"))
+    go : (b : Bool) → bytes_eq u.id derivations ≡ b → (text_of_use derivations us ≡ None) ⊎ (text_of_use derivations us ≡ Some (codes "true"))
+        → (option_map (λ v. v.value) (cond b (Some u) (find (λ v. bytes_eq v.id derivations) us)) ≡ None)
+        ⊎ (option_map (λ v. v.value) (cond b (Some u) (find (λ v. bytes_eq v.id derivations) us)) ≡ Some (codes "true"))
     go true e later = inr (ap (λ v. Some v) (t.0 e))
     go false e later = later
 
@@ -227,18 +241,20 @@ uses_true f m [] dashes_alone a e = tt
 uses_true f m [] (dashes_and_word t) a e = (use_true f m (positional t) e, tt)
 uses_true f m (p ∷ ps) ending a e = (use_true f m p a.0, uses_true f m ps ending a.1 e)
 
-pub texts_found : (f : Form) → WellMade f → (us : List Use) → TrueOnly us → (id : Bytes) → found_text (fold with_default (rows_of_uses us) (built_rules f)) id ≡ value_of id us
+pub texts_found : (f : Form) → WellMade f → (us : List Use) → TrueOnly us → (id : Bytes) → found_text (fold with_default (rows_of_uses us) (built_rules f)) id ≡ text_of_use id us
 texts_found f m us t id = go (bytes_eq id derivations) refl (after_defaults id f.word f.choices (rows_of_uses us))
   where
     rows : List Row
     rows = fold with_default (rows_of_uses us) (map built_choice f.choices ++ built_word f.word)
 
     go : (b : Bool) → bytes_eq id derivations ≡ b → Unchanged id (rows_of_uses us) (fold with_default (rows_of_uses us) (map built_choice f.choices ++ built_word f.word)) (flags_named id f.choices)
-        → cond b (cond (is_true_text (first_of id (fold with_default (rows_of_uses us) (map built_choice f.choices ++ built_word f.word)))) (Some (codes "true")) None) (first_of id (fold with_default (rows_of_uses us) (map built_choice f.choices ++ built_word f.word))) ≡ value_of id us
+        → cond b (cond (is_true_text (first_of id (fold with_default (rows_of_uses us) (map built_choice f.choices ++ built_word f.word)))) (Some (codes "true")) None)
+        (first_of id (fold with_default (rows_of_uses us) (map built_choice f.choices ++ built_word f.word))) ≡ text_of_use id us
     go true e (inl h) =
-        let value : (value_of id us ≡ None) ⊎ (value_of id us ≡ Some (codes "true")) = subst (λ i. (value_of i us ≡ None) ⊎ (value_of i us ≡ Some (codes "true"))) (sym (same_text id derivations e)) (flag_value us t) in
+        let value : (text_of_use id us ≡ None) ⊎ (text_of_use id us ≡ Some (codes "true")) =
+        subst (λ i. (text_of_use i us ≡ None) ⊎ (text_of_use i us ≡ Some (codes "true"))) (sym (same_text id derivations e)) (flag_value us t) in
         ⊎_elim (λ v. let none : first_of id (fold with_default (rows_of_uses us) (map built_choice f.choices ++ built_word f.word)) ≡ None = h ∙ first_is id us ∙ v in rw none (sym v))
         (λ v. let some : first_of id (fold with_default (rows_of_uses us) (map built_choice f.choices ++ built_word f.word)) ≡ Some (codes "true") = h ∙ first_is id us ∙ v in rw some (sym v)) value
-    go true e (inr h) = let unused : value_of id us ≡ None = sym (first_is id us) ∙ h.0 in rw h.1 (sym unused)
+    go true e (inr h) = let unused : text_of_use id us ≡ None = sym (first_is id us) ∙ h.0 in rw h.1 (sym unused)
     go false e (inl h) = h ∙ first_is id us
     go false e (inr h) = absurd (true≢false (sym (m.flags id h.2) ∙ e))

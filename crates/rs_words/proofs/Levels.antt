@@ -52,7 +52,8 @@ pub no_defaults : (w : Option Bytes) (cs : List CommandOption) (rows : List Row)
 unfolding defaults_fault
 no_defaults None [] rows = refl
 no_defaults (Some id) [] rows = ap (λ k. or_else k []) (word_default rows id)
-no_defaults w (c ∷ cs) rows = ap (λ k. or_else k (defaults_fault (with_default rows (built_choice c)) (map built_choice cs ++ built_word w))) (choice_default c.is_valued c.name rows) ∙ no_defaults w cs (with_default rows (built_choice c))
+no_defaults w (c ∷ cs) rows = ap (λ k. or_else k (defaults_fault (with_default rows (built_choice c)) (map built_choice cs ++ built_word w))) (choice_default c.is_valued c.name rows)
+    ∙ no_defaults w cs (with_default rows (built_choice c))
 
 choice_free : (v : Bool) (name : Bytes) → (built_choice (record { name = name; is_valued = v })).required ≡ false
 choice_free true name = refl
@@ -61,13 +62,15 @@ choice_free false name = refl
 none_required : (p : Bytes → Bool) (w : Option Bytes) (cs : List CommandOption) → list_any (λ a. a.required && p a.id) (map built_choice cs ++ built_word w) ≡ false
 none_required p None [] = refl
 none_required p (Some id) [] = refl
-none_required p w (c ∷ cs) = ap (λ b. (b && p (built_choice c).id) || list_any (λ a. a.required && p a.id) (map built_choice cs ++ built_word w)) (choice_free c.is_valued c.name) ∙ none_required p w cs
+none_required p w (c ∷ cs) = ap (λ b. (b && p (built_choice c).id) || list_any (λ a. a.required && p a.id) (map built_choice cs ++ built_word w)) (choice_free c.is_valued c.name)
+    ∙ none_required p w cs
 
 pub level_is : (f : Form) (rest : List Bytes) → level_fault (built_shape f) [] nothing_held rest false [] ≡ run_fault f start rest
 level_is f rest =
     let rows = finished (built_rules f) (ends f start rest).held in
     let checks : check_fault (built_shape f) rows false ≡ [] = ap (λ b. cond b (kind.MissingRequiredArgument ∷ []) []) (none_required (λ id. not (is_given id rows)) f.word f.choices) in
-    ap₂ (λ d k. or_else (walk_fault (built_shape f) [] start rest) (or_else (settle_fault (built_rules f) false (ends f start rest).held) (or_else d k))) (no_defaults f.word f.choices (settled (built_rules f) (ends f start rest).held).rows) checks
+    ap₂ (λ d k. or_else (walk_fault (built_shape f) [] start rest) (or_else (settle_fault (built_rules f) false (ends f start rest).held) (or_else d k)))
+    (no_defaults f.word f.choices (settled (built_rules f) (ends f start rest).held).rows) checks
     ∙ ap (or_else (walk_fault (built_shape f) [] start rest)) (or_nil (settle_fault (built_rules f) false (ends f start rest).held))
 
 -- ---- the name of the command
@@ -130,7 +133,9 @@ abbrev pub fault_from : Walk → Kinds → Kinds
 fault_from w k = level_from w.stopped
   where
     level_from : Option (Bytes × List Bytes) → Kinds
-    level_from stop = or_else k (or_else (entered_fault (built app) stop) (or_else (settle_fault top.rules false w.held) (or_else (defaults_fault (settled top.rules w.held).rows top.rules) (check_fault top (finished top.rules w.held) (is_some (entered (built app) stop))))))
+    level_from stop = or_else k (or_else (entered_fault (built app) stop)
+        (or_else (settle_fault top.rules false w.held) (or_else (defaults_fault (settled top.rules w.held).rows top.rules)
+        (check_fault top (finished top.rules w.held) (is_some (entered (built app) stop))))))
 
 pub fault_is : (words : List Bytes) → fault_of app words ≡ fault_from (walk [] names nothing_held words) (walk_fault top names (walk_from nothing_held) words)
 fault_is words = refl
@@ -166,7 +171,9 @@ first_turn n rest e =
     (no_kinds (turn_fault top names (walk_from nothing_held) n) (walk_fault top names (walked [] names (walk_from nothing_held) n) rest) whole.0).0
   where
     rest_of : Walk → Kinds
-    rest_of w = or_else (entered_fault (built app) w.stopped) (or_else (settle_fault top.rules false w.held) (or_else (defaults_fault (settled top.rules w.held).rows top.rules) (check_fault top (finished top.rules w.held) (is_some (entered (built app) w.stopped)))))
+    rest_of w = or_else (entered_fault (built app) w.stopped)
+        (or_else (settle_fault top.rules false w.held) (or_else (defaults_fault (settled top.rules w.held).rows top.rules)
+        (check_fault top (finished top.rules w.held) (is_some (entered (built app) w.stopped)))))
 
 dashes_first : (rest : List Bytes) → fault_of app (dashes ∷ rest) ≡ [] → ⊥
 unfolding walk_fault walked defaults_fault

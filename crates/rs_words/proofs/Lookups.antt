@@ -1,5 +1,6 @@
 -- What clap finds among the options of a command, where all are made alike.
-use Rattle.std.proofs.Common.{◌≡◌, ◌≢◌, ◌==◌, ℕ, zero, suc, Bool, true, false, not, ◌&&◌, ◌||◌, List, [], ◌∷◌, ◌++◌, map, Option, Some, None, option_map, is_some, cond, refl, sym, ap, subst, ◌∙◌, arith, true≢false, codes, inl, inr, ⊎_elim, ◌⊎◌}
+use Rattle.std.proofs.Common.{◌≡◌, ◌≢◌, ◌==◌, ℕ, zero, suc, Bool, true, false, not, ◌&&◌, ◌||◌, List, [], ◌∷◌, ◌++◌, map, Option, Some, None, option_map, is_some, cond, refl, sym, ap, subst, ◌∙◌}
+use Rattle.std.proofs.Common.{arith, true≢false, codes, inl, inr, ⊎_elim, ◌⊎◌}
 use Rattle.std.specs.Prelude.{find}
 use Rattle.std.specs.List.{list_any}
 use Rattle.std.specs.Str.{bytes_eq}
@@ -8,12 +9,11 @@ use Rattle.std.proofs.lemmas.Grind.{common_steps}
 use Rattle.std.proofs.lemmas.Slice.Eq.{bytes_eq-Decides}
 use Rattle.clap.proofs.CutLemmas.{Lacks}
 use Rattle.clap.specs.Walk.{arg_by_id, arg_by_index, arg_by_long, has_long}
-use Rattle.clap.specs.Words.{Rule, Shape, built, new_rule}
+use Rattle.clap.specs.Words.{Rule, Shape, new_rule}
 use Rattle.clap.specs.Simple.{new_shape}
 use Rattle.clap.specs.declared.builder.action.ArgAction.TheVariants.{Set, SetTrue}
 use Rattle.clap.specs.declared.builder.value_parser.ValueParser.TheVariants as vp
-use Rattle.rs_words.specs.Grammar.{CommandOption, Form, Bytes, forms}
-use Rattle.rs_words.specs.Clap.{app}
+use Rattle.rs_words.specs.Grammar.{CommandOption, Form, Bytes}
 
 -- an argument that takes one text, as clap builds it
 abbrev pub taker : Bytes → Option Bytes → Option ℕ → Rule
@@ -21,7 +21,14 @@ taker id long index = record (new_rule id) { long = long; index = index; action 
 
 -- a flag, as clap builds it
 abbrev pub flagger : Bytes → Rule
-flagger name = record (new_rule name) { long = Some name; action = Some SetTrue; range = Some (record { start_inclusive = 0; end_inclusive = 0 }); defaults = codes "false" ∷ []; missing = codes "true" ∷ []; parser = Some vp.Bool }
+flagger name = record (new_rule name) {
+  long = Some name;
+  action = Some SetTrue;
+  range = Some (record { start_inclusive = 0; end_inclusive = 0 });
+  defaults = codes "false" ∷ [];
+  missing = codes "true" ∷ [];
+  parser = Some vp.Bool;
+}
 
 abbrev pub built_choice : CommandOption → Rule
 built_choice c = if_valued c.is_valued c.name
@@ -39,12 +46,6 @@ built_rules f = map built_choice f.choices ++ built_word f.word
 
 abbrev pub built_shape : Form → Shape
 built_shape f = record (new_shape f.name) { rules = built_rules f; no_binary_name = true; disable_help_flag = true; disable_help_subcommand = true; is_built = true }
-
-pub subs_are : (built app).subs ≡ map built_shape forms
-subs_are = refl
-
-pub top_rules : (built app).top.rules ≡ []
-top_rules = refl
 
 -- ---- texts
 
@@ -83,7 +84,8 @@ by_long f name = go f.choices
     go [] = words f.word
     go (c ∷ cs) = rw (long_of_choice c name) (by_test (bytes_eq c.name name) (go cs))
       where
-        by_test : (b : Bool) → arg_by_long (map built_choice cs ++ built_word f.word) name ≡ option_map built_choice (find (λ k. bytes_eq k.name name) cs) → cond b (Some (built_choice c)) (arg_by_long (map built_choice cs ++ built_word f.word) name) ≡ option_map built_choice (cond b (Some c) (find (λ k. bytes_eq k.name name) cs))
+        by_test : (b : Bool) → arg_by_long (map built_choice cs ++ built_word f.word) name ≡ option_map built_choice (find (λ k. bytes_eq k.name name) cs)
+            → cond b (Some (built_choice c)) (arg_by_long (map built_choice cs ++ built_word f.word) name) ≡ option_map built_choice (cond b (Some c) (find (λ k. bytes_eq k.name name) cs))
         by_test true later = refl
         by_test false later = later
 
@@ -102,7 +104,9 @@ by_id f name c e = go f.choices e
     go [] h = cc
     go (k ∷ ks) h = rw (id_of_choice k) (by_test (bytes_eq k.name name) h (go ks))
       where
-        by_test : (b : Bool) → cond b (Some k) (find (λ j. bytes_eq j.name name) ks) ≡ Some c → (find (λ j. bytes_eq j.name name) ks ≡ Some c → arg_by_id (map built_choice ks ++ built_word f.word) name ≡ Some (built_choice c)) → cond b (Some (built_choice k)) (arg_by_id (map built_choice ks ++ built_word f.word) name) ≡ Some (built_choice c)
+        by_test : (b : Bool) → cond b (Some k) (find (λ j. bytes_eq j.name name) ks) ≡ Some c
+            → (find (λ j. bytes_eq j.name name) ks ≡ Some c → arg_by_id (map built_choice ks ++ built_word f.word) name ≡ Some (built_choice c))
+            → cond b (Some (built_choice k)) (arg_by_id (map built_choice ks ++ built_word f.word) name) ≡ Some (built_choice c)
         by_test true t later = let same : k ≡ c = cc in ap (λ z. Some (built_choice z)) same
         by_test false t later = later t
 
@@ -118,7 +122,9 @@ by_word f id w e = go f.choices e
     go [] h = words f.word w
     go (k ∷ ks) h = rw (id_of_choice k) (by_test (bytes_eq k.name id) h (go ks))
       where
-        by_test : (b : Bool) → cond b (Some k) (find (λ j. bytes_eq j.name id) ks) ≡ None → (find (λ j. bytes_eq j.name id) ks ≡ None → arg_by_id (map built_choice ks ++ built_word f.word) id ≡ Some (taker id None (Some 1))) → cond b (Some (built_choice k)) (arg_by_id (map built_choice ks ++ built_word f.word) id) ≡ Some (taker id None (Some 1))
+        by_test : (b : Bool) → cond b (Some k) (find (λ j. bytes_eq j.name id) ks) ≡ None
+            → (find (λ j. bytes_eq j.name id) ks ≡ None → arg_by_id (map built_choice ks ++ built_word f.word) id ≡ Some (taker id None (Some 1)))
+            → cond b (Some (built_choice k)) (arg_by_id (map built_choice ks ++ built_word f.word) id) ≡ Some (taker id None (Some 1))
         by_test true t later = cc
         by_test false t later = later t
 
@@ -139,10 +145,6 @@ by_index f i = go f.choices
 pub second_place : (w : Option Bytes) → arg_by_index (built_word w) 2 ≡ None
 second_place None = refl
 second_place (Some id) = refl
-
-pub first_place : (w : Option Bytes) → arg_by_index (built_word w) 1 ≡ option_map (λ id. taker id None (Some 1)) w
-first_place None = refl
-first_place (Some id) = refl
 
 -- ---- `=` in a text
 

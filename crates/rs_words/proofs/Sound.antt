@@ -16,9 +16,13 @@ use Rattle.clap.proofs.WalkLemmas.{both}
 use Rattle.clap.specs.declared.error.kind.ErrorKind.{ErrorKind}
 use Rattle.clap.specs.declared.error.kind.ErrorKind.TheVariants as kind
 use Rattle.rs_words.specs.Clap.{dashes_are_allowed, dash_is_allowed}
-use Rattle.rs_words.specs.Grammar.{AllNew, AllStand, CommandOption, EndingStands, WordsEnd, Form, WordPiece, PieceStands, Bytes, Use, value_behind, begins_with_dash, option_word, dashes_and_word, ending_uses, ending_words, flag, HasChoice, has_use, value_joined, nothing, use_of, positional, words_of, dashes_alone}
+use Rattle.rs_words.specs.Grammar.{AllNew, AllStand, CommandOption, EndingStands, WordsEnd, Form, WordPiece, PieceStands, Bytes, Use, value_behind, begins_with_dash, option_word, dashes_and_word}
+use Rattle.rs_words.specs.Grammar.{ending_uses, ending_words, flag, HasChoice, has_use, value_joined, nothing, use_of, positional, words_of, dashes_alone}
 use Rattle.rs_words.proofs.Lookups.{Cut, built_choice, built_rules, built_shape, built_word, by_id, by_index, by_long, by_word, cut, flagger, found_passes, same_text, second_place, taker}
-use Rattle.rs_words.proofs.Turns.{Known, again, append_nil, value_behind_turn, value_behind_walk, at_place, dashes, dashes_walk, doomed, doomed_turn, doomed_walk, flag_adds, flag_faults, flag_turn, flag_walk, flag_with_value, held, value_joined_turn, value_joined_walk, never_settles, no_option_there, placed_turn, placed_turn_behind, placed_walk, placed_walk_behind, plain_is_no_dash, resting, rows_of_uses, settle_faults, settles, stored, stray_behind, stray_turn, trailing, unknown_turn, use_adds, use_faults, value_walk, waiting}
+use Rattle.rs_words.proofs.Turns.{Known, again, append_nil, value_behind_turn, value_behind_walk, at_place, dashes, dashes_walk, doomed, doomed_turn, doomed_walk, flag_adds, flag_faults, flag_turn}
+use Rattle.rs_words.proofs.Turns.{flag_walk, flag_with_value, held, value_joined_turn, value_joined_walk, never_settles, no_option_there, placed_turn, placed_turn_behind, placed_walk}
+use Rattle.rs_words.proofs.Turns.{placed_walk_behind, plain_is_no_dash, resting, rows_of_uses, settle_faults, settles, stored, stray_behind, stray_turn, trailing, unknown_turn, use_adds, use_faults}
+use Rattle.rs_words.proofs.Turns.{value_walk, waiting}
 
 -- ---- kinds
 
@@ -53,7 +57,8 @@ unfolding walk_fault
 run_end f w = refl
 
 -- a run that passes, one word on
-pub on : (f : Form) (w next : Walk) (x : Bytes) (xs : List Bytes) → run_fault f w (x ∷ xs) ≡ [] → walked (built_rules f) [] w x ≡ next → (turn_fault (built_shape f) [] w x ≡ []) × (run_fault f next xs ≡ [])
+pub on : (f : Form) (w next : Walk) (x : Bytes) (xs : List Bytes) → run_fault f w (x ∷ xs) ≡ [] → walked (built_rules f) [] w x ≡ next
+    → (turn_fault (built_shape f) [] w x ≡ []) × (run_fault f next xs ≡ [])
 on f w next x xs e is =
     let parts = no_kinds (turn_fault (built_shape f) [] w x) (run_fault f (walked (built_rules f) [] w x) xs) (sym (run_step f w x xs) ∙ e) in
     (parts.0, subst (λ n. run_fault f n xs ≡ []) is parts.1)
@@ -88,12 +93,14 @@ later f us o p u rest rows is stands fresh r = record {
   stand = (stands, r.stand);
   end = r.end;
   fresh = fresh;
-  rows_are = r.rows_are ∙ ap rows_of_uses (append_assoc (stored us o) (u ∷ []) (map (use_of f) r.pieces ++ ending_uses f r.ending)) ∙ ap (λ x. rows_of_uses (stored us o ++ x ∷ (map (use_of f) r.pieces ++ ending_uses f r.ending))) (sym is);
+  rows_are = r.rows_are ∙ ap rows_of_uses (append_assoc (stored us o) (u ∷ []) (map (use_of f) r.pieces ++ ending_uses f r.ending))
+      ∙ ap (λ x. rows_of_uses (stored us o ++ x ∷ (map (use_of f) r.pieces ++ ending_uses f r.ending))) (sym is);
   once = subst (λ x. AllNew (stored us o) (x ∷ (map (use_of f) r.pieces ++ ending_uses f r.ending))) (sym is) (r.fresh, r.once);
 }
 
 -- one piece more, whose use is stored
-now : (f : Form) (us : List Use) (o : Option Use) (p : WordPiece) (u : Use) (rest : List Bytes) (rows : List Row) → use_of f p ≡ u → PieceStands f p → again us o ≡ false → has_use u.id (stored us o) ≡ false
+now : (f : Form) (us : List Use) (o : Option Use) (p : WordPiece) (u : Use) (rest : List Bytes) (rows : List Row) → use_of f p ≡ u → PieceStands f p → again us o ≡ false
+    → has_use u.id (stored us o) ≡ false
     → Rest f (stored us o ++ u ∷ []) None rest rows → Rest f us o (words_of p ++ rest) rows
 now f us o p u rest rows is stands fresh new r = record {
   pieces = p ∷ r.pieces;
@@ -102,7 +109,8 @@ now f us o p u rest rows is stands fresh new r = record {
   stand = (stands, r.stand);
   end = r.end;
   fresh = fresh;
-  rows_are = r.rows_are ∙ ap rows_of_uses (append_assoc (stored us o) (u ∷ []) (map (use_of f) r.pieces ++ ending_uses f r.ending)) ∙ ap (λ x. rows_of_uses (stored us o ++ x ∷ (map (use_of f) r.pieces ++ ending_uses f r.ending))) (sym is);
+  rows_are = r.rows_are ∙ ap rows_of_uses (append_assoc (stored us o) (u ∷ []) (map (use_of f) r.pieces ++ ending_uses f r.ending))
+      ∙ ap (λ x. rows_of_uses (stored us o ++ x ∷ (map (use_of f) r.pieces ++ ending_uses f r.ending))) (sym is);
   once = subst (λ x. AllNew (stored us o) (x ∷ (map (use_of f) r.pieces ++ ending_uses f r.ending))) (sym is) (new, r.once);
 }
 
@@ -118,7 +126,8 @@ fresh_from f us o k e = was_false (again us o) [] (sym (settle_faults f us o k) 
 
 pub view : (w : Bytes) → dash_is_allowed false w ≡ true → (w ≡ dashes) ⊎ (((x : ℕ) × (xs : Bytes) × (w ≡ option_word (x ∷ xs))) ⊎ (begins_with_dash w ≡ false))
 view [] e = inr (inr refl)
-view (x ∷ xs) e = ⊎_elim (λ t. subst (λ y. (y ∷ xs ≡ dashes) ⊎ (((z : ℕ) × (zs : Bytes) × (y ∷ xs ≡ option_word (z ∷ zs))) ⊎ (begins_with_dash (y ∷ xs) ≡ false))) (sym t.1) (second xs (subst (λ y. dash_is_allowed false (y ∷ xs) ≡ true) t.1 e)))
+view (x ∷ xs) e = ⊎_elim (λ t. subst (λ y. (y ∷ xs ≡ dashes) ⊎ (((z : ℕ) × (zs : Bytes) × (y ∷ xs ≡ option_word (z ∷ zs))) ⊎ (begins_with_dash (y ∷ xs) ≡ false))) (sym t.1)
+    (second xs (subst (λ y. dash_is_allowed false (y ∷ xs) ≡ true) t.1 e)))
     (λ t. inr (inr t.0)) (eqb_tells x 45)
   where
     third : (ys : Bytes) → (45 ∷ 45 ∷ ys ≡ dashes) ⊎ (((z : ℕ) × (zs : Bytes) × (45 ∷ 45 ∷ ys ≡ option_word (z ∷ zs))) ⊎ (begins_with_dash (45 ∷ 45 ∷ ys) ≡ false))
@@ -127,7 +136,8 @@ view (x ∷ xs) e = ⊎_elim (λ t. subst (λ y. (y ∷ xs ≡ dashes) ⊎ (((z 
 
     second : (l : Bytes) → dash_is_allowed false (45 ∷ l) ≡ true → (45 ∷ l ≡ dashes) ⊎ (((z : ℕ) × (zs : Bytes) × (45 ∷ l ≡ option_word (z ∷ zs))) ⊎ (begins_with_dash (45 ∷ l) ≡ false))
     second [] h = absurd (true≢false (sym h))
-    second (y ∷ ys) h = ⊎_elim (λ t. subst (λ y. (45 ∷ y ∷ ys ≡ dashes) ⊎ (((z : ℕ) × (zs : Bytes) × (45 ∷ y ∷ ys ≡ option_word (z ∷ zs))) ⊎ (begins_with_dash (45 ∷ y ∷ ys) ≡ false))) (sym t.1) (third ys))
+    second (y ∷ ys) h = ⊎_elim (λ t. subst (λ y. (45 ∷ y ∷ ys ≡ dashes) ⊎ (((z : ℕ) × (zs : Bytes) × (45 ∷ y ∷ ys ≡ option_word (z ∷ zs))) ⊎ (begins_with_dash (45 ∷ y ∷ ys) ≡ false))) (sym t.1)
+        (third ys))
         (λ t. absurd (true≢false (sym h ∙ t.0))) (eqb_tells y 45)
 
 -- ---- the end
@@ -158,7 +168,8 @@ abbrev taken : Walk → List Use → Bytes → Bytes → Walk
 taken w us id t = record w { held = held us (Some (record { id = id; value = t })) }
 
 -- a positional word behind `--`
-behind : (f : Form) → HasOwnWord f → (us : List Use) (o : Option Use) → Known f o → (id t : Bytes) → f.word ≡ Some id → begins_with_dash t ≡ false → (more : List Bytes) → run_fault f (trailing us o false) (t ∷ more) ≡ []
+behind : (f : Form) → HasOwnWord f → (us : List Use) (o : Option Use) → Known f o → (id t : Bytes) → f.word ≡ Some id → begins_with_dash t ≡ false → (more : List Bytes)
+    → run_fault f (trailing us o false) (t ∷ more) ≡ []
     → Rest f us o (dashes ∷ t ∷ more) (run_rows f (trailing us o false) (t ∷ more))
 unfolding at_end
 behind f good us o k id t fw plain more e = go more e
@@ -187,7 +198,8 @@ behind f good us o k id t fw plain more e = go more e
           stand = tt;
           end = (id, fw, plain);
           fresh = fresh;
-          rows_are = ap (λ w. run_rows f w []) (next fresh) ∙ r.rows_are ∙ ap rows_of_uses (append_nil (stored us o ++ u ∷ [])) ∙ ap (λ x. rows_of_uses (stored us o ++ x ∷ [])) (sym (word_is f id t fw));
+          rows_are = ap (λ w. run_rows f w []) (next fresh) ∙ r.rows_are ∙ ap rows_of_uses (append_nil (stored us o ++ u ∷ []))
+              ∙ ap (λ x. rows_of_uses (stored us o ++ x ∷ [])) (sym (word_is f id t fw));
           once = subst (λ x. AllNew (stored us o) (x ∷ [])) (sym (word_is f id t fw)) (r.fresh, tt);
         }
     go (t2 ∷ l) h =
@@ -231,11 +243,13 @@ plain_here f good w rest plain ih us o k id fw allowed e =
     let next : walked (built_rules f) [] (resting us o false) w ≡ resting (stored us o) (Some u) true =
     placed_walk f us o id first w plain ∙ ap (λ h. record (resting us None true) { held = record h { pending = Some (id, w ∷ []) } }) (settles f us o k fresh) in
     let r = ih (stored us o) (Some u) true (word_known f good id w fw) allowed (on f (resting us o false) (resting (stored us o) (Some u) true) w rest e next).1 in
-    subst (Rest f us o (w ∷ rest)) (sym (ap (λ x. run_rows f x rest) next)) (later f us o (positional w) u rest (run_rows f (resting (stored us o) (Some u) true) rest) (word_is f id w fw) (id, fw, plain) fresh r)
+    subst (Rest f us o (w ∷ rest)) (sym (ap (λ x. run_rows f x rest) next))
+    (later f us o (positional w) u rest (run_rows f (resting (stored us o) (Some u) true) rest) (word_is f id w fw) (id, fw, plain) fresh r)
 
 plain_case : (f : Form) → HasOwnWord f → (w : Bytes) (rest : List Bytes) → begins_with_dash w ≡ false → Sound f rest → Sound f (w ∷ rest)
 plain_case f good w rest plain ih us o placed k allowed e =
-    let rest_is_allowed : dashes_are_allowed rest false ≡ true = subst (λ b. dashes_are_allowed rest b ≡ true) (plain_is_no_dash w plain).0 (both (dash_is_allowed false w) (dashes_are_allowed rest (bytes_eq w dashes)) allowed).1 in
+    let rest_is_allowed : dashes_are_allowed rest false ≡ true =
+    subst (λ b. dashes_are_allowed rest b ≡ true) (plain_is_no_dash w plain).0 (both (dash_is_allowed false w) (dashes_are_allowed rest (bytes_eq w dashes)) allowed).1 in
     ⊎_elim (λ none. let passes = (on f (resting us o placed) (walked (built_rules f) [] (resting us o placed) w) w rest e refl).0 in let stray = stray_turn f us o placed w plain none in cc)
     (λ some. subst (λ b. Rest f us o (w ∷ rest) (run_rows f (resting us o b) (w ∷ rest))) (sym some.2)
     (plain_here f good w rest plain ih us o k some.0 some.1 rest_is_allowed (subst (λ b. run_fault f (resting us o b) (w ∷ rest) ≡ []) some.2 e))) (at_place f placed)
@@ -246,38 +260,47 @@ pub choice_known : (f : Form) (name v : Bytes) → HasChoice f name true → Kno
 choice_known f name v h = (Some name, None, by_id f name (record { name = name; is_valued = true }) h)
 
 -- `--name=value`
-value_joined_case : (f : Form) (x : ℕ) (xs name v : Bytes) (rest : List Bytes) → x ∷ xs ≡ name ++ 61 ∷ v → HasChoice f name true → long_of (option_word (x ∷ xs)) ≡ Some (name, Some v) → Sound f rest → Sound f (option_word (x ∷ xs) ∷ rest)
+value_joined_case : (f : Form) (x : ℕ) (xs name v : Bytes) (rest : List Bytes) → x ∷ xs ≡ name ++ 61 ∷ v → HasChoice f name true → long_of (option_word (x ∷ xs)) ≡ Some (name, Some v) → Sound f rest
+    → Sound f (option_word (x ∷ xs) ∷ rest)
 value_joined_case f x xs name v rest parts has is ih us o placed k allowed e =
     let u : Use = record { id = name; value = v } in
     let w : Bytes = option_word (x ∷ xs) in
     let found : arg_by_long (built_rules f) name ≡ Some (taker name (Some name) None) = by_long f name ∙ ap (option_map built_choice) has in
     let turn = (on f (resting us o placed) (walked (built_rules f) [] (resting us o placed) w) w rest e refl).0 in
-    let step = no_kinds (or_else (settle_fault (built_rules f) false (held us o)) (use_fault false (taker name (Some name) None) (v ∷ []) (settled (built_rules f) (held us o)).rows)) [] (sym (value_joined_turn f us o placed w name v refl is found) ∙ turn) in
+    let step = no_kinds (or_else (settle_fault (built_rules f) false (held us o)) (use_fault false (taker name (Some name) None) (v ∷ []) (settled (built_rules f) (held us o)).rows)) []
+    (sym (value_joined_turn f us o placed w name v refl is found) ∙ turn) in
     let two = no_kinds (settle_fault (built_rules f) false (held us o)) (use_fault false (taker name (Some name) None) (v ∷ []) (settled (built_rules f) (held us o)).rows) step.0 in
     let fresh : again us o ≡ false = fresh_from f us o k two.0 in
     let rows : (settled (built_rules f) (held us o)).rows ≡ rows_of_uses (stored us o) = ap (λ h. h.rows) (settles f us o k fresh) in
-    let new : has_use name (stored us o) ≡ false = was_false (has_use name (stored us o)) [] (sym (ap (use_fault false (taker name (Some name) None) (v ∷ [])) rows ∙ use_faults u (Some name) None (stored us o)) ∙ two.1) in
+    let new : has_use name (stored us o) ≡ false = was_false (has_use name (stored us o)) []
+    (sym (ap (use_fault false (taker name (Some name) None) (v ∷ [])) rows ∙ use_faults u (Some name) None (stored us o)) ∙ two.1) in
     let next : walked (built_rules f) [] (resting us o placed) w ≡ resting (stored us o ++ u ∷ []) None placed =
-    value_joined_walk f us o placed w name v refl is found ∙ ap (λ l. record (resting us None placed) { held = record { rows = l; pending = None; skip = 0 } }) (ap (used (taker name (Some name) None) (v ∷ [])) rows ∙ use_adds u (Some name) None (stored us o) new) in
+    value_joined_walk f us o placed w name v refl is found ∙ ap (λ l. record (resting us None placed) { held = record { rows = l; pending = None; skip = 0 } })
+    (ap (used (taker name (Some name) None) (v ∷ [])) rows ∙ use_adds u (Some name) None (stored us o) new) in
     let r = ih (stored us o ++ u ∷ []) None placed tt allowed (on f (resting us o placed) (resting (stored us o ++ u ∷ []) None placed) w rest e next).1 in
-    let made : Rest f us o (words_of (value_joined name v) ++ rest) (run_rows f (resting (stored us o ++ u ∷ []) None placed) rest) = now f us o (value_joined name v) u rest (run_rows f (resting (stored us o ++ u ∷ []) None placed) rest) refl has fresh new r in
-    subst (λ t. Rest f us o (option_word t ∷ rest) (run_rows f (resting us o placed) (w ∷ rest))) (sym parts) (subst (Rest f us o (words_of (value_joined name v) ++ rest)) (sym (ap (λ y. run_rows f y rest) next)) made)
+    let made : Rest f us o (words_of (value_joined name v) ++ rest) (run_rows f (resting (stored us o ++ u ∷ []) None placed) rest) =
+    now f us o (value_joined name v) u rest (run_rows f (resting (stored us o ++ u ∷ []) None placed) rest) refl has fresh new r in
+    subst (λ t. Rest f us o (option_word t ∷ rest) (run_rows f (resting us o placed) (w ∷ rest))) (sym parts)
+    (subst (Rest f us o (words_of (value_joined name v) ++ rest)) (sym (ap (λ y. run_rows f y rest) next)) made)
 
 -- a flag
-flag_case : (f : Form) (x : ℕ) (xs : Bytes) (rest : List Bytes) → HasChoice f (x ∷ xs) false → long_of (option_word (x ∷ xs)) ≡ Some (x ∷ xs, None) → Sound f rest → Sound f (option_word (x ∷ xs) ∷ rest)
+flag_case : (f : Form) (x : ℕ) (xs : Bytes) (rest : List Bytes) → HasChoice f (x ∷ xs) false → long_of (option_word (x ∷ xs)) ≡ Some (x ∷ xs, None) → Sound f rest
+    → Sound f (option_word (x ∷ xs) ∷ rest)
 flag_case f x xs rest has is ih us o placed k allowed e =
     let name : Bytes = x ∷ xs in
     let u : Use = record { id = name; value = codes "true" } in
     let w : Bytes = option_word (x ∷ xs) in
     let found : arg_by_long (built_rules f) name ≡ Some (flagger name) = by_long f name ∙ ap (option_map built_choice) has in
     let turn = (on f (resting us o placed) (walked (built_rules f) [] (resting us o placed) w) w rest e refl).0 in
-    let step = no_kinds (or_else (settle_fault (built_rules f) false (held us o)) (use_fault false (flagger name) [] (settled (built_rules f) (held us o)).rows)) [] (sym (flag_turn f us o placed w name refl is found) ∙ turn) in
+    let step = no_kinds (or_else (settle_fault (built_rules f) false (held us o)) (use_fault false (flagger name) [] (settled (built_rules f) (held us o)).rows)) []
+    (sym (flag_turn f us o placed w name refl is found) ∙ turn) in
     let two = no_kinds (settle_fault (built_rules f) false (held us o)) (use_fault false (flagger name) [] (settled (built_rules f) (held us o)).rows) step.0 in
     let fresh : again us o ≡ false = fresh_from f us o k two.0 in
     let rows : (settled (built_rules f) (held us o)).rows ≡ rows_of_uses (stored us o) = ap (λ h. h.rows) (settles f us o k fresh) in
     let new : has_use name (stored us o) ≡ false = was_false (has_use name (stored us o)) [] (sym (ap (use_fault false (flagger name) []) rows ∙ flag_faults name (stored us o)) ∙ two.1) in
     let next : walked (built_rules f) [] (resting us o placed) w ≡ resting (stored us o ++ u ∷ []) None placed =
-    flag_walk f us o placed w name refl is found ∙ ap (λ l. record (resting us None placed) { held = record { rows = l; pending = None; skip = 0 } }) (ap (used (flagger name) []) rows ∙ flag_adds name (stored us o) new) in
+    flag_walk f us o placed w name refl is found ∙ ap (λ l. record (resting us None placed) { held = record { rows = l; pending = None; skip = 0 } })
+    (ap (used (flagger name) []) rows ∙ flag_adds name (stored us o) new) in
     let r = ih (stored us o ++ u ∷ []) None placed tt allowed (on f (resting us o placed) (resting (stored us o ++ u ∷ []) None placed) w rest e next).1 in
     subst (Rest f us o (w ∷ rest)) (sym (ap (λ y. run_rows f y rest) next)) (now f us o (flag name) u rest (run_rows f (resting (stored us o ++ u ∷ []) None placed) rest) refl has fresh new r)
 
@@ -286,13 +309,15 @@ abbrev pub Behind : Form → List Bytes → Type 0
 Behind f [] = Unit {0}
 Behind f (v ∷ rest) = Sound f rest
 
-never_ends : (f : Form) (us : List Use) (name : Bytes) (placed : Bool) (known : arg_by_id (built_rules f) name ≡ Some (taker name (Some name) None)) (l : List Bytes) → run_fault f (doomed f us name placed known) l ≡ [] → ⊥
+never_ends : (f : Form) (us : List Use) (name : Bytes) (placed : Bool) (known : arg_by_id (built_rules f) name ≡ Some (taker name (Some name) None)) (l : List Bytes)
+    → run_fault f (doomed f us name placed known) l ≡ [] → ⊥
 never_ends f us name placed known [] e =
     let end = sym (run_end f (doomed f us name placed known)) ∙ e in
     let never = never_settles f us name (Some name) None known in cc
 never_ends f us name placed known (t ∷ l) e = doomed_turn f us name placed known t (on f (doomed f us name placed known) (walked (built_rules f) [] (doomed f us name placed known) t) t l e refl).0
 
-value_behind_case : (f : Form) (x : ℕ) (xs : Bytes) (rest : List Bytes) → HasChoice f (x ∷ xs) true → long_of (option_word (x ∷ xs)) ≡ Some (x ∷ xs, None) → Behind f rest → Sound f (option_word (x ∷ xs) ∷ rest)
+value_behind_case : (f : Form) (x : ℕ) (xs : Bytes) (rest : List Bytes) → HasChoice f (x ∷ xs) true → long_of (option_word (x ∷ xs)) ≡ Some (x ∷ xs, None) → Behind f rest
+    → Sound f (option_word (x ∷ xs) ∷ rest)
 value_behind_case f x xs rest has is ih us o placed k allowed e = go rest ih allowed e
   where
     name : Bytes
@@ -308,7 +333,8 @@ value_behind_case f x xs rest has is ih us o placed k allowed e = go rest ih all
     known = by_id f name (record { name = name; is_valued = true }) has
 
     fresh_of : (l : List Bytes) → run_fault f (resting us o placed) (w ∷ l) ≡ [] → again us o ≡ false
-    fresh_of l h = fresh_from f us o k (no_kinds (settle_fault (built_rules f) false (held us o)) [] (sym (value_behind_turn f us o placed w name refl is found) ∙ (on f (resting us o placed) (walked (built_rules f) [] (resting us o placed) w) w l h refl).0)).0
+    fresh_of l h = fresh_from f us o k (no_kinds (settle_fault (built_rules f) false (held us o)) []
+        (sym (value_behind_turn f us o placed w name refl is found) ∙ (on f (resting us o placed) (walked (built_rules f) [] (resting us o placed) w) w l h refl).0)).0
 
     next_of : again us o ≡ false → walked (built_rules f) [] (resting us o placed) w ≡ waiting (stored us o) name placed
     next_of fresh = value_behind_walk f us o placed w name refl is found ∙ ap (λ h. record (waiting us name placed) { held = record h { pending = Some (name, []) } }) (settles f us o k fresh)
@@ -333,7 +359,8 @@ value_behind_case f x xs rest has is ih us o placed k allowed e = go rest ih all
         let next = value_walk f (stored us o) name placed known v plain in
         let later_are_allowed : dashes_are_allowed l false ≡ true = subst (λ y. dashes_are_allowed l y ≡ true) (plain_is_no_dash v plain).0 parts.1 in
         let r = b (stored us o) (Some u) placed (choice_known f name v has) later_are_allowed (on f (waiting (stored us o) name placed) (resting (stored us o) (Some u) placed) v l run next).1 in
-        subst (Rest f us o (w ∷ v ∷ l)) (sym (rows ∙ ap (λ y. run_rows f y l) next)) (later f us o (value_behind name v) u l (run_rows f (resting (stored us o) (Some u) placed) l) refl (has, plain) fresh r)) s)
+        subst (Rest f us o (w ∷ v ∷ l)) (sym (rows ∙ ap (λ y. run_rows f y l) next))
+        (later f us o (value_behind name v) u l (run_rows f (resting (stored us o) (Some u) placed) l) refl (has, plain) fresh r)) s)
         (view v parts.0)
 
 long_case : (f : Form) → (x : ℕ) (xs : Bytes) (rest : List Bytes) → Sound f rest → Behind f rest → Sound f (option_word (x ∷ xs) ∷ rest)
@@ -346,7 +373,8 @@ long_case f x xs rest ih ih2 us o placed k allowed e = ⊎_elim without with_val
     turn = (on f (resting us o placed) (walked (built_rules f) [] (resting us o placed) w) w rest e refl).0
 
     no_choice : (name : Bytes) (v : Option Bytes) → long_of w ≡ Some (name, v) → find (λ c. bytes_eq c.name name) f.choices ≡ None → ⊥
-    no_choice name v is none = let fault = unknown_turn f us o placed w name v refl is (by_long f name ∙ ap (option_map built_choice) none) in clash (turn_fault (built_shape f) [] (resting us o placed) w) kind.UnknownArgument [] fault turn
+    no_choice name v is none = let fault = unknown_turn f us o placed w name v refl is (by_long f name ∙ ap (option_map built_choice) none) in clash
+        (turn_fault (built_shape f) [] (resting us o placed) w) kind.UnknownArgument [] fault turn
 
     -- the choice found has the name
     choice_is : (name : Bytes) (c : CommandOption) (b : Bool) → find (λ k. bytes_eq k.name name) f.choices ≡ Some c → c.is_valued ≡ b → HasChoice f name b
@@ -376,7 +404,8 @@ long_case f x xs rest ih ih2 us o placed k allowed e = ⊎_elim without with_val
         by_kind c true v i = value_joined_case f x xs parts.name parts.value rest parts.parts (choice_is parts.name c true i v) is ih us o placed k allowed e
         by_kind c false v i =
             let has = choice_is parts.name c false i v in
-            let fault = flag_with_value f us o placed w parts.name parts.value refl is (by_long f parts.name ∙ ap (option_map built_choice) has) in absurd (clash (turn_fault (built_shape f) [] (resting us o placed) w) kind.TooManyValues [] fault turn)
+            let fault = flag_with_value f us o placed w parts.name parts.value refl is (by_long f parts.name ∙ ap (option_map built_choice) has) in absurd
+            (clash (turn_fault (built_shape f) [] (resting us o placed) w) kind.TooManyValues [] fault turn)
 
         by_choice : (found : Option CommandOption) → find (λ k. bytes_eq k.name parts.name) f.choices ≡ found → Rest f us o (w ∷ rest) (run_rows f (resting us o placed) (w ∷ rest))
         by_choice None i = absurd (no_choice parts.name (Some parts.value) is i)

@@ -3,7 +3,7 @@ use Rattle.std.proofs.Common.{◌≡◌, ℕ, Bool, true, false, ◌&&◌, ◌||
 use Rattle.std.specs.Prelude.{find}
 use Rattle.std.specs.Str.{bytes_eq}
 use Rattle.std.proofs.lemmas.Slice.Eq.{bytes_eq-Decides}
-use Rattle.clap.specs.Lexer.{long_of, name_and_value, short_of}
+use Rattle.clap.specs.Lexer.{long_of, short_of}
 use Rattle.clap.specs.Kinds.{or_else}
 use Rattle.clap.specs.Walk.{Held, Walk, arg_by_id, arg_by_index, arg_by_long, at_row, has_row, idle, is_pending, more_values, option, settled, used, walked, without}
 use Rattle.clap.specs.Faults.{settle_fault, turn_fault, use_fault}
@@ -73,7 +73,8 @@ rows_append [] vs = refl
 rows_append (u ∷ us) vs = ap (λ l. row_of_use u ∷ l) (rows_append us vs)
 
 -- a new use of what takes one text adds its row
-pub use_adds : (u : Use) (long : Option Bytes) (index : Option ℕ) (us : List Use) → has_use u.id us ≡ false → used (taker u.id long index) (u.value ∷ []) (rows_of_uses us) ≡ rows_of_uses (us ++ u ∷ [])
+pub use_adds : (u : Use) (long : Option Bytes) (index : Option ℕ) (us : List Use) → has_use u.id us ≡ false
+    → used (taker u.id long index) (u.value ∷ []) (rows_of_uses us) ≡ rows_of_uses (us ++ u ∷ [])
 use_adds u long index us e =
     let clean : without u.id (rows_of_uses us) ≡ rows_of_uses us = row_added u us (λ _. []) [] e ∙ append_nil (rows_of_uses us) in
     rw clean (row_added u us (more_values CommandLine (u.value ∷ [])) (row_of_use u ∷ []) e ∙ rows_append us (u ∷ []))
@@ -89,7 +90,8 @@ conflict true = refl
 conflict false = refl
 
 -- a use passes exactly where it is new
-pub use_faults : (u : Use) (long : Option Bytes) (index : Option ℕ) (us : List Use) → use_fault false (taker u.id long index) (u.value ∷ []) (rows_of_uses us) ≡ cond (has_use u.id us) (kind.ArgumentConflict ∷ []) []
+pub use_faults : (u : Use) (long : Option Bytes) (index : Option ℕ) (us : List Use)
+    → use_fault false (taker u.id long index) (u.value ∷ []) (rows_of_uses us) ≡ cond (has_use u.id us) (kind.ArgumentConflict ∷ []) []
 use_faults u long index us = rw (has_row_is u.id us) (conflict (has_use u.id us))
 
 pub flag_faults : (name : Bytes) (us : List Use) → use_fault false (flagger name) [] (rows_of_uses us) ≡ cond (has_use name us) (kind.ArgumentConflict ∷ []) []
@@ -133,12 +135,6 @@ pub plain_is_no_dash : (w : Bytes) → begins_with_dash w ≡ false → (bytes_e
 plain_is_no_dash [] e = (refl, refl, refl)
 plain_is_no_dash (x ∷ xs) e = (rw e refl, rw e refl, rw e refl)
 
-pub long_is : (x : ℕ) (xs : Bytes) → long_of (option_word (x ∷ xs)) ≡ Some (name_and_value (x ∷ xs))
-long_is x xs = refl
-
-pub long_is_no_dashes : (x : ℕ) (xs : Bytes) → bytes_eq (option_word (x ∷ xs)) dashes ≡ false
-long_is_no_dashes x xs = refl
-
 -- ---- one word of a level
 
 module _ (f : Form) (us : List Use) (o : Option Use) (placed : Bool) where
@@ -146,11 +142,13 @@ module _ (f : Form) (us : List Use) (o : Option Use) (placed : Bool) where
   c = built_rules f
 
   pub value_joined_turn : (w name v : Bytes) → bytes_eq w dashes ≡ false → long_of w ≡ Some (name, Some v) → arg_by_long (built_rules f) name ≡ Some (taker name (Some name) None)
-      → turn_fault (built_shape f) [] (resting us o placed) w ≡ or_else (or_else (settle_fault (built_rules f) false (held us o)) (use_fault false (taker name (Some name) None) (v ∷ []) (settled (built_rules f) (held us o)).rows)) []
+      → turn_fault (built_shape f) [] (resting us o placed) w ≡ or_else
+      (or_else (settle_fault (built_rules f) false (held us o)) (use_fault false (taker name (Some name) None) (v ∷ []) (settled (built_rules f) (held us o)).rows)) []
   value_joined_turn w name v isnt is found = rw (isnt, is, found) refl
 
   pub value_joined_walk : (w name v : Bytes) → bytes_eq w dashes ≡ false → long_of w ≡ Some (name, Some v) → arg_by_long (built_rules f) name ≡ Some (taker name (Some name) None)
-      → walked (built_rules f) [] (resting us o placed) w ≡ record (resting us None placed) { held = record { rows = used (taker name (Some name) None) (v ∷ []) (settled (built_rules f) (held us o)).rows; pending = None; skip = 0 } }
+      → walked (built_rules f) [] (resting us o placed) w ≡ record (resting us None placed)
+      { held = record { rows = used (taker name (Some name) None) (v ∷ []) (settled (built_rules f) (held us o)).rows; pending = None; skip = 0 } }
   unfolding walked
   value_joined_walk w name v isnt is found = rw (isnt, is, found) refl
 
@@ -164,11 +162,13 @@ module _ (f : Form) (us : List Use) (o : Option Use) (placed : Bool) where
   value_behind_walk w name isnt is found = rw (isnt, is, found) refl
 
   pub flag_turn : (w name : Bytes) → bytes_eq w dashes ≡ false → long_of w ≡ Some (name, None) → arg_by_long (built_rules f) name ≡ Some (flagger name)
-      → turn_fault (built_shape f) [] (resting us o placed) w ≡ or_else (or_else (settle_fault (built_rules f) false (held us o)) (use_fault false (flagger name) [] (settled (built_rules f) (held us o)).rows)) []
+      → turn_fault (built_shape f) [] (resting us o placed) w ≡ or_else
+      (or_else (settle_fault (built_rules f) false (held us o)) (use_fault false (flagger name) [] (settled (built_rules f) (held us o)).rows)) []
   flag_turn w name isnt is found = rw (isnt, is, found) refl
 
   pub flag_walk : (w name : Bytes) → bytes_eq w dashes ≡ false → long_of w ≡ Some (name, None) → arg_by_long (built_rules f) name ≡ Some (flagger name)
-      → walked (built_rules f) [] (resting us o placed) w ≡ record (resting us None placed) { held = record { rows = used (flagger name) [] (settled (built_rules f) (held us o)).rows; pending = None; skip = 0 } }
+      → walked (built_rules f) [] (resting us o placed) w ≡ record (resting us None placed)
+      { held = record { rows = used (flagger name) [] (settled (built_rules f) (held us o)).rows; pending = None; skip = 0 } }
   unfolding walked
   flag_walk w name isnt is found = rw (isnt, is, found) refl
 
@@ -179,9 +179,6 @@ module _ (f : Form) (us : List Use) (o : Option Use) (placed : Bool) where
   pub unknown_turn : (w name : Bytes) (v : Option Bytes) → bytes_eq w dashes ≡ false → long_of w ≡ Some (name, v) → arg_by_long (built_rules f) name ≡ None
       → turn_fault (built_shape f) [] (resting us o placed) w ≡ kind.UnknownArgument ∷ []
   unknown_turn w name v isnt is found = rw (isnt, is, found) refl
-
-  pub dashes_turn : turn_fault (built_shape f) [] (resting us o placed) dashes ≡ []
-  dashes_turn = refl
 
   pub dashes_walk : walked (built_rules f) [] (resting us o placed) dashes ≡ trailing us o placed
   unfolding walked
@@ -199,11 +196,13 @@ and_false true = refl
 and_false false = refl
 
 -- the place that is next: there is none, or it is the one positional word's
-pub at_place : (f : Form) (placed : Bool) → (arg_by_index (built_rules f) (place placed) ≡ None) ⊎ ((id : Bytes) × (f.word ≡ Some id) × (placed ≡ false) × (arg_by_index (built_rules f) (place placed) ≡ Some (taker id None (Some 1))))
+pub at_place : (f : Form) (placed : Bool) → (arg_by_index (built_rules f) (place placed) ≡ None)
+    ⊎ ((id : Bytes) × (f.word ≡ Some id) × (placed ≡ false) × (arg_by_index (built_rules f) (place placed) ≡ Some (taker id None (Some 1))))
 at_place f true = inl (by_index f 2 ∙ second_place f.word)
 at_place f false = go f.word refl
   where
-    go : (w : Option Bytes) → f.word ≡ w → (arg_by_index (built_rules f) 1 ≡ None) ⊎ ((id : Bytes) × (f.word ≡ Some id) × (false ≡ false) × (arg_by_index (built_rules f) 1 ≡ Some (taker id None (Some 1))))
+    go : (w : Option Bytes) → f.word ≡ w → (arg_by_index (built_rules f) 1 ≡ None)
+        ⊎ ((id : Bytes) × (f.word ≡ Some id) × (false ≡ false) × (arg_by_index (built_rules f) 1 ≡ Some (taker id None (Some 1))))
     go None e = inl (by_index f 1 ∙ ap (λ w. arg_by_index (built_word w) 1) e)
     go (Some id) e = inr (id, e, refl, by_index f 1 ∙ ap (λ w. arg_by_index (built_word w) 1) e)
 
@@ -212,14 +211,16 @@ module _ (f : Form) (us : List Use) (o : Option Use) (id : Bytes) (first : arg_b
   pub placed_turn : (w : Bytes) → begins_with_dash w ≡ false → turn_fault (built_shape f) [] (resting us o false) w ≡ settle_fault (built_rules f) false (held us o)
   placed_turn w plain = let p = plain_is_no_dash w plain in rw (p.0, p.1, p.2, first, and_false (is_pending (taker id None (Some 1)) (pending o))) refl
 
-  pub placed_walk : (w : Bytes) → begins_with_dash w ≡ false → walked (built_rules f) [] (resting us o false) w ≡ record (resting us None true) { held = record (settled (built_rules f) (held us o)) { pending = Some (id, w ∷ []) } }
+  pub placed_walk : (w : Bytes) → begins_with_dash w ≡ false → walked (built_rules f) [] (resting us o false) w ≡ record (resting us None true)
+      { held = record (settled (built_rules f) (held us o)) { pending = Some (id, w ∷ []) } }
   unfolding walked
   placed_walk w plain = let p = plain_is_no_dash w plain in rw (p.0, p.1, p.2, first, and_false (is_pending (taker id None (Some 1)) (pending o))) refl
 
   pub placed_turn_behind : (w : Bytes) → turn_fault (built_shape f) [] (trailing us o false) w ≡ settle_fault (built_rules f) false (held us o)
   placed_turn_behind w = rw (first, and_false (is_pending (taker id None (Some 1)) (pending o))) refl
 
-  pub placed_walk_behind : (w : Bytes) → walked (built_rules f) [] (trailing us o false) w ≡ record (trailing us None true) { held = record (settled (built_rules f) (held us o)) { pending = Some (id, w ∷ []) } }
+  pub placed_walk_behind : (w : Bytes) → walked (built_rules f) [] (trailing us o false) w ≡ record (trailing us None true)
+      { held = record (settled (built_rules f) (held us o)) { pending = Some (id, w ∷ []) } }
   unfolding walked
   placed_walk_behind w = rw (first, and_false (is_pending (taker id None (Some 1)) (pending o))) refl
 

@@ -1,4 +1,5 @@
 pub mod Words
 pub mod Grammar
 pub mod Meaning
+pub mod Tasks
 pub mod Clap

@@ -9,12 +9,12 @@ pub fn words_spell_one_task()
     ensures { (words : List (List ℕ)) (one other : Task) → SpellsTask words one → SpellsTask words other → one ≡ other }
 {}
 
-/// A list of words has a meaning: a task that it spells, or none ..
+/// A list of words has a meaning: a task that it spells, or none.
 pub fn words_mean_something()
     ensures { (words : List (List ℕ)) → (meaning : Option Task) × IsMeaning words meaning }
 {}
 
-/// .. and no other meaning.
+/// A list of words has one meaning at most.
 pub fn words_mean_one_thing()
     ensures { (words : List (List ℕ)) (one other : Option Task) → IsMeaning words one → IsMeaning words other → one ≡ other }
 {}

@@ -1,8 +1,5 @@
 //! The ranges of the numbers among the words, and what stands where none is given.
 
-/// The bound of a search where none is given: the most acts that a derivation may owe at a node.
-pub const DEFAULT_BOUND: u8 = 16;
-
 /// The most acts of a role in a run where no limit is given.
 pub const DEFAULT_LIMIT: u32 = 10_000;
 

@@ -7,9 +7,9 @@ ghost use Rattle.rs_words.specs.Meaning as spec;
 
 use crate::limits::MOST_GEN;
 use crate::numbers::{bound_in, limit_in, number_in, ring_in, seed_in, workers_in};
-use crate::tasks::Task;
+use crate::tasks::{CheckOptions, DemoTask, DocumentTask, Task};
 use clap::ArgMatches;
-use rs_model::Demo;
+use rs_model::{Demo, RunOptions};
 use std::alloc::{AllocError, Global};
 
 /// The demo of this name.
@@ -40,7 +40,8 @@ fn check_task(
     let Some(bound) = bound_in(alloc, bound)? else {
         return Ok(None);
     };
-    Ok(Some(Task::Check { bound, derivations }))
+    let options = CheckOptions { bound, derivations };
+    Ok(Some(Task::OnDocument(DocumentTask::Check(options))))
 }
 
 /// What `run` asks for, by the texts of its options.
@@ -52,7 +53,8 @@ fn run_task(
     limit: Option<&str>,
     seed: Option<&str>,
 ) -> Result<Option<Task>, AllocError>
-    ensures { IfOk result (λ r. r ≡ spec.run_task (option_map (λ s. s.now) bound.entry) (option_map (λ s. s.now) ring.entry) (option_map (λ s. s.now) workers.entry) (option_map (λ s. s.now) limit.entry) (option_map (λ s. s.now) seed.entry)) }
+    ensures { IfOk result (λ r. r ≡ spec.run_task (option_map (λ s. s.now) bound.entry) (option_map (λ s. s.now) ring.entry) (option_map (λ s. s.now) workers.entry)
+        (option_map (λ s. s.now) limit.entry) (option_map (λ s. s.now) seed.entry)) }
 {
     let Some(bound) = bound_in(alloc, bound)? else {
         return Ok(None);
@@ -69,13 +71,13 @@ fn run_task(
     let Some(seed) = seed_in(alloc, seed)? else {
         return Ok(None);
     };
-    Ok(Some(Task::Run {
+    let options = RunOptions {
         bound,
         ring,
-        workers,
         limit,
         seed,
-    }))
+    };
+    Ok(Some(Task::OnDocument(DocumentTask::Run { options, workers })))
 }
 
 /// What `demo` asks for, by the text of its name and those of its options.
@@ -99,11 +101,11 @@ fn demo_task(
     let Some(workers) = workers_in(alloc, workers)? else {
         return Ok(None);
     };
-    Ok(Some(Task::Demo {
+    Ok(Some(Task::OnData(DemoTask {
         kind,
         ring,
         workers,
-    }))
+    })))
 }
 
 /// What `gen` asks for, by the text of its number.
@@ -175,11 +177,11 @@ fn task_of(alloc: Global, name: &str, found: &ArgMatches<'_>) -> Result<Option<T
             is_used(found, "derivations"),
         )
     } else if name == "verify" {
-        Ok(Some(Task::Verify))
+        Ok(Some(Task::OnDocument(DocumentTask::Verify)))
     } else if name == "show" {
-        Ok(Some(Task::Show))
+        Ok(Some(Task::OnDocument(DocumentTask::Show)))
     } else if name == "project" {
-        Ok(Some(Task::Project))
+        Ok(Some(Task::OnDocument(DocumentTask::Project)))
     } else if name == "run" {
         run_task_in(alloc, found)
     } else if name == "demo" {

@@ -1,10 +1,13 @@
 //! The numbers among the words.
 
-ghost use Rattle.std.specs.Prelude.{◌≡◌, ◌≤◌, IfOk, IfSome, option_map};
+ghost use Rattle.std.specs.Prelude.{◌≡◌, IfOk, IfSome, option_map};
+ghost use Rattle.rs_model.specs.Limits.{IsFromTo};
 ghost use Rattle.rs_words.specs.Meaning as spec;
 
-use crate::limits::{DEFAULT_BOUND, DEFAULT_LIMIT, MOST_LIMIT, MOST_SEED};
-use rs_model::{MOST_BOUND, MOST_CAPACITY, MOST_WORKERS};
+use crate::limits::{DEFAULT_LIMIT, MOST_LIMIT, MOST_SEED};
+use rs_model::{
+    Bound, Capacity, Crew, DEFAULT_BOUND, MOST_BOUND, MOST_CAPACITY, MOST_WORKERS, Workers,
+};
 use std::alloc::{AllocError, Global};
 
 /// The number whose decimal text this is, where it lies from the low one to the high one.
@@ -14,8 +17,8 @@ pub(crate) fn number_in(
     high: u32,
     text: &str,
 ) -> Result<Option<u32>, AllocError>
-    ensures value { IfOk result (λ r. r ≡ spec.number_in low high text.now) }
-    ensures range { IfOk result (λ r. IfSome r (λ n. n ≤ high)) }
+    ensures value { IfOk result (λ r. r ≡ spec.number_from_to low high text.now) }
+    ensures range { IfOk result (λ r. IfSome r (IsFromTo low high)) }
 {
     let Ok(number) = text.parse::<u32>() else {
         return Ok(None);
@@ -39,9 +42,9 @@ fn number_or(
     high: u32,
     text: Option<&str>,
 ) -> Result<Option<u32>, AllocError>
-    requires { fallback ≤ high }
-    ensures value { IfOk result (λ r. r ≡ spec.number_or fallback low high (option_map (λ s. s.now) text.entry)) }
-    ensures range { IfOk result (λ r. IfSome r (λ n. n ≤ high)) }
+    requires { IsFromTo low high fallback }
+    ensures value { IfOk result (λ r. r ≡ spec.number_or_else fallback low high (option_map (λ s. s.now) text.entry)) }
+    ensures range { IfOk result (λ r. IfSome r (IsFromTo low high)) }
 {
     match text {
         None => Ok(Some(fallback)),
@@ -57,7 +60,7 @@ fn optional_in(
     text: Option<&str>,
 ) -> Result<Option<Option<u32>>, AllocError>
     ensures value { IfOk result (λ r. r ≡ spec.optional_in low high (option_map (λ s. s.now) text.entry)) }
-    ensures range { IfOk result (λ r. IfSome r (λ o. IfSome o (λ n. n ≤ high))) }
+    ensures range { IfOk result (λ r. IfSome r (λ o. IfSome o (IsFromTo low high))) }
 {
     match text {
         None => Ok(Some(None)),
@@ -69,33 +72,43 @@ fn optional_in(
 }
 
 /// The bound of a search.
-pub(crate) fn bound_in(alloc: Global, text: Option<&str>) -> Result<Option<u8>, AllocError>
+pub(crate) fn bound_in(alloc: Global, text: Option<&str>) -> Result<Option<Bound>, AllocError>
     ensures { IfOk result (λ r. r ≡ spec.bound_of_option (option_map (λ s. s.now) text.entry)) }
 {
     match number_or(alloc, u32::from(DEFAULT_BOUND), 1, MOST_BOUND as u32, text)? {
         None => Ok(None),
-        Some(number) => Ok(Some(number as u8)),
+        Some(number) => Ok(Bound::new(number as u8)),
     }
 }
 
-/// The number of workers.
-pub(crate) fn workers_in(alloc: Global, text: Option<&str>) -> Result<Option<u8>, AllocError>
+/// Who makes the turns of a run.
+pub(crate) fn workers_in(alloc: Global, text: Option<&str>) -> Result<Option<Workers>, AllocError>
     ensures { IfOk result (λ r. r ≡ spec.workers_in (option_map (λ s. s.now) text.entry)) }
 {
     match number_or(alloc, 1, 1, MOST_WORKERS, text)? {
         None => Ok(None),
-        Some(number) => Ok(Some(number as u8)),
+        Some(1) => Ok(Some(Workers::One)),
+        Some(number) => match Crew::new(number as u8) {
+            Some(crew) => Ok(Some(Workers::Several(crew))),
+            None => Ok(None),
+        },
     }
 }
 
 /// The capacity of the rings, where one is given.
-pub(crate) fn ring_in(alloc: Global, text: Option<&str>) -> Result<Option<Option<u16>>, AllocError>
+pub(crate) fn ring_in(
+    alloc: Global,
+    text: Option<&str>,
+) -> Result<Option<Option<Capacity>>, AllocError>
     ensures { IfOk result (λ r. r ≡ spec.ring_in (option_map (λ s. s.now) text.entry)) }
 {
     match optional_in(alloc, 1, MOST_CAPACITY, text)? {
         None => Ok(None),
         Some(None) => Ok(Some(None)),
-        Some(Some(number)) => Ok(Some(Some(number as u16))),
+        Some(Some(number)) => match Capacity::new(number as u16) {
+            Some(capacity) => Ok(Some(Some(capacity))),
+            None => Ok(None),
+        },
     }
 }
 

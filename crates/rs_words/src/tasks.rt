@@ -1,48 +1,73 @@
 //! What the words of the program can ask for.
 
-use rs_model::Demo;
+ghost use Rattle.std.specs.Prelude.{◌≡◌};
+ghost use Rattle.rs_words.specs.Tasks as spec;
+
+use rs_model::{Bound, Capacity, Demo, RunOptions, Workers};
 
 /// What the words ask for, with the value of each option, or what stands in its place where it isn't given.
 #[derive(Clone, Copy, Debug, PartialEq, Eq)]
 pub enum Task {
-    /// Checks a document.
-    Check {
-        /// The most acts that a derivation may owe at a node, from 1 to 64.
-        bound: u8,
-        /// Whether the derivations are printed in place of the report.
-        derivations: bool,
-    },
-    /// Checks the derivations that a document has.
-    Verify,
-    /// Prints a document in its canonical form.
-    Show,
-    /// Prints the projection onto each role.
-    Project,
-    /// Checks a document, and runs its machines.
-    Run {
-        /// The bound of the check, from 1 to 64.
-        bound: u8,
-        /// The capacity of each ring, from 1 to 1,024, where one is given.
-        ring: Option<u16>,
-        /// The number of workers, from 1 to 16.
-        workers: u8,
-        /// The most acts of each role, from 1 to 1,000,000.
-        limit: u32,
-        /// The seed of the actors' choices, from 0 to 2,147,483,647.
-        seed: u32,
-    },
-    /// Runs a demo on the data of the input.
-    Demo {
-        /// Which demo.
-        kind: Demo,
-        /// The capacity of each ring, from 1 to 1,024, where one is given.
-        ring: Option<u16>,
-        /// The number of workers, from 1 to 16.
-        workers: u8,
-    },
-    /// Makes a pipeline from a number, and checks it.
+    /// It is carried out on the document that the input spells.
+    OnDocument(DocumentTask),
+    /// It is carried out on the data of the input.
+    OnData(DemoTask),
+    /// A pipeline is made from a number, and checked. The input isn't read.
     Gen {
         /// The number.
         number: u32,
     },
+}
+
+/// What can be done with a document.
+#[derive(Clone, Copy, Debug, PartialEq, Eq)]
+pub enum DocumentTask {
+    /// It is checked.
+    Check(CheckOptions),
+    /// The derivations that it has are checked.
+    Verify,
+    /// It is printed in its canonical form.
+    Show,
+    /// The projection onto each role is printed.
+    Project,
+    /// It is checked, and its machines are run.
+    Run {
+        /// How they are derived and run.
+        options: RunOptions,
+        /// Who makes the turns.
+        workers: Workers,
+    },
+}
+
+/// How a document is checked.
+#[derive(Clone, Copy, Debug, PartialEq, Eq)]
+pub struct CheckOptions {
+    /// The bound of the search for derivations.
+    pub bound: Bound,
+    /// Whether the derivations are printed in place of the report.
+    pub derivations: bool,
+}
+
+/// A demo that is run on data.
+#[derive(Clone, Copy, Debug, PartialEq, Eq)]
+pub struct DemoTask {
+    /// Which demo.
+    pub kind: Demo,
+    /// How many messages each ring holds, where it is told.
+    pub ring: Option<Capacity>,
+    /// Who makes the turns.
+    pub workers: Workers,
+}
+
+impl Task {
+    /// Who makes the turns of its run. A task that runs nothing needs one worker.
+    pub fn workers(&self) -> Workers
+        ensures { result ≡ spec.workers_of self.now }
+    {
+        match self {
+            Task::OnDocument(DocumentTask::Run { workers, .. }) => *workers,
+            Task::OnData(demo) => demo.workers,
+            _ => Workers::One,
+        }
+    }
 }

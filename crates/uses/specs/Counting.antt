@@ -1,10 +1,8 @@
 -- Believed: how an actor behaves that draws, and counts what comes.
-use Rattle.std.specs.Prelude.{ℕ, ◌+◌, ◌^◌, ◌-◌, List, min}
+use Rattle.std.specs.Prelude.{ℕ, ◌+◌, ◌^◌, ◌-◌, min}
 use Rattle.rs_core.specs.Actors.{Behaviour, ChoosesWell}
-use Rattle.rs_core.specs.Choosing.{draws-well}
+use Rattle.rs_core.specs.Choosing.{draws_well}
 use Rattle.rs_core.specs.Draws.{by_draws}
-use Rattle.rs_model.specs.declared.graph.Arm.{Arm}
-use Rattle.rs_model.specs.declared.values.Value.{Value}
 use Rattle.uses.specs.declared.counting.CountingActor.{CountingActor}
 
 -- one more, up to the greatest number of 64 bits
@@ -20,5 +18,5 @@ by_counting = record {
 }
 
 -- so it chooses as well as its draws do
-pub counts-well : ChoosesWell by_counting
-counts-well x arms some = draws-well x.draws arms some
+pub counts_well : ChoosesWell by_counting
+counts_well x arms some = draws_well x.draws arms some

@@ -1,7 +1,7 @@
 //! An actor of the user's own.
 
 ghost use Rattle.std.specs.Prelude.{◌≡◌};
-ghost use Rattle.uses.specs.Counting.{by_counting, counts-well, one_more};
+ghost use Rattle.uses.specs.Counting.{by_counting, counts_well, one_more};
 
 use rs_core::{Actor, SeededActor};
 use rs_model::{Arm, NoMemory, Value};
@@ -38,5 +38,5 @@ impl Actor for CountingActor {
         Ok(())
     }
 
-    ghost chooses_well = { counts-well };
+    ghost chooses_well = { counts_well };
 }

@@ -3,10 +3,9 @@
 
 mod counting;
 mod runs;
-mod session;
 
 use rs_core::Outcome;
-use runs::{End, Told, run_of};
+use runs::{RunEnd, Told, run_of};
 use std::alloc::Alloc;
 use std::process::ExitCode;
 
@@ -25,13 +24,13 @@ fn main(rt: HostRuntime) -> ExitCode {
         ) => {
             let (end, taken) = match run {
                 Ok(
-                    End {
+                    RunEnd {
                         outcome: Outcome::Ended(_),
                         taken,
                     },
                 ) => ("each role has ended", taken),
                 Ok(
-                    End {
+                    RunEnd {
                         outcome: Outcome::Stopped(_),
                         taken,
                     },

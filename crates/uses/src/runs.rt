@@ -7,12 +7,12 @@ ghost use Rattle.rs_documents.specs.Data.{Document_data};
 ghost use Rattle.rs_documents.specs.Documents.{SpellsDocument};
 
 use crate::counting::CountingActor;
-use crate::session::{Session, session_of};
-use rs_core::{Outcome, Run, SeededActor, run_plain};
+use rs_answers::accept_document;
+use rs_core::{Outcome, Run, RunFault, SeededActor, run_plain};
 use rs_documents::read_document;
-use rs_exec::{ExecFault, Ran, run_inline};
-use rs_model::{Machine, NoMemory, Role};
-use rs_safety::{Accepted, accept};
+use rs_exec::{Ran, run_inline};
+use rs_model::{Bound, Machine, NoMemory, Role, copies_of};
+use rs_safety::Accepted;
 use std::alloc::Global;
 
 /// How many machines are safe, the room that their rings need, and how the session ran.
@@ -20,12 +20,12 @@ use std::alloc::Global;
 pub struct Told {
     pub machines: usize,
     pub room: u64,
-    pub run: Result<End, ExecFault>,
+    pub run: Result<RunEnd, RunFault>,
 }
 
 /// How a run ended, and how many messages came to all actors.
 #[derive(Drop)]
-pub struct End {
+pub struct RunEnd {
     pub outcome: Outcome,
     pub taken: u64,
 }
@@ -48,23 +48,13 @@ fn actors_for(alloc: Global, machines: &[Machine]) -> Result<Vec<CountingActor>,
     Ok(actors)
 }
 
-fn copies_of(alloc: Global, machines: &[Machine]) -> Result<Vec<Machine>, NoMemory>
-    ensures { IfOk result (λ copies. copies.items ≡ machines.now) }
-{
-    let mut copies = Vec::with_capacity(alloc, machines.len())?;
-    for machine in machines {
-        copies.push(machine.copy(alloc)?)?;
-    }
-    Ok(copies)
-}
-
 /// How a run ended, by its actors.
-fn end_of(run: Run<CountingActor>) -> End {
+fn end_of(run: Run<CountingActor>) -> RunEnd {
     let mut taken: u64 = 0;
     for actor in run.actors.as_slice() {
         taken = taken.saturating_add(actor.taken);
     }
-    End {
+    RunEnd {
         outcome: run.outcome,
         taken,
     }
@@ -76,7 +66,7 @@ fn run_session(
     accepted: &Accepted,
     capacity: Option<u16>,
     limit: u32,
-) -> Result<End, ExecFault>
+) -> Result<RunEnd, RunFault>
     requires { IfSome capacity IsCapacity }
 {
     let actors = actors_for(alloc, accepted.machines())?;
@@ -116,21 +106,8 @@ pub fn run_of(alloc: Global, text: &[u8], capacity: Option<u16>, limit: u32) -> 
     let Ok(document) = read_document(alloc, text) else {
         return None;
     };
-    let Some(session) = session_of(alloc, &document) else {
-        return None;
-    };
-    let Session {
-        projections,
-        machines,
-        derivations,
-    } = session;
-    match accept(
-        &document.protocol,
-        projections.as_slice(),
-        machines,
-        derivations.as_slice(),
-    ) {
-        Ok(accepted) => Some(told_of(alloc, &accepted, capacity, limit)),
+    match accept_document(alloc, document, Bound::standard()) {
+        Ok(accepted) => Some(told_of(alloc, &accepted.session, capacity, limit)),
         Err(_refused) => None,
     }
 }

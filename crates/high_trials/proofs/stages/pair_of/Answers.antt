@@ -27,7 +27,8 @@ last_new session stages rest b first is = new_at session stages (length rest) b 
 
 next_new : (session : Rings_data) (stages rest front : List Stage) (a b : Stage) → AreFirst session stages → stages ≡ rest ++ b ∷ [] → rest ≡ front ++ a ∷ [] → IsNew session a
 next_new session stages rest front a b first is was =
-    new_at session stages (length front) a first (ap (λ (l : List Stage). slice_get l (length front)) is ∙ in_front rest b a (length front) (ap (λ (l : List Stage). slice_get l (length front)) was ∙ at_end front a))
+    new_at session stages (length front) a first (ap (λ (l : List Stage). slice_get l (length front)) is
+    ∙ in_front rest b a (length front) (ap (λ (l : List Stage). slice_get l (length front)) was ∙ at_end front a))
 
 task_is : {A : Type 0} (session : Rings_data) (stage : Stage) (task : Task_data A) → IsOf session stage → task.stage ≡ stage → task.kept ≡ None → IsTaskOf session task
 task_is session stage task of is none = record {
@@ -36,14 +37,19 @@ task_is session stage task of is none = record {
 }
 
 pub task_of-requires : goal.task_of-requires
-task_of-requires g c = record { nothing = (next_new c.in-Some.session c.in-Some.stages.items c.pop.new.self.items c.pop-2.new.self.items c.in-Some-Some.a c.in-Some-Some.b c.in-Some.ensures c.in-Some-Some.ensures.items c.in-Some-Some.ensures'.items).nothing }
+task_of-requires g c = record {
+  nothing = (next_new c.in-Some.session c.in-Some.stages.items c.pop.new.self.items c.pop-2.new.self.items c.in-Some-Some.a c.in-Some-Some.b c.in-Some.ensures
+      c.in-Some-Some.ensures.items c.in-Some-Some.ensures'.items).nothing;
+}
 
 pub task_of-requires-in-Some-Some : goal.task_of-requires-in-Some-Some
-task_of-requires-in-Some-Some g c = record { nothing = (last_new c.in-Some.session c.in-Some.stages.items c.pop.new.self.items c.in-Some-Some.b c.in-Some.ensures c.in-Some-Some.ensures.items).nothing }
+task_of-requires-in-Some-Some g c = record
+    { nothing = (last_new c.in-Some.session c.in-Some.stages.items c.pop.new.self.items c.in-Some-Some.b c.in-Some.ensures c.in-Some-Some.ensures.items).nothing }
 
 pub returns-clause-a : goal.returns-clause-a
 returns-clause-a g c =
-    let new = next_new c.in-Some.session c.in-Some.stages.items c.pop.new.self.items c.pop-2.new.self.items c.in-Some-Some.a c.in-Some-Some.b c.in-Some.ensures c.in-Some-Some.ensures.items c.in-Some-Some.ensures'.items in
+    let new = next_new c.in-Some.session c.in-Some.stages.items c.pop.new.self.items c.pop-2.new.self.items c.in-Some-Some.a c.in-Some-Some.b c.in-Some.ensures c.in-Some-Some.ensures.items
+    c.in-Some-Some.ensures'.items in
     task_is c.in-Some.session c.in-Some-Some.a c.task_of.result new.of c.task_of.ensures.stage c.task_of.ensures.kept
 
 pub returns-clause-b : goal.returns-clause-b

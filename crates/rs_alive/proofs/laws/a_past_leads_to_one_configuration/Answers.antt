@@ -1,5 +1,5 @@
-use Rattle.rs_alive.proofs.Agreeing.{one-configuration}
+use Rattle.rs_alive.proofs.Agreeing.{one_configuration}
 use Rattle.rs_alive.proofs.laws.a_past_leads_to_one_configuration.Goals as goal
 
 pub returns : goal.returns
-returns c = one-configuration
+returns c = one_configuration

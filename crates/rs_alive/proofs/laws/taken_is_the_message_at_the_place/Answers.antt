@@ -1,5 +1,5 @@
-use Rattle.rs_alive.proofs.TheMessage.{the-message}
+use Rattle.rs_alive.proofs.TheMessage.{the_message}
 use Rattle.rs_alive.proofs.laws.taken_is_the_message_at_the_place.Goals as goal
 
 pub returns : goal.returns
-returns c = the-message
+returns c = the_message

@@ -17,13 +17,15 @@ derivations_of-requires c = record {
   session = (
     c.args.document.now.protocol,
     subst₂ (λ (x : List Projection_data) (y : List Machine_data). IsSession c.args.document.now.protocol x y) (sym c.as_slice.ensures.value) (sym c.as_slice-2.ensures.value)
-        (session_has c.args.document.now c.in_ok-projections.field-0.projections.items c.in_ok-projections.field-0.machines.items c.requires.ready c.requires.roles c.in_ok-projections.ensures.ok),
+        (session_has c.args.document.now c.in_ok-projections.field-0.projections.items c.in_ok-projections.field-0.machines.items c.requires.ready c.in_ok-projections.ensures.ok),
   );
 }
 
 pub returns-in_err-derivations-clause-err : goal.returns-in_err-derivations-clause-err
 returns-in_err-derivations-clause-err c =
-    tells_no_derivation c.args.bound c.args.document.now c.in_ok-projections.field-0.projections.items c.in_ok-projections.field-0.machines.items c.in_err-derivations.field-0.0 c.from_residual-in_err-derivations.result
+    tells_no_derivation c.args.bound c.args.document.now c.in_ok-projections.field-0.projections.items c.in_ok-projections.field-0.machines.items c.in_err-derivations.field-0.0
+    c.from_residual-in_err-derivations.result
     c.from_residual-in_err-derivations.ensures.1 c.in_ok-projections.ensures.ok
-    (subst₂ (λ (x : List Machine_data) (y : List Projection_data). (c.in_err-derivations.field-0.0.fault ≡ search.NoMemory) ⊎ IsUnderivable c.args.bound x y c.in_err-derivations.field-0.0.role c.in_err-derivations.field-0.0.fault)
-    c.as_slice-2.ensures.value c.as_slice.ensures.value c.in_err-derivations.ensures.err)
+    (subst₂ (λ (x : List Machine_data) (y : List Projection_data). (c.in_err-derivations.field-0.0.fault ≡ search.NoMemory)
+    ⊎ IsUnderivable c.args.bound x y c.in_err-derivations.field-0.0.role c.in_err-derivations.field-0.0.fault)
+    c.as_slice-2.ensures.value c.as_slice.ensures.value (rw c.number.ensures.number at c.in_err-derivations.ensures.err))

@@ -17,12 +17,15 @@ returns-in_err-well_formed-clause-err c =
 pub returns-in_err-projections-clause-err : goal.returns-in_err-projections-clause-err
 returns-in_err-projections-clause-err c =
     subst (λ d. IfErr c.from_residual-in_err-projections.result (λ why. (why ≡ refusal.NoMemory) ⊎ HasNoSession d why)) c.document.view_is
-    (tells_no_projection _ c.in_err-projections.field-0.0 c.from_residual-in_err-projections.result c.from_residual-in_err-projections.ensures.1 c.in_ok-well_formed.ensures.none c.in_err-projections.ensures.err)
+    (tells_no_projection _ c.in_err-projections.field-0.0 c.from_residual-in_err-projections.result c.from_residual-in_err-projections.ensures.1 c.in_ok-well_formed.ensures.none
+    c.in_err-projections.ensures.err)
 
 pub first_refusal-requires : goal.first_refusal-requires
 first_refusal-requires c =
-    chosen_small_by c.args.document.now c.as_slice.result.now c.in_ok-projections.projections.items c.as_slice-3.result.now (c.as_slice.ensures.value ∙ ap (λ (d : Document_data). d.machines) c.document.view_is)
-    c.requires (subst (λ (d : Document_data). AreNumberedProjections d.protocol c.in_ok-projections.projections.items) c.document.view_is c.in_ok-projections.ensures.ok) (c.as_slice-3.ensures.value ∙ rw c.as_slice-2.ensures.value at c.in_ok-machines.ensures)
+    chosen_small_by c.args.document.now c.as_slice.result.now c.in_ok-projections.projections.items c.as_slice-3.result.now
+    (c.as_slice.ensures.value ∙ ap (λ (d : Document_data). d.machines) c.document.view_is)
+    c.requires (subst (λ (d : Document_data). AreNumberedProjections d.protocol c.in_ok-projections.projections.items) c.document.view_is c.in_ok-projections.ensures.ok)
+    (c.as_slice-3.ensures.value ∙ rw c.as_slice-2.ensures.value at c.in_ok-machines.ensures)
 
 pub returns-in-Some-clause-err : goal.returns-in-Some-clause-err
 returns-in-Some-clause-err c =

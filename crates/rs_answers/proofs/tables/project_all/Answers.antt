@@ -16,4 +16,5 @@ returns-in-Err-projections_of c =
 
 pub returns : goal.returns
 returns c =
-    subst (λ (d : Document_data). Projects d (record { text = c.in_ok-tables_text.field-0; verdict = Fine })) c.document.view_is (some_tables _ c.in-Ok.projections.items c.in_ok-tables_text.field-0 c.in_default.ensures.none c.in-Ok.ensures.ok (rw c.as_slice.ensures.value at c.in_ok-tables_text.ensures))
+    subst (λ (d : Document_data). Projects d (record { text = c.in_ok-tables_text.field-0; verdict = Fine })) c.document.view_is
+    (some_tables _ c.in-Ok.projections.items c.in_ok-tables_text.field-0 c.in_default.ensures.none c.in-Ok.ensures.ok (rw c.as_slice.ensures.value at c.in_ok-tables_text.ensures))

@@ -10,4 +10,7 @@ abbrev pub decreases-loop-dialect : goal.decreases-loop-dialect
 decreases-loop-dialect l = length l.bytes - l.until
 
 abbrev pub invariant-loop-dialect : goal.invariant-loop-dialect
-invariant-loop-dialect l = (l.until ≤ length l.bytes) × (Stands (feeding l.dialect) l.initial.reader l.bytes l.at l.reader l.until × Kept l.dialect (names_read l.initial.reader) l.reader × Took l.dialect l.initial.reader l.bytes l.at l.reader l.until)
+invariant-loop-dialect l =
+    (l.until ≤ length l.bytes)
+    × (Stands (feeding l.dialect) l.initial.reader l.bytes l.at l.reader l.until × Kept l.dialect (names_read l.initial.reader) l.reader
+    × Took l.dialect l.initial.reader l.bytes l.at l.reader l.until)

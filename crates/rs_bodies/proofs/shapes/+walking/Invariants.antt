@@ -16,5 +16,8 @@ decreases-walk_behind_point g l = l.fuel * 4 + 3
 
 abbrev pub invariant-walk_behind_arms-loop-arm : goal.invariant-walk_behind_arms-loop-arm
 invariant-walk_behind_arms-loop-arm g l =
-    spec.walk_behind_arms (spec.walk_behind_head l.fuel l.trail.dialect (spec.outline (g.G.Numbered.places l.graph) l.trail) l.depth) (spec.number_of_end (g.G.Numbered.places l.graph)) l.from (drop l.arm-index l.arms) l.walk
-    ≡ spec.walk_behind_arms (spec.walk_behind_head l.fuel l.trail.dialect (spec.outline (g.G.Numbered.places l.graph) l.trail) l.depth) (spec.number_of_end (g.G.Numbered.places l.graph)) l.from l.fn.arms l.fn.walk
+    spec.walk_behind_arms (spec.walk_behind_head l.fuel l.trail.dialect (spec.outline (g.G.NumberedGraph.places l.graph) l.trail) l.depth)
+    (spec.number_of_end (g.G.NumberedGraph.places l.graph)) l.from
+    (drop l.arm-index l.arms) l.walk
+    ≡ spec.walk_behind_arms (spec.walk_behind_head l.fuel l.trail.dialect (spec.outline (g.G.NumberedGraph.places l.graph) l.trail) l.depth)
+    (spec.number_of_end (g.G.NumberedGraph.places l.graph)) l.from l.fn.arms l.fn.walk

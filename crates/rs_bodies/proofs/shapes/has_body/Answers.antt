@@ -6,5 +6,5 @@ use Rattle.rs_bodies.proofs.shapes.has_body.Goals as goal
 
 pub returns : goal.returns
 returns g c =
-    subst (λ (z : Bool). IsTrue z ↔ HasBody c.args.dialect c.args.roles c.args.labels (g.G.Numbered.places c.args.graph.now) (g.G.Numbered.root c.args.graph.now)) (sym c.is_walked.ensures)
-    (walked_exactly c.args.dialect c.args.roles (g.G.Numbered.root c.args.graph.now) c.args.labels (g.G.Numbered.places c.args.graph.now) c.requires.roles c.requires.labels)
+    subst (λ (z : Bool). IsTrue z ↔ HasBody c.args.dialect c.args.roles c.args.labels (g.G.NumberedGraph.places c.args.graph.now) (g.G.NumberedGraph.root c.args.graph.now)) (sym c.is_walked.ensures)
+    (walked_exactly c.args.dialect c.args.roles (g.G.NumberedGraph.root c.args.graph.now) c.args.labels (g.G.NumberedGraph.places c.args.graph.now) c.requires.roles c.requires.labels)

@@ -4,4 +4,5 @@ use Rattle.rs_bodies.specs.Shapes.{reaches_behind_places}
 use Rattle.rs_bodies.proofs.shapes.reaches.Given as goal
 
 abbrev pub invariant-loop-number : goal.invariant-loop-number
-invariant-loop-number g l = reaches_behind_places l.number (drop l.number (g.G.Numbered.places l.graph)) l.reaches ≡ reaches_behind_places 0 (g.G.Numbered.places l.graph) (replicate (MOST_TALKS + 1) 0)
+invariant-loop-number g l =
+    reaches_behind_places l.number (drop l.number (g.G.NumberedGraph.places l.graph)) l.reaches ≡ reaches_behind_places 0 (g.G.NumberedGraph.places l.graph) (replicate (MOST_TALKS + 1) 0)

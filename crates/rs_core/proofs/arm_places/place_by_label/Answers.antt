@@ -1,7 +1,7 @@
 use Rattle.std.proofs.Common.{◌≡◌, ◌≢◌, ◌∙◌, ◌<◌, ◌+◌, ◌^◌, ℕ, Some, slice_get, ap, subst, arith}
 use Rattle.std.proofs.lemmas.Option.{get_or_from_slice_get, slice_get_within}
 use Rattle.rs_model.specs.declared.graph.Arm.{Arm}
-use Rattle.rs_core.proofs.Places.{few-labels, labelled}
+use Rattle.rs_core.proofs.Places.{few_labels, labelled}
 use Rattle.rs_core.proofs.arm_places.place_by_label.Goals as goal
 use borrow.Author.Count.{below_more}
 
@@ -21,7 +21,7 @@ unreachable-requires c =
     below_more (λ k. (a : Arm) → slice_get c.args.arms.now k ≡ Some a → a.label.0 < 2 ^ 16) c.loop-place.place (λ k less a is. c.loop-place.invariant.small k a less is)
     (λ a is. (let e = get_or_from_slice_get c.args.arms.now c.loop-place.place a _ is in
     let P : Arm → Type 0 = λ z. z.label.0 < 2 ^ 16 in subst P e c.has_label.ensures.small)) in
-    let few = few-labels c.args.arms.now (c.loop-place.place + 1) (2 ^ 16) c.requires.once (λ k a less is. small k less a is) (let t = c.loop-place-test.true in omega arith) in
+    let few = few_labels c.args.arms.now (c.loop-place.place + 1) (2 ^ 16) c.requires.once (λ k a less is. small k less a is) (let t = c.loop-place-test.true in omega arith) in
     c.in-Err.ensures (omega arith)
 
 pub unreachable-requires-2 : goal.unreachable-requires-2

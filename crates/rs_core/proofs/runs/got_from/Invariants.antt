@@ -5,5 +5,5 @@ use Rattle.rs_core.proofs.runs.got_from.Given as goal
 abbrev pub invariant-loop-entry : goal.invariant-loop-entry
 invariant-loop-entry l = record {
   count : l.count + got_from l.from.0 (drop l.entry-index l.entries) ≡ got_from l.from.0 l.entries;
-  few : l.count ≤ l.entry-index;
+  bounded : l.count ≤ l.entry-index;
 }

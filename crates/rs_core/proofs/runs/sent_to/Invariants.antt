@@ -5,5 +5,5 @@ use Rattle.rs_core.proofs.runs.sent_to.Given as goal
 abbrev pub invariant-loop-entry : goal.invariant-loop-entry
 invariant-loop-entry l = record {
   count : l.count + sent_to l.to.0 (drop l.entry-index l.entries) ≡ sent_to l.to.0 l.entries;
-  few : l.count ≤ l.entry-index;
+  bounded : l.count ≤ l.entry-index;
 }

@@ -5,4 +5,5 @@ use Rattle.rs_demos.specs.Writing.{exchanges_text}
 use Rattle.rs_demos.proofs.documents.push_butterfly_round.Given as goal
 
 abbrev pub invariant-loop-role : goal.invariant-loop-role
-invariant-loop-role l = l.text ++ exchanges_text (flat_map (λ i. both_ways l.step i) (numbers_from l.role (l.roles - l.role))) ≡ l.fn.text ++ exchanges_text (flat_map (λ i. both_ways l.step i) (numbers_from 0 l.roles))
+invariant-loop-role l = l.text ++ exchanges_text (flat_map (λ i. both_ways l.step i) (numbers_from l.role (l.roles - l.role))) ≡ l.fn.text ++ exchanges_text
+    (flat_map (λ i. both_ways l.step i) (numbers_from 0 l.roles))

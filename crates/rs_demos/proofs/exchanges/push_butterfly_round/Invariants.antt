@@ -4,4 +4,5 @@ use Rattle.rs_demos.specs.Sessions.{both_ways, numbers_from}
 use Rattle.rs_demos.proofs.exchanges.push_butterfly_round.Given as goal
 
 abbrev pub invariant-loop-role : goal.invariant-loop-role
-invariant-loop-role l = l.exchanges.items ++ flat_map (λ i. both_ways l.step i) (numbers_from l.role (l.roles - l.role)) ≡ l.fn.exchanges.items ++ flat_map (λ i. both_ways l.step i) (numbers_from 0 l.roles)
+invariant-loop-role l = l.exchanges.items ++ flat_map (λ i. both_ways l.step i) (numbers_from l.role (l.roles - l.role)) ≡ l.fn.exchanges.items ++ flat_map (λ i. both_ways l.step i)
+    (numbers_from 0 l.roles)

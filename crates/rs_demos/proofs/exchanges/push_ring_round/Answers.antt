@@ -1,9 +1,10 @@
 use Rattle.std.proofs.Common.{◌<◌, ℕ, List, [], ◌∷◌, map, refl, arith}
-use Rattle.rs_demos.proofs.Ranges.{one-more}
+use Rattle.rs_demos.proofs.Ranges.{one_more}
 use Rattle.rs_demos.specs.Sessions.{next_in_ring}
 use Rattle.rs_demos.proofs.exchanges.push_ring_round.Goals as goal
 
 pub loop-role-preserved : goal.loop-role-preserved
 loop-role-preserved c =
     let lt : c.loop-role.role < c.args.roles = omega arith in
-    one-more (λ (xs : List ℕ). map (λ (i : ℕ). (i, next_in_ring c.args.roles i)) xs) (λ (i : ℕ). (i, next_in_ring c.args.roles i) ∷ []) (λ i xs. refl) c.loop-role.role c.args.roles c.loop-role.exchanges.items c.push.new.self.items lt c.in_ok-push.ensures.items c.loop-role.invariant
+    one_more (λ (xs : List ℕ). map (λ (i : ℕ). (i, next_in_ring c.args.roles i)) xs) (λ (i : ℕ). (i, next_in_ring c.args.roles i) ∷ []) (λ i xs. refl)
+    c.loop-role.role c.args.roles c.loop-role.exchanges.items c.push.new.self.items lt c.in_ok-push.ensures.items c.loop-role.invariant

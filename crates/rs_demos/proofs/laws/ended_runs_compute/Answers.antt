@@ -1,5 +1,5 @@
-use Rattle.rs_demos.proofs.Computing.{ended-run}
+use Rattle.rs_demos.proofs.Computing.{ended_run}
 use Rattle.rs_demos.proofs.laws.ended_runs_compute.Goals as goal
 
 pub returns : goal.returns
-returns c = ended-run
+returns c = ended_run

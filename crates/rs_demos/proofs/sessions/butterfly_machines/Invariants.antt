@@ -4,4 +4,5 @@ use Rattle.rs_model.specs.declared.demos.Demo.TheVariants as demo
 use Rattle.rs_demos.proofs.sessions.butterfly_machines.Given as goal
 
 abbrev pub invariant-loop-role : goal.invariant-loop-role
-invariant-loop-role l = (0 < l.role) × (l.machines.items ++ map (machine_with_line demo.Butterfly) (map (butterfly_machine l.roles) (numbers_from l.role (l.roles - l.role))) ≡ written_machines demo.Butterfly l.roles)
+invariant-loop-role l = (0 < l.role) × (l.machines.items ++ map (machine_with_line demo.Butterfly) (map (butterfly_machine l.roles) (numbers_from l.role (l.roles - l.role)))
+    ≡ written_machines demo.Butterfly l.roles)

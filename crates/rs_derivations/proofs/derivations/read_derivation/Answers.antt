@@ -10,15 +10,17 @@ use Rattle.rs_derivations.proofs.derivations.read_derivation.Goals as goal
 pub returns-in-Ok-clause-ok : goal.returns-in-Ok-clause-ok
 returns-in-Ok-clause-ok c =
     let first : c.new-reader.result ≡ start_of_derivation c.args.names.now = begins_with c.new-reader.result c.args.names.now _ _ c.new-reader.ensures (search rules) (search rules) in
-    reads_spelt c.args.names.now _ c.args.bytes.now c.args.at c.new-reader.result _ c.in-Ok.until _ first c.requires.at c.requires.labels c.in-Ok.ensures.ok (search rules) c.in-Ok.ensures.kept (search rules) (search rules)
-
-pub returns-in-Ok-clause-printable : goal.returns-in-Ok-clause-printable
-returns-in-Ok-clause-printable c = spelt_printable c.args.names.now _ c.args.bytes.now c.args.at c.in-Ok.until _ (returns-in-Ok-clause-ok c)
+    let spells = reads_spelt c.args.names.now _ c.args.bytes.now c.args.at c.new-reader.result _ c.in-Ok.until _ first c.requires.at c.requires.names.labels c.in-Ok.ensures.ok
+    (search rules) c.in-Ok.ensures.kept
+    (search rules) (search rules) in
+    record { spells = spells; printable = spelt_printable c.args.names.now _ c.args.bytes.now c.args.at c.in-Ok.until _ spells; within = search rules }
 
 pub returns-clause-err : goal.returns-clause-err
 returns-clause-err c =
     let first : c.new-reader.result ≡ start_of_derivation c.args.names.now = begins_with c.new-reader.result c.args.names.now _ _ c.new-reader.ensures (search rules) (search rules) in
-    refused (judges c.args.names.now) (start_of_derivation c.args.names.now) (begins c.args.names.now c.requires.labels) c.in-Err.stop c.args.bytes.now c.args.at c.into_fault.result c.into_fault.ensures c.requires.at (subst (λ z. StopsBy feeding c.in-Err.stop z c.args.bytes.now c.args.at) first c.in-Err.ensures.err)
-
-pub returns-clause-place : goal.returns-clause-place
-returns-clause-place c = told_within feeding stays_below c.in-Err.stop c.new-reader.result c.args.bytes.now c.args.at c.into_fault.result c.into_fault.ensures c.requires.at c.in-Err.ensures.err
+    record {
+      fault = refused (judges c.args.names.now) (start_of_derivation c.args.names.now)
+          (begins c.args.names.now c.requires.names.labels) c.in-Err.stop c.args.bytes.now c.args.at c.into_fault.result c.into_fault.ensures c.requires.at
+          (subst (λ z. StopsBy feeding c.in-Err.stop z c.args.bytes.now c.args.at) first c.in-Err.ensures.err);
+      within = told_within feeding stays_below c.in-Err.stop c.new-reader.result c.args.bytes.now c.args.at c.into_fault.result c.into_fault.ensures c.requires.at c.in-Err.ensures.err;
+    }

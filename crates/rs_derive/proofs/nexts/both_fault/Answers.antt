@@ -20,12 +20,14 @@ overflow_cast-due c =
 
 pub returns-in-Some : goal.returns-in-Some
 returns-in-Some c =
-    left (λ a. both_at c.args.node.now.pending a (arm_of c.args.theirs.now a.label)) c.args.nodes.now c.args.source.keeps c.args.source.rank c.args.source.node c.args.arms.now c.args.node.now.next c.loop-place.place _ _
+    left (λ a. both_at c.args.node.now.pending a
+    (arm_of c.args.theirs.now a.label)) c.args.nodes.now c.args.source.keeps c.args.source.rank c.args.source.node c.args.arms.now c.args.node.now.next c.loop-place.place _ _
     (search rules) (search rules) (sym c.made_fault.ensures.fault ∙ c.in-Some.is) c.loop-place.invariant.rest
 
 pub loop-place-preserved : goal.loop-place-preserved
 loop-place-preserved c = record {
-  rest = stepped (λ a. both_at c.args.node.now.pending a (arm_of c.args.theirs.now a.label)) c.args.nodes.now c.args.source.keeps c.args.source.rank c.args.source.node c.args.arms.now c.args.node.now.next c.loop-place.place _
+  rest = stepped (λ a. both_at c.args.node.now.pending a
+      (arm_of c.args.theirs.now a.label)) c.args.nodes.now c.args.source.keeps c.args.source.rank c.args.source.node c.args.arms.now c.args.node.now.next c.loop-place.place _
       (search rules) (search rules) (sym c.made_fault.ensures.fault ∙ c.in_default.is) c.loop-place.invariant.rest;
   labels = one_more c.loop-place.place c.args.arms.now c.loop-place.invariant.labels c.made_fault.ensures.label;
 }
@@ -34,5 +36,6 @@ pub returns : goal.returns
 returns c =
     let e : length c.as_slice-2.result.now ≡ length c.args.node.now.next = ap (λ z. length z) c.as_slice-2.ensures ∙ ap (λ (z : DNode_data). length z.next) c.node.view_is in
     c.count_fault.ensures ∙ ap (λ n. fault_of_count c.args.source.node c.min-due.result (length c.args.arms.now) n) e
-    ∙ at_count (λ a. both_at c.args.node.now.pending a (arm_of c.args.theirs.now a.label)) c.args.nodes.now c.args.source.keeps c.args.source.rank c.args.source.node c.args.arms.now c.args.node.now.next c.loop-place.place c.min-due.result _
+    ∙ at_count (λ a. both_at c.args.node.now.pending a
+    (arm_of c.args.theirs.now a.label)) c.args.nodes.now c.args.source.keeps c.args.source.rank c.args.source.node c.args.arms.now c.args.node.now.next c.loop-place.place c.min-due.result _
     (search rules) (search rules) c.loop-place.invariant.rest

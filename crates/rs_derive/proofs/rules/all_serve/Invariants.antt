@@ -1,5 +1,5 @@
 use Rattle.std.proofs.Common.{◌≡◌, drop}
-use Rattle.rs_derive.specs.Due.{all_serve}
+use Rattle.rs_derive.specs.Rules.{all_serve}
 use Rattle.rs_derive.proofs.rules.all_serve.Given as goal
 
 abbrev pub invariant-loop-arm : goal.invariant-loop-arm

@@ -8,13 +8,18 @@ use Rattle.rs_documents.proofs.documents.add_derivation.Goals as goal
 
 pub returns-in-Some-clause-err : goal.returns-in-Some-clause-err
 returns-in-Some-clause-err c =
-    repeats_by derivation_parts c.args.bytes.now c.args.at c.args.names.now c.args.derivations.now.items c.in-Some.second c.requires.derivation (sym (rw c.as_slice.ensures.value at c.in-Some.ensures.twice))
+    repeats_by derivation_parts c.args.bytes.now c.args.at c.args.names.now c.args.derivations.now.items c.in-Some.second c.requires.derivation
+    (sym (rw c.as_slice.ensures.value at c.in-Some.ensures.twice))
 
 pub returns-in-Ok-clause-ok : goal.returns-in-Ok-clause-ok
 returns-in-Ok-clause-ok c =
-    added_by derivation_parts of_derivations IsBounded c.args.bytes.now c.args.at c.args.names.now c.read_derivation.new.names c.args.derivations.now.items c.put.new.parts.items c.in-Ok.derivation c.in-Ok.next (c.put.ensures ∙ ap (λ (d : Derivation_data). slice_set c.args.derivations.now.items d.role.0 (Some c.in-Ok.derivation)) c.derivation.view_is) c.requires.names c.requires.held c.requires.derivation
-    (sym (rw c.as_slice.ensures.value at c.in_default.ensures.twice)) c.in-Ok.ensures.ok c.in-Ok.ensures.sound c.in-Ok.ensures.roles c.in-Ok.ensures.labels (record { bound = c.in-Ok.ensures.printable.bound; few = c.in-Ok.ensures.printable.nodes }) c.in-Ok.ensures.within
+    added_by derivation_parts of_derivations IsBounded c.args.bytes.now c.args.at c.args.names.now c.read_derivation.new.names c.args.derivations.now.items c.put.new.parts.items c.in-Ok.derivation
+    c.in-Ok.next (c.put.ensures ∙ ap (λ (d : Derivation_data). slice_set c.args.derivations.now.items d.role.0 (Some c.in-Ok.derivation)) c.derivation.view_is) c.requires.names c.requires.held
+    c.requires.derivation
+    (sym (rw c.as_slice.ensures.value at c.in_default.ensures.twice)) c.in-Ok.ensures.ok.spells c.in-Ok.ensures.names c.in-Ok.ensures.kept.roles
+    (record { bound = c.in-Ok.ensures.ok.printable.bound; bounded = c.in-Ok.ensures.ok.printable.nodes }) c.in-Ok.ensures.ok.within
 
 pub returns-in-Err-clause-err : goal.returns-in-Err-clause-err
 returns-in-Err-clause-err c =
-    fails derivation_parts c.args.bytes.now c.args.at c.args.names.now c.args.derivations.now.items c.in-Err.fault c.requires.derivation (sym (rw c.as_slice.ensures.value at c.in_default.ensures.twice)) c.in-Err.ensures.err
+    fails derivation_parts c.args.bytes.now c.args.at c.args.names.now c.args.derivations.now.items c.in-Err.fault c.requires.derivation
+    (sym (rw c.as_slice.ensures.value at c.in_default.ensures.twice)) c.in-Err.ensures.err.fault

@@ -6,4 +6,5 @@ push_own-requires-clause-shown c = own_shown c.args.names.now c.args.machines.no
 
 pub loop-own-preserved : goal.loop-own-preserved
 loop-own-preserved c =
-    next_behind c.args.names.now c.args.machines.now c.loop-own.own-index c.own-item.result c.args.text.now c.loop-own.text c.push_own.new.text c.loop-own-test.true c.own-item.is c.loop-own.invariant c.in_ok-push_own.ensures
+    next_behind c.args.names.now c.args.machines.now c.loop-own.own-index c.own-item.result c.args.text.now c.loop-own.text c.push_own.new.text c.loop-own-test.true c.own-item.is
+    c.loop-own.invariant c.in_ok-push_own.ensures

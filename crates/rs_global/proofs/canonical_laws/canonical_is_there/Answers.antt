@@ -1,4 +1,4 @@
-use Rattle.rs_global.proofs.Existence as proof
+use Rattle.rs_global.proofs.Canonical as proof
 use Rattle.rs_global.proofs.canonical_laws.canonical_is_there.Goals as goal
 
 pub returns : goal.returns

@@ -1,4 +1,4 @@
-use Rattle.rs_global.proofs.CanonOne as proof
+use Rattle.rs_global.proofs.Canonical as proof
 use Rattle.rs_global.proofs.canonical_laws.canonical_text_is_one.Goals as goal
 
 pub returns : goal.returns

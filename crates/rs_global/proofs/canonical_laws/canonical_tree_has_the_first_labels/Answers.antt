@@ -1,5 +1,5 @@
-use Rattle.rs_global.proofs.CanonWhole as proof
+use Rattle.rs_global.proofs.Canonical.{written}
 use Rattle.rs_global.proofs.canonical_laws.canonical_tree_has_the_first_labels.Goals as goal
 
 pub returns : goal.returns
-returns c = proof.canonical_tree_has_the_first_labels
+returns c = λ names protocol tree shaped sound enough canonical. (written names protocol tree shaped sound enough canonical).names_are

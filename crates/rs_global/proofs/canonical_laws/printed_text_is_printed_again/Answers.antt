@@ -1,4 +1,4 @@
-use Rattle.rs_global.proofs.CanonWhole as proof
+use Rattle.rs_global.proofs.Canonical as proof
 use Rattle.rs_global.proofs.canonical_laws.printed_text_is_printed_again.Goals as goal
 
 pub returns : goal.returns

@@ -1,5 +1,7 @@
-use Rattle.rs_global.proofs.Spelt.{spelt_no_fault}
+use Rattle.rs_bodies.proofs.GraphLaws.{spelt_no_fault}
+use Rattle.rs_global.specs.Graph.{no_names}
+use Rattle.rs_global.specs.Kinds.{protocols}
 use Rattle.rs_global.proofs.fault_laws.spelt_text_has_no_fault.Goals as goal
 
 pub returns : goal.returns
-returns c = spelt_no_fault
+returns c = spelt_no_fault protocols no_names

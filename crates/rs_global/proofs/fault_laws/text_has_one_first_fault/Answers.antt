@@ -1,5 +1,7 @@
-use Rattle.rs_global.proofs.Spelt.{one_fault}
+use Rattle.rs_bodies.proofs.OneFault.{one_fault}
+use Rattle.rs_bodies.specs.declared.dialects.Dialect.TheVariants.{Talks}
+use Rattle.rs_global.specs.Graph.{no_names}
 use Rattle.rs_global.proofs.fault_laws.text_has_one_first_fault.Goals as goal
 
 pub returns : goal.returns
-returns c = one_fault
+returns c = one_fault Talks no_names

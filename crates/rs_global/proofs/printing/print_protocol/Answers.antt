@@ -1,5 +1,5 @@
 use Rattle.std.proofs.Common.{rules}
-use Rattle.rs_global.proofs.Existence.{canonical_is_there}
+use Rattle.rs_global.proofs.Canonical.{canonical_is_there}
 use Rattle.rs_global.proofs.Places.{spelt}
 use Rattle.rs_global.proofs.Printed.{canonical_text}
 use Rattle.rs_global.proofs.printing.print_protocol.Goals as goal

@@ -1,4 +1,4 @@
-use Rattle.rs_global.proofs.EnoughNames.{spelt_enough}
+use Rattle.rs_global.proofs.Canonical.{spelt_enough}
 use Rattle.rs_global.proofs.printing_laws.spelt_names_are_enough.Goals as goal
 
 pub returns : goal.returns

@@ -18,6 +18,8 @@ add_edge-requires-clause-target c =
 pub loop-i-preserved : goal.loop-i-preserved
 loop-i-preserved c =
     let w = c.requires.within (slice_index_or c.args.row.now c.loop-i.i 0) (place_in c.args.row.now c.loop-i.i c.loop-i-test.true) in
-    let is : slice_get c.args.row.now c.loop-i.i ≡ Some (slice_index_or c.args.row.now c.loop-i.i 0) = reads_at c.args.row.now c.loop-i.i (slice_index_or c.args.row.now c.loop-i.i 0) 0 c.loop-i-test.true refl in
-    any_on c.args.graph.now c.loop-i.graph c.add_move.new.self c.add_edge.new.self c.args.node c.loop-i.i (slice_index_or c.args.row.now c.loop-i.i 0) c.in_ok-place.place c.args.row.now c.requires.there w is c.loop-i.invariant
+    let is : slice_get c.args.row.now c.loop-i.i ≡ Some (slice_index_or c.args.row.now c.loop-i.i 0)
+    = reads_at c.args.row.now c.loop-i.i (slice_index_or c.args.row.now c.loop-i.i 0) 0 c.loop-i-test.true refl in
+    any_on c.args.graph.now c.loop-i.graph c.add_move.new.self c.add_edge.new.self c.args.node c.loop-i.i
+    (slice_index_or c.args.row.now c.loop-i.i 0) c.in_ok-place.place c.args.row.now c.requires.present w is c.loop-i.invariant
     c.in_ok-place.ensures.outs c.in_ok-place.ensures.intos c.in_ok-place.ensures.place c.in_ok-add_edge.ensures.outs c.in_ok-add_edge.ensures.intos

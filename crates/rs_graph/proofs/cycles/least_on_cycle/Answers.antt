@@ -11,8 +11,15 @@ returns-then-order-rows c = none_on_cycle c.args.rows.now c.args.order.now c.req
 
 pub loop-v-init : goal.loop-v-init
 loop-v-init c =
-    let e = c.in_ok-search.ensures in
-    ((λ k lt h. let bad : ⊥ = omega (arith, lt) in bad), begins c.args.rows.now c.in_ok-search.search.marks.items c.in_ok-search.search.path.items c.in_ok-search.search.edges.items c.in_ok-search.search.parts.items (search rules) e.path e.edges e.parts, e.path)
+    let e = c.in_ok-search.ensures in (
+      (λ k lt h. let bad : ⊥ = omega
+          (arith, lt) in bad),
+      record {
+        searching = begins c.args.rows.now c.in_ok-search.search.marks.items c.in_ok-search.search.path.items c.in_ok-search.search.edges.items c.in_ok-search.search.parts.items (search rules)
+            e.path e.edges e.parts;
+        none = e.path;
+      },
+    )
 
 pub returns-then-branch : goal.returns-then-branch
 returns-then-branch c = record { cycle = c.in_ok-is_on_cycle.ensures.yes c.if-branch.true; least = λ k h. elim (cases_lt k c.loop-v.v) [ inl a ↦ absurd (c.loop-v.invariant.0 k a h) | inr a ↦ a ] }
@@ -23,8 +30,7 @@ loop-v-preserved c = (
     | inl a ↦ c.loop-v.invariant.0 k a h
     | inr a ↦ (let e : k ≡ c.loop-v.v = omega arith in c.in_ok-is_on_cycle.ensures.no c.if-branch.false (subst (λ (z : ℕ). IsOnCycle (Edge c.args.rows.now) z) e h))
   ]),
-  c.in_ok-is_on_cycle.ensures.searching,
-  c.in_ok-is_on_cycle.ensures.none,
+  c.in_ok-is_on_cycle.ensures.resting,
 )
 
 pub returns : goal.returns

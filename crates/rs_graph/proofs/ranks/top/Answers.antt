@@ -22,4 +22,4 @@ returns-clause-fits c = topped_all c.args.row.now c.args.ranks.now c.loop-i.rank
 pub overflow_add-ranks : goal.overflow_add-ranks
 overflow_add-ranks c =
     let l = c.requires.low (slice_index_or c.args.row.now c.loop-i.i 0) (place_in c.args.row.now c.loop-i.i c.loop-i-test.true) in
-    grind (arith, l, c.requires.few)
+    grind (arith, l, c.requires.bounded)

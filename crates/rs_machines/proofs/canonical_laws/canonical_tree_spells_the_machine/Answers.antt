@@ -1,5 +1,5 @@
-use Rattle.rs_machines.proofs.CanonWhole as proof
+use Rattle.rs_machines.proofs.Canonical.{written}
 use Rattle.rs_machines.proofs.canonical_laws.canonical_tree_spells_the_machine.Goals as goal
 
 pub returns : goal.returns
-returns c = proof.canonical_tree_spells_the_machine
+returns c = λ names machine tree shaped sound enough canonical. (written names machine tree shaped sound enough canonical).graph_is

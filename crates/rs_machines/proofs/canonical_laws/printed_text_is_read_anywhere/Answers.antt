@@ -1,4 +1,4 @@
-use Rattle.rs_machines.proofs.CanonWhole as proof
+use Rattle.rs_machines.proofs.Canonical as proof
 use Rattle.rs_machines.proofs.canonical_laws.printed_text_is_read_anywhere.Goals as goal
 
 pub returns : goal.returns

@@ -1,5 +1,6 @@
-use Rattle.rs_machines.proofs.Spelt.{an_answer}
+use Rattle.rs_bodies.proofs.GraphLaws.{an_answer}
+use Rattle.rs_machines.specs.Kinds.{machines}
 use Rattle.rs_machines.proofs.laws.has_an_answer.Goals as goal
 
 pub returns : goal.returns
-returns c = an_answer
+returns c = an_answer machines

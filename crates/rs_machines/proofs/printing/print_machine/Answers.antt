@@ -1,5 +1,5 @@
 use Rattle.std.proofs.Common.{rules}
-use Rattle.rs_machines.proofs.Existence.{canonical_is_there}
+use Rattle.rs_machines.proofs.Canonical.{canonical_is_there}
 use Rattle.rs_machines.proofs.Places.{spelt}
 use Rattle.rs_machines.proofs.Printed.{canonical_text}
 use Rattle.rs_machines.proofs.printing.print_machine.Goals as goal

@@ -55,8 +55,8 @@ close-closed-requires-clause-of g c =
     subst (AreAll (IsEnded c.args.session)) (sym (c.ended_of.ensures ∙ ap (map sight_of_stage) c.parts_of-stages.ensures.stages))
     (subst (λ (s : Rings_data). AreAll (IsEnded s) (map sight_of_stage (stages_of jobs))) (sym c.requires.session) all)
 
-pub close-closed-requires-clause-there : goal.close-closed-requires-clause-there
-close-closed-requires-clause-there g c =
+pub close-closed-requires-clause-present : goal.close-closed-requires-clause-present
+close-closed-requires-clause-present g c =
     let b = g.A.Actor.behaviour in let start = g.N.StartName.start in let n = length c.args.session.machines in let jobs = c.args.jobs.items in
     subst (AreAllThere n) (sym (c.ended_of.ensures ∙ ap (map sight_of_stage) c.parts_of-stages.ensures.stages))
     (all_there b start n jobs c.requires.collected.count (fits_at b start n jobs c.requires.collected) (ap (λ (s : Rings_data). length s.machines) c.requires.session))
@@ -69,8 +69,12 @@ returns-in-None-Some g c =
     let none = none_at progress.Refused jobs (ap (first_with progress.Refused 0) (sym c.as_slice.ensures.value) ∙ sym c.first_with-refused.ensures ∙ c.in-None-Some.is-0) in
     let knows = subst (λ (l : List Stage). KnowsFrom (map sight_of_stage l) closed) parts.stages c.abandon-closed.ensures.knows in
     let so = session_stopped b start n jobs c.requires.collected.count (fits_at b start n jobs c.requires.collected) (ap (λ (s : Rings_data). length s.machines) c.requires.session)
-    closed (c.abandon-closed.ensures.machines ∙ ap (λ (s : Rings_data). s.machines) c.requires.session) knows (record { 0 = c.in-None-Some.role }) one.0 one.1 one.2 none parts.same c.abandon-closed.ensures.left in
-    record { session = subst (λ (l : List g.row.A.Denot). IsSessionOfRun start.session.machines b start.given start.limit closed (outcome.Stopped (record { 0 = c.in-None-Some.role })) l) (sym parts.actors) so }
+    closed (c.abandon-closed.ensures.machines ∙ ap (λ (s : Rings_data). s.machines) c.requires.session) knows
+    (record { 0 = c.in-None-Some.role }) one.0 one.1 one.2 none parts.same c.abandon-closed.ensures.left in
+    record {
+      session = subst (λ (l : List g.row.A.Denot). IsSessionOfRun start.session.machines b start.given start.limit closed (outcome.Stopped (record { 0 = c.in-None-Some.role })) l)
+          (sym parts.actors) so;
+    }
 
 pub returns-in-None-None : goal.returns-in-None-None
 returns-in-None-None g c =

@@ -13,7 +13,8 @@ pub abandon-requires-clause-of : goal.abandon-requires-clause-of
 abandon-requires-clause-of g c = subst (AreOf c.args.session) (sym c.in-Err.ensures.back) (first_of c.args.session c.args.stages.items c.requires.first)
 
 pub abandon-requires-clause-each : goal.abandon-requires-clause-each
-abandon-requires-clause-each g c = subst (λ (l : List Stage). AreAllThere (length c.args.session.machines) (map sight_of_stage l)) (sym c.in-Err.ensures.back) (first_there c.args.session c.args.stages.items c.requires.first)
+abandon-requires-clause-each g c =
+    subst (λ (l : List Stage). AreAllThere (length c.args.session.machines) (map sight_of_stage l)) (sym c.in-Err.ensures.back) (first_there c.args.session c.args.stages.items c.requires.first)
 
 pub run_as-requires-clause-begun : goal.run_as-requires-clause-begun
 run_as-requires-clause-begun g c κs within =

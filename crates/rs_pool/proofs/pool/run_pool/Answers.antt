@@ -11,10 +11,11 @@ use Rattle.rs_pool.proofs.pool.run_pool.Goals as goal
 
 pub returns-in-Ok-clause-plain : goal.returns-in-Ok-clause-plain
 returns-in-Ok-clause-plain g c =
-    let b = g.A.Actor.behaviour in let well : ChoosesWell b = (g.met.A.Actor g.world.𝓛 g.world.𝓜 g.world.𝓡 ((λ s z. z), (λ z. z), (λ z. z), (λ z. z))).chooses_well in let ms = c.args.accepted.now.machines in let actors = c.args.actors.items in let accepted = c.machines-roles.ensures.session in
+    let b = g.A.Actor.behaviour in let well : ChoosesWell b = (g.met.A.Actor g.world.𝓛 g.world.𝓜 g.world.𝓡
+    ((λ s z. z), (λ z. z), (λ z. z), (λ z. z))).chooses_well in let ms = c.args.accepted.now.machines in let actors = c.args.actors.items in let accepted = c.machines-roles.ensures.session in
     IfOk-weaker c.play.result
     (λ (ran : Ran g.row.A.Denot). IsSessionOfRun c.in-Ok.session.machines b actors c.args.limit ran.closed ran.run.outcome ran.run.actors.items)
     (λ (ran : Ran g.row.A.Denot). (given : ℕ → g.row.A.Denot) → IsGiven given actors → AgreesWithPlain ms b given c.args.limit ran.run.outcome ran.run.actors.items)
-    (λ (ran : Ran g.row.A.Denot) s given is. agrees b well ms accepted.safe accepted.is.machines_fit actors ran.run.actors.items c.args.limit ran.closed ran.run.outcome
+    (λ (ran : Ran g.row.A.Denot) s given is. agrees b well ms accepted.safe accepted.is_session.machines_fit actors ran.run.actors.items c.args.limit ran.closed ran.run.outcome
     (subst (λ (l : List Machine_data). IsSessionOfRun l b actors c.args.limit ran.closed ran.run.outcome ran.run.actors.items) c.in-Ok.ensures.machines s) c.requires.actors given is)
     c.play.ensures.session

@@ -10,9 +10,11 @@ use Rattle.rs_pool.proofs.vectors.jobs_of.Goals as goal
 pub loop-stage-preserved : goal.loop-stage-preserved
 loop-stage-preserved g c =
     let e = c.in-Ok-new.ensures.task in let job : Job g.row.A.Denot = record { task = c.in-Ok-new.task; progress = Underway } in let old = c.loop-stage.jobs.items in (
-      moves_back (λ (j : Job g.row.A.Denot). j.task.stage) c.loop-stage.stages.items c.pop.new.self.items old c.put.new.list.items job c.in-Some.stage c.args.stages.items c.loop-stage.invariant.0 c.in-Some.ensures.items
+      moves_back (λ (j : Job g.row.A.Denot). j.task.stage) c.loop-stage.stages.items c.pop.new.self.items old c.put.new.list.items job c.in-Some.stage c.args.stages.items c.loop-stage.invariant.0
+          c.in-Some.ensures.items
           (sym (ap (λ (t : Task_data g.row.A.Denot). t.stage) e)) c.put.ensures.items,
-      moves_back (λ (j : Job g.row.A.Denot). j.task.actor) c.loop-stage.actors.items c.pop-in-Some.new.self.items old c.put.new.list.items job c.in-Some-pop.actor c.args.actors.items c.loop-stage.invariant.1 c.in-Some-pop.ensures.items
+      moves_back (λ (j : Job g.row.A.Denot). j.task.actor) c.loop-stage.actors.items c.pop-in-Some.new.self.items old c.put.new.list.items job c.in-Some-pop.actor c.args.actors.items
+          c.loop-stage.invariant.1 c.in-Some-pop.ensures.items
           (sym (ap (λ (t : Task_data g.row.A.Denot). t.actor) e)) c.put.ensures.items,
       search rules,
       search rules,

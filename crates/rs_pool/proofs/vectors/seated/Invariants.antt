@@ -2,7 +2,8 @@ use Rattle.std.proofs.Common.{◌≡◌, ◌+◌, ◌≤◌, ◌++◌, map, reve
 use Rattle.rs_pool.proofs.vectors.seated.Given as goal
 
 abbrev pub invariant-loop-job : goal.invariant-loop-job
-invariant-loop-job g l = (l.slots.items ++ map Some (reverse l.jobs.items) ≡ map Some l.fn.jobs.items) × (vec_len l.slots + vec_len l.jobs ≤ vec_capacity l.slots) × (vec_capacity l.fn.jobs ≤ vec_capacity l.jobs)
+invariant-loop-job g l =
+    (l.slots.items ++ map Some (reverse l.jobs.items) ≡ map Some l.fn.jobs.items) × (vec_len l.slots + vec_len l.jobs ≤ vec_capacity l.slots) × (vec_capacity l.fn.jobs ≤ vec_capacity l.jobs)
 
 abbrev pub decreases-loop-job : goal.decreases-loop-job
 decreases-loop-job g l = vec_len l.jobs

@@ -1,6 +1,6 @@
 use Rattle.std.proofs.Common.{arith}
-use Rattle.rs_project.proofs.Agreeing.{all-more, all-all}
-use Rattle.rs_project.proofs.Notes.{noted-none}
+use Rattle.rs_project.proofs.Agreeing.{all_more, all_all}
+use Rattle.rs_project.proofs.Notes.{noted_none}
 use Rattle.rs_project.proofs.clashes.talk_clash.Goals as goal
 
 pub loop-later-init : goal.loop-later-init
@@ -8,9 +8,9 @@ loop-later-init c = record { agree = λ h k lt none. absurd (omega (arith, none)
 
 pub loop-later-preserved : goal.loop-later-preserved
 loop-later-preserved c = record {
-  agree = all-more c.args.protocol.now c.args.role c.args.talks.now c.loop-later.later c.loop-later.invariant.agree (noted-none c.clash_at.result _ _ c.in_default.is c.clash_at.ensures.clash);
+  agree = all_more c.args.protocol.now c.args.role c.args.talks.now c.loop-later.later c.loop-later.invariant.agree (noted_none c.clash_at.result _ _ c.in_default.is c.clash_at.ensures.clash);
   noted = c.clash_at.ensures.noted;
 }
 
 pub returns : goal.returns
-returns c = all-all c.args.protocol.now c.args.role c.args.talks.now c.loop-later.later c.loop-later-test.false c.loop-later.invariant.agree
+returns c = all_all c.args.protocol.now c.args.role c.args.talks.now c.loop-later.later c.loop-later-test.false c.loop-later.invariant.agree

@@ -1,5 +1,5 @@
 use Rattle.std.proofs.Common.{◌≡◌, ℕ, ◌≤◌, Some, length, slice_get}
-use Rattle.rs_project.specs.Filing.{IsChained}
+use Rattle.rs_model.specs.Chains.{IsChained}
 use Rattle.rs_project.proofs.filing.number_along.Given as goal
 
 abbrev pub invariant-loop-left : goal.invariant-loop-left

@@ -2,9 +2,9 @@ use Rattle.std.proofs.Common.{◌∷◌, [], List, refl, subst}
 use Rattle.rs_project.specs.Numbered.{nexts_of}
 use Rattle.rs_project.specs.Projection.{LabelChoice, merged_choices}
 use Rattle.rs_project.specs.Working.{ArmsFault, Discovers}
-use Rattle.rs_project.proofs.Behind.{fault-behind, finds-behind}
-use Rattle.rs_project.proofs.Handed.{handed-on}
-use Rattle.rs_project.proofs.Numbers.{discovers-none, arm-more, arms-fault}
+use Rattle.rs_project.proofs.Behind.{fault_behind, finds_behind}
+use Rattle.rs_project.proofs.Handed.{handed_on}
+use Rattle.rs_project.proofs.Numbers.{discovers_none, arm_more, arms_fault}
 use Rattle.rs_project.proofs.finding.only_arm.Goals as goal
 
 pub returns-in_err-next-clause-err : goal.returns-in_err-next-clause-err
@@ -16,11 +16,11 @@ returns-in_err-next-clause-err c =
     let e = c.in_err-next.field-0.0 in
     let talks = c.args.talk ∷ [] in
     let Q : List LabelChoice → Type 0 = λ z. ArmsFault pr role fronts talks z e in
-    handed-on c.from_residual.result e (λ e. ArmsFault pr role fronts talks (merged_choices pr talks) e)
+    handed_on c.from_residual.result e (λ e. ArmsFault pr role fronts talks (merged_choices pr talks) e)
     c.from_residual.ensures.1
-    (subst Q c.requires.choice
-    (arms-fault pr role fronts fronts talks (a ∷ []) 0 a [] refl (discovers-none pr role fronts talks c.requires.found) e
-    (fault-behind pr role fronts talks a.label (a.next ∷ []) c.requires.starts e c.in_err-next.ensures.err)))
+    (subst Q c.requires.only.alone
+    (arms_fault pr role fronts fronts talks (a ∷ []) 0 a [] refl (discovers_none pr role fronts talks c.requires.found) e
+    (fault_behind pr role fronts talks a.label (a.next ∷ []) c.requires.only.starts e c.in_err-next.ensures.err)))
 
 pub returns-clause-ok : goal.returns-clause-ok
 returns-clause-ok c =
@@ -32,7 +32,7 @@ returns-clause-ok c =
     let n = c.in_ok-next.next in
     let talks = c.args.talk ∷ [] in
     let Q : List LabelChoice → Type 0 = λ z. Discovers pr role fronts talks z new (nexts_of c.of_one.result) in
-    subst Q c.requires.choice
-    (arm-more pr role c.args.search.now.survey fronts fronts new talks (a ∷ []) 0 a [] c.of_one.result n c.requires.survey c.requires.choice refl c.of_one.ensures
-    (discovers-none pr role fronts talks c.requires.found)
-    (finds-behind pr role fronts talks a.label (a.next ∷ []) new n c.requires.starts c.in_ok-next.ensures.ok))
+    subst Q c.requires.only.alone
+    (arm_more pr role c.args.search.now.survey fronts fronts new talks (a ∷ []) 0 a [] c.of_one.result n c.requires.survey c.requires.only.alone refl c.of_one.ensures
+    (discovers_none pr role fronts talks c.requires.found)
+    (finds_behind pr role fronts talks a.label (a.next ∷ []) new n c.requires.only.starts c.in_ok-next.ensures.ok))

@@ -1,5 +1,5 @@
-use Rattle.rs_project.proofs.Machines.{projection-machine}
+use Rattle.rs_project.proofs.Machines.{projection_machine}
 use Rattle.rs_project.proofs.laws.projections_are_well_formed.Goals as goal
 
 pub returns : goal.returns
-returns c = projection-machine
+returns c = projection_machine

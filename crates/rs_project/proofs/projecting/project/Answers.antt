@@ -4,7 +4,7 @@ use Rattle.rs_model.specs.declared.graph.Role.{Role}
 use Rattle.rs_project.specs.Graph.{IsUnreached}
 use Rattle.rs_project.specs.Refusals.{NoneUnreached}
 use Rattle.rs_project.specs.Numbered.{IsNumberedProjection}
-use Rattle.rs_project.proofs.Machines.{projection-machine}
+use Rattle.rs_project.proofs.Machines.{projection_machine}
 use Rattle.rs_project.proofs.projecting.project.Goals as goal
 
 pub returns-in-Some-clause-err : goal.returns-in-Some-clause-err
@@ -24,10 +24,10 @@ pub returns-clause-machine : goal.returns-clause-machine
 returns-clause-machine c =
     let P : Protocol_data → Role → Type 0 = λ y z. IsNumberedProjection y z c.in_ok-projection.projection in
     let h = subst₂ P c.in_ok-survey.ensures.protocol c.in_ok-survey.ensures.role c.in_ok-projection.ensures.ok in
-    projection-machine c.args.protocol.now c.args.role c.in_ok-projection.projection c.requires.well_formed c.requires.role h.is
+    projection_machine c.args.protocol.now c.args.role c.in_ok-projection.projection c.requires.well_formed c.requires.role h.is_projection
 
-pub returns-clause-few : goal.returns-clause-few
-returns-clause-few c =
-    let f = c.in_ok-projection.ensures.ok.few in
-    let a = c.in_ok-projection.ensures.ok.is.all in
+pub returns-clause-bounded : goal.returns-clause-bounded
+returns-clause-bounded c =
+    let f = c.in_ok-projection.ensures.ok.bounded in
+    let a = c.in_ok-projection.ensures.ok.is_projection.all in
     omega arith

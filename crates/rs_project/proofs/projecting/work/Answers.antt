@@ -9,9 +9,9 @@ use Rattle.rs_project.specs.Numbered.{IsNumberedProjection}
 use Rattle.rs_project.specs.Working.{FaultFrom, FindsFrom, WorksOn, StateFault}
 use Rattle.rs_project.specs.Refusals.{FirstRefusal}
 use Rattle.rs_project.specs.declared.projecting.ProjFault.TheVariants.{NoMemory}
-use Rattle.rs_project.proofs.Found.{first-fault, working-found}
-use Rattle.rs_project.proofs.Handed.{handed-on}
-use Rattle.rs_project.proofs.Steps.{working-on, work-fault, working-done}
+use Rattle.rs_project.proofs.Found.{first_fault, working_found}
+use Rattle.rs_project.proofs.Handed.{handed_on}
+use Rattle.rs_project.proofs.Steps.{working_on, work_fault, working_done}
 use Rattle.rs_project.proofs.projecting.work.Goals as goal
 
 pub find_from-requires : goal.find_from-requires
@@ -27,8 +27,8 @@ returns-in_err-_first-clause-err c =
     let role = c.args.survey.now.role in
     let e = c.in_err-_first.field-0.0 in
     let F : Survey_data → Type 0 = λ z. FaultFrom z.protocol z.role c.in_ok-search.search.fronts (c.protocol.inside.root ∷ []) e in
-    handed-on c.from_residual-in_err-_first.result e (λ e. (e ≡ NoMemory) ⊎ FirstRefusal pr role e) c.from_residual-in_err-_first.ensures.1
-    (first-fault pr role c.in_ok-search.search.fronts (c.protocol.inside.root ∷ []) c.in_ok-search.ensures.none e (subst F c.in_ok-search.ensures.survey c.in_err-_first.ensures.err))
+    handed_on c.from_residual-in_err-_first.result e (λ e. (e ≡ NoMemory) ⊎ FirstRefusal pr role e) c.from_residual-in_err-_first.ensures.1
+    (first_fault pr role c.in_ok-search.search.fronts (c.protocol.inside.root ∷ []) c.in_ok-search.ensures.none e (subst F c.in_ok-search.ensures.survey c.in_err-_first.ensures.err))
 
 pub loop-search-init : goal.loop-search-init
 loop-search-init c =
@@ -38,7 +38,8 @@ loop-search-init c =
     let F : Survey_data → Type 0 = λ z. FindsFrom z.protocol z.role c.in_ok-search.search.fronts (c.protocol.inside.root ∷ []) new c.in_ok-_first._first in
     record {
       survey = c.find_from.ensures.survey ∙ c.in_ok-search.ensures.survey;
-      working = working-found c.args.survey.now.protocol c.args.survey.now.role c.args.survey.now c.in_ok-search.search.fronts new c.in_ok-states.states.items c.protocol.inside.root c.in_ok-_first._first
+      working = working_found c.args.survey.now.protocol c.args.survey.now.role c.args.survey.now c.in_ok-search.search.fronts new c.in_ok-states.states.items c.protocol.inside.root
+          c.in_ok-_first._first
           known.survey er c.in_ok-search.ensures.none c.in_ok-states.ensures.items (subst F c.in_ok-search.ensures.survey c.in_ok-_first.ensures.ok);
     }
 
@@ -49,8 +50,9 @@ returns-in_err-state-clause-err c =
     let e = c.in_err-state.field-0.0 in
     let n : c.len-in-loop-search-2.result ≡ length c.loop-search.states.items = search rules in
     let P : ℕ → Survey_data → Type 0 = λ y z. StateFault z.protocol z.role c.loop-search.search.fronts y e in
-    handed-on c.from_residual-in_err-state.result e (λ e. (e ≡ NoMemory) ⊎ FirstRefusal pr role e) c.from_residual-in_err-state.ensures.1
-    (work-fault pr role c.loop-search.search.fronts c.loop-search.states.items c.requires.reached c.loop-search.invariant.working e (subst₂ P n c.loop-search.invariant.survey c.in_err-state.ensures.err))
+    handed_on c.from_residual-in_err-state.result e (λ e. (e ≡ NoMemory) ⊎ FirstRefusal pr role e) c.from_residual-in_err-state.ensures.1
+    (work_fault pr role c.loop-search.search.fronts c.loop-search.states.items c.requires.reached c.loop-search.invariant.working e
+    (subst₂ P n c.loop-search.invariant.survey c.in_err-state.ensures.err))
 
 pub loop-search-preserved : goal.loop-search-preserved
 loop-search-preserved c =
@@ -59,7 +61,7 @@ loop-search-preserved c =
     let P : ℕ → Survey_data → Type 0 = λ y z. WorksOn z.protocol z.role c.loop-search.search.fronts y new c.in_ok-state.state in
     record {
       survey = c.state_of.ensures.survey ∙ c.loop-search.invariant.survey;
-      working = working-on c.args.survey.now.protocol c.args.survey.now.role c.loop-search.search.fronts new c.loop-search.states.items c.push_reserved.new.self.items c.in_ok-state.state
+      working = working_on c.args.survey.now.protocol c.args.survey.now.role c.loop-search.search.fronts new c.loop-search.states.items c.push_reserved.new.self.items c.in_ok-state.state
           (c.push_reserved.ensures.items ∙ ap (λ (z : List State). z ++ c.in_ok-state.state ∷ []) c.in_ok-reserve.ensures.items) c.loop-search.invariant.working
           (subst₂ P n c.loop-search.invariant.survey c.in_ok-state.ensures.ok);
     }
@@ -69,10 +71,10 @@ returns-clause-ok c =
     let fronts = c.loop-search.search.fronts in
     let states = c.loop-search.states.items in
     let a : c.len.result ≡ length states = search rules in
-    let b : c.len-in-loop-search.result ≡ length fronts = c.len-in-loop-search.ensures.is in
+    let b : c.len-in-loop-search.result ≡ length fronts = c.len-in-loop-search.ensures.count in
     let le : length fronts ≤ length states = (let f = c.loop-search-test.false in omega (arith, a, b, f)) in
     let sets : List (List ℕ) = map (λ (s : Vec ℕ Global). s.items) c.in_ok-sets.sets.items in
     let P : Role → Type 0 = λ z. IsNumberedProjection c.args.survey.now.protocol c.args.survey.now.role record { machine = record { role = z; states = states; start = 0 }; sets = sets } in
     subst P (sym (ap (λ (z : Survey_data). z.role) c.survey.view_is))
-    (working-done c.args.survey.now.protocol c.args.survey.now.role fronts states sets c.requires.reached c.loop-search.invariant.working le
+    (working_done c.args.survey.now.protocol c.args.survey.now.role fronts states sets c.requires.reached c.loop-search.invariant.working le
     (c.in_ok-sets.ensures ∙ ap (λ (z : List Front_data). map (λ (f : Front_data). f.talks) z) c.into_fronts.ensures))

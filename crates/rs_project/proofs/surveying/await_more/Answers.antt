@@ -3,10 +3,8 @@ use Rattle.rs_project.proofs.surveying.await_more.Goals as goal
 
 pub loop-left-preserved-then-await_one : goal.loop-left-preserved-then-await_one
 loop-left-preserved-then-await_one c = record {
-  few = (let f = c.loop-left.invariant.few in omega arith);
-  size = c.await_one.ensures.size;
-  passing_size = c.await_one.ensures.passing_size;
-  ends_size = c.await_one.ensures.ends_size;
+  bounded = (let f = c.loop-left.invariant.bounded in omega arith);
+  sizes = c.await_one.ensures.sizes;
   marked = λ role involved m. c.await_one.ensures.marked role involved (c.loop-left.invariant.marked role involved m);
   less = search rules;
   same = search rules;
@@ -15,10 +13,8 @@ loop-left-preserved-then-await_one c = record {
 
 pub loop-left-preserved : goal.loop-left-preserved
 loop-left-preserved c = record {
-  few = (let f = c.loop-left.invariant.few in omega arith);
-  size = c.await_one.ensures.size;
-  passing_size = c.await_one.ensures.passing_size;
-  ends_size = c.await_one.ensures.ends_size;
+  bounded = (let f = c.loop-left.invariant.bounded in omega arith);
+  sizes = c.await_one.ensures.sizes;
   marked = λ role involved m. c.await_one.ensures.marked role involved (c.loop-left.invariant.marked role involved m);
   less = search rules;
   same = search rules;

@@ -1,16 +1,15 @@
 use Rattle.std.proofs.Common.{◌≡◌, ℕ, ◌<◌, ◌≤◌, Bool, List, true, false, length, Some, slice_get}
 use Rattle.rs_model.specs.declared.graph.Node.{Node}
 use Rattle.rs_model.specs.declared.graph.Role.{Role}
-use Rattle.rs_project.specs.Marks.{AreMarked, IsOn, leads_on, count_of_lowered}
+use Rattle.rs_project.specs.Marks.{AreMarked, HaveNodeSizes, IsOn, leads_on, count_of_lowered}
 use Rattle.rs_project.proofs.surveying.await_more.Given as goal
 
 abbrev pub invariant-loop-left : goal.invariant-loop-left
 invariant-loop-left l = record {
-  few : l.left ≤ length l.protocol.nodes;
-  size : length l.awaited.items ≡ length l.protocol.nodes;
-  passing_size : length l.passing.items ≡ length l.protocol.nodes;
-  ends_size : length l.ends.items ≡ length l.protocol.nodes;
-  marked : (role : Role) (involved : List Bool) → AreMarked l.protocol role involved l.fn.awaited.items l.fn.passing.items l.fn.ends.items → AreMarked l.protocol role involved l.awaited.items l.passing.items l.ends.items;
+  bounded : l.left ≤ length l.protocol.nodes;
+  sizes : HaveNodeSizes l.protocol l.awaited.items l.passing.items l.ends.items;
+  marked : (role : Role) (involved : List Bool) → AreMarked l.protocol role involved l.fn.awaited.items l.fn.passing.items l.fn.ends.items
+      → AreMarked l.protocol role involved l.awaited.items l.passing.items l.ends.items;
   less : l.more ≡ true → count_of_lowered l.awaited.items < count_of_lowered l.fn.awaited.items;
   same : l.more ≡ false → l.awaited.items ≡ l.fn.awaited.items;
   settled : l.more ≡ false → (n : ℕ) (node : Node) → l.left ≤ n → slice_get l.protocol.nodes n ≡ Some node → leads_on l.awaited.items node ≡ true → IsOn l.awaited.items n;

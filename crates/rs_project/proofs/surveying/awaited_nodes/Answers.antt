@@ -2,9 +2,7 @@ use Rattle.rs_project.proofs.surveying.awaited_nodes.Goals as goal
 
 pub loop-preserved : goal.loop-preserved
 loop-preserved c = record {
-  size = c.await_more.ensures.size;
-  passing_size = c.await_more.ensures.passing_size;
-  ends_size = c.await_more.ensures.ends_size;
+  sizes = c.await_more.ensures.sizes;
   marked = λ role m. c.await_more.ensures.marked role c.args.involved.now (c.loop.invariant.marked role m);
 }
 

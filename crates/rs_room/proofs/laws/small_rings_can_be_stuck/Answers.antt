@@ -1,9 +1,9 @@
-use Rattle.rs_room.proofs.Crossing.{well-formed, projected, machines, derivations, room}
-use Rattle.rs_room.proofs.StuckCrossing.{can-be-stuck}
+use Rattle.rs_room.proofs.Crossing.{well_formed_shown, projected, machines, derivations, room}
+use Rattle.rs_room.proofs.StuckCrossing.{can_be_stuck}
 use Rattle.rs_room.proofs.laws.small_rings_can_be_stuck.Goals as goal
 
 pub returns-clause-well_formed : goal.returns-clause-well_formed
-returns-clause-well_formed c = well-formed
+returns-clause-well_formed c = well_formed_shown
 
 pub returns-clause-projections : goal.returns-clause-projections
 returns-clause-projections c = projected
@@ -18,4 +18,4 @@ pub returns-clause-room : goal.returns-clause-room
 returns-clause-room c = room
 
 pub returns-clause-stuck : goal.returns-clause-stuck
-returns-clause-stuck c = can-be-stuck
+returns-clause-stuck c = can_be_stuck

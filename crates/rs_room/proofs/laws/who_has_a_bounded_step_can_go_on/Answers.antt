@@ -1,5 +1,5 @@
-use Rattle.rs_room.proofs.Enough.{only-who-can}
+use Rattle.rs_room.proofs.Enough.{only_who_can}
 use Rattle.rs_room.proofs.laws.who_has_a_bounded_step_can_go_on.Goals as goal
 
 pub returns : goal.returns
-returns c = only-who-can
+returns c = only_who_can

@@ -1,8 +1,8 @@
-use Rattle.rs_safety.proofs.Buffering.{well-formed, projected, machines, derivations, other, room}
+use Rattle.rs_safety.proofs.Buffering.{well_formed_shown, projected, machines, derivations, other, room}
 use Rattle.rs_safety.proofs.laws.double_buffering_has_derivations.Goals as goal
 
 pub returns-clause-well_formed : goal.returns-clause-well_formed
-returns-clause-well_formed c = well-formed
+returns-clause-well_formed c = well_formed_shown
 
 pub returns-clause-projections : goal.returns-clause-projections
 returns-clause-projections c = projected

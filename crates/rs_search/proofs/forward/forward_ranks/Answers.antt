@@ -7,7 +7,7 @@ pub loop-number-init : goal.loop-number-init
 loop-number-init c =
     let k = c.known-number.ensures in
     let e : length c.args.table.now.ranks ≡ length c.args.table.now.rows = (let r = k.ranks in let n = c.requires.known in omega arith) in
-    rw k.is (forward_none c.args.keeps.now c.args.table.now.rows c.args.table.now.ranks e, omega arith, refl, refl)
+    rw k.count (forward_none c.args.keeps.now c.args.table.now.rows c.args.table.now.ranks e, omega arith, refl, refl)
 
 pub rank_of-requires-clause-within : goal.rank_of-requires-clause-within
 rank_of-requires-clause-within c = λ j m.

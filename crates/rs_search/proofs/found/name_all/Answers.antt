@@ -1,10 +1,11 @@
 use Rattle.std.proofs.Common.{Option, subst, sym, IfOk, IfSome, OnErr}
 use Rattle.rs_derive.specs.Rules.{RuleFits}
 use Rattle.rs_derive.specs.declared.rules.Rule.{Rule}
-use Rattle.rs_search.specs.Itself.{AreNamed, AreNamedAt, GrowsBy}
+use Rattle.rs_graph.specs.Discovery.{AreNamed}
+use Rattle.rs_graph.proofs.Growth.{named_none}
+use Rattle.rs_search.specs.Itself.{AreNamedAt, GrowsBy}
 use Rattle.rs_search.specs.Turns.{spots_by}
 use Rattle.rs_search.specs.Table.{numbers_of}
-use Rattle.rs_search.proofs.Alike.{named_none}
 use Rattle.rs_search.proofs.found.name_all.Goals as goal
 
 pub returns-in-None-clause-named : goal.returns-in-None-clause-named
@@ -17,8 +18,10 @@ name_by-requires-clause-fits c = λ p e. subst (λ (r : Option Rule). IfSome r (
 
 pub returns-in-Some-clause-named : goal.returns-in-Some-clause-named
 returns-in-Some-clause-named c =
-    subst (λ (r : Option Rule). IfOk c.name_by.result (λ row. AreNamedAt (λ p. spots_by p c.args.arms.now c.args.theirs.now r) c.args.table.now.spots c.args.k c.name_by.new.table.spots (numbers_of row))) (sym c.in-Some.is) c.name_by.ensures.named
+    subst (λ (r : Option Rule). IfOk c.name_by.result
+    (λ row. AreNamedAt (λ p. spots_by p c.args.arms.now c.args.theirs.now r) c.args.table.now.spots c.args.k c.name_by.new.table.spots (numbers_of row))) (sym c.in-Some.is) c.name_by.ensures.named
 
 pub returns-in-Some-clause-grown : goal.returns-in-Some-clause-grown
 returns-in-Some-clause-grown c =
-    subst (λ (r : Option Rule). OnErr c.name_by.result (GrowsBy (λ p. spots_by p c.args.arms.now c.args.theirs.now r) c.args.table.now.spots c.args.k c.name_by.new.table.spots)) (sym c.in-Some.is) c.name_by.ensures.grown
+    subst (λ (r : Option Rule). OnErr c.name_by.result (GrowsBy (λ p. spots_by p c.args.arms.now c.args.theirs.now r) c.args.table.now.spots c.args.k c.name_by.new.table.spots))
+    (sym c.in-Some.is) c.name_by.ensures.grown

@@ -1,7 +1,7 @@
 use Rattle.std.proofs.Common.{[], ◌∷◌, refl}
 use Rattle.rs_derive.specs.Checks.{target_spot}
+use Rattle.rs_graph.proofs.Growth.{named_none, named_push}
 use Rattle.rs_search.specs.Itself.{GrowsBy}
-use Rattle.rs_search.proofs.Alike.{named_none, named_push}
 use Rattle.rs_search.proofs.Naming.{grown_one, on_err}
 use Rattle.rs_search.proofs.found.name_one.Goals as goal
 
@@ -13,5 +13,5 @@ returns-in_err-n-clause-grown c =
 
 pub returns-clause-named : goal.returns-clause-named
 returns-clause-named c = λ p h.
-    let e = c.in_ok-n.ensures in
-    named_push c.args.table.now.spots [] c.args.table.now.spots c.number_of.new.self.spots (target_spot p.pending c.args.target) c.in_ok-n.n [] (c.in_ok-n.n ∷ []) (named_none c.args.table.now.spots) (c.number_of.ensures.adds p h) (e.at p h) e.old e.fresh c.number_of.ensures.longer refl
+    named_push c.args.table.now.spots [] c.args.table.now.spots c.number_of.new.self.spots (target_spot p.pending c.args.target) c.in_ok-n.n [] (c.in_ok-n.n ∷ []) (named_none c.args.table.now.spots)
+    (c.in_ok-n.ensures.named p h) refl

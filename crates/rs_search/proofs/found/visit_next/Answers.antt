@@ -5,11 +5,10 @@ use Rattle.rs_derive.specs.Derivations.{spot_of}
 use Rattle.rs_derive.specs.Moves.{Spot}
 use Rattle.rs_derive.specs.Rules.{RuleFits}
 use Rattle.rs_graph.proofs.Growth.{growing_on, growing_large, map_next, any_next}
-use Rattle.rs_graph.specs.Discovery.{Grown}
+use Rattle.rs_graph.specs.Discovery.{AreNamed, Grown}
 use Rattle.rs_search.specs.Candidates.{start_spot}
-use Rattle.rs_search.specs.Itself.{AreNamed}
-use Rattle.rs_search.specs.Table.{numbers_of}
-use Rattle.rs_search.specs.Turns.{Turn_data, arms_in, has_choice, is_any, is_choosing, is_cut, is_keeping, nexts_within, spots_by, turn_by_code, turn_within}
+use Rattle.rs_search.specs.Table.{StandsWithin, numbers_of}
+use Rattle.rs_search.specs.Turns.{Turn_data, arms_of_state, has_choice, is_any, is_choosing, is_cut, is_keeping, nexts_within, spots_by, turn_by_code, turn_within}
 use Rattle.rs_search.proofs.Staying.{stays_within}
 use Rattle.rs_search.proofs.Verdicts.{candidate_short, names_length, rows_short, to_candidate}
 use Rattle.rs_search.proofs.found.visit_next.Goals as goal
@@ -27,79 +26,107 @@ returns-clause-found c =
     let row = numbers_of c.in-Ok.nexts in
     let es : c.spread.new.self.spots ≡ spots = c.spread.ensures.spots in
     let hk : slice_get spots c.known-k.result ≡ Some p = subst (λ (z : List Spot). slice_get z c.known-k.result ≡ Some p) es c.node-node.ensures in
-    let h : slice_get spots (length rows) ≡ Some p = subst (λ (z : ℕ). slice_get spots z ≡ Some p) (c.known-k.ensures.is ∙ ap (λ (z : List (List ℕ)). length z) c.spread.ensures.rows) hk in
-    let t : turn_by_code p c.arms_in-arms.result.now c.arms_in-theirs.result.now c.turn_within-turn.result ≡ turn_within sub above bound p = c.turn_within-turn.ensures.turn in
+    let h : slice_get spots (length rows) ≡ Some p = subst (λ (z : ℕ). slice_get spots z ≡ Some p) (c.known-k.ensures.count ∙ ap (λ (z : List (List ℕ)). length z) c.spread.ensures.rows) hk in
+    let t : turn_by_code p c.arms_of_state-arms.result.now c.arms_of_state-theirs.result.now c.turn_within-turn.result ≡ turn_within sub above bound p = c.turn_within-turn.ensures.turn in
     let n : AreNamed spots (nexts_within sub above bound p) new row = subst (λ (z : List Spot). AreNamed spots z new row) (ap (λ (u : Turn_data). u.spots) t)
-    (subst (λ (z : List Spot). AreNamed z (spots_by p c.arms_in-arms.result.now c.arms_in-theirs.result.now c.turn_within-turn.result.rule) new row) es (c.in-Ok.ensures.named p c.node-node.ensures)) in
+    (subst (λ (z : List Spot). AreNamed z (spots_by p c.arms_of_state-arms.result.now c.arms_of_state-theirs.result.now c.turn_within-turn.result.rule) new row) es
+    (c.in-Ok.ensures.named p c.node-node.ensures)) in
     let gr = n.grown in
     let many : c.count_of.result ≡ length (nexts_within sub above bound p) = c.count_of.ensures ∙ names_length new row (nexts_within sub above bound p) n.names in
     let chooses : c.has_choice.result ≡ has_choice (turn_within sub above bound p) =
     c.has_choice.ensures ∙ ap (λ (b : Bool). b && not (eqb c.count_of.result 1)) (ap (λ (u : Turn_data). u.any) t) ∙ ap (λ (w : ℕ). (turn_within sub above bound p).any && not (eqb w 1)) many in
     let ep : c.push_row.new.self.spots ≡ new = c.push_row.ensures.spots in
-    let er : c.push_row.new.self.rows ≡ rows ++ row ∷ [] = c.push_row.ensures.rows ∙ ap (λ (z : List ℕ). c.name_all.new.table.rows ++ z ∷ []) c.row_of.ensures ∙ ap (λ (z : List (List ℕ)). z ++ row ∷ []) (c.name_all.ensures.rows ∙ c.spread.ensures.rows) in
+    let er : c.push_row.new.self.rows ≡ rows ++ row ∷ []
+    = c.push_row.ensures.rows ∙ ap (λ (z : List ℕ). c.name_all.new.table.rows ++ z ∷ []) c.row_of.ensures
+    ∙ ap (λ (z : List (List ℕ)). z ++ row ∷ []) (c.name_all.ensures.rows ∙ c.spread.ensures.rows) in
     let m : length (rows ++ row ∷ []) ≡ length rows + 1 = (let l = length-append rows (row ∷ []) in omega arith) in
     rw (ep, er) record {
-      growing = growing_on (nexts_within sub above bound) (start_spot sub above) spots rows p new row i.growing h gr n.names n.numbered n.longer;
-      short = rows_short rows row 65536 c.in-Ok.ensures.short i.short;
-      anys = map_next (is_any sub above bound) spots new (length rows) (length (rows ++ row ∷ [])) p c.args.found.now.anys.items c.push.new.self.items c.turn_within-turn.result.any gr.kept h m i.anys (ap (λ (u : Turn_data). u.any) t) c.in_ok-push.ensures.items;
-      keeps = map_next (is_keeping sub above bound) spots new (length rows) (length (rows ++ row ∷ [])) p c.args.found.now.keeps.items c.push-2.new.self.items c.turn_within-turn.result.keeps gr.kept h m i.keeps (ap (λ (u : Turn_data). u.keeps) t) c.in_ok-push-2.ensures.items;
-      cut = any_next (is_cut sub above bound) spots new (length rows) (length (rows ++ row ∷ [])) p c.args.found.now.cut c.turn_within-turn.result.cut c.either-found.result gr.kept h m i.cut (ap (λ (u : Turn_data). u.cut) t) c.either-found.ensures;
-      choosing = any_next (is_choosing sub above bound) spots new (length rows) (length (rows ++ row ∷ [])) p c.args.found.now.choosing c.has_choice.result c.either-found-2.result gr.kept h m i.choosing chooses c.either-found-2.ensures;
+      growing = growing_on (nexts_within sub above bound) (start_spot sub above) spots rows p new row i.growing h n;
+      noted = record {
+        short = rows_short rows row 65536 c.in-Ok.ensures.short i.noted.short;
+        anys = map_next (is_any sub above bound) spots new (length rows)
+            (length (rows ++ row ∷ [])) p c.args.found.now.anys.items c.push.new.self.items c.turn_within-turn.result.any gr.kept h m i.noted.anys
+            (ap (λ (u : Turn_data). u.any) t) c.in_ok-push.ensures.items;
+        keeps = map_next (is_keeping sub above bound) spots new (length rows)
+            (length (rows ++ row ∷ [])) p c.args.found.now.keeps.items c.push-2.new.self.items c.turn_within-turn.result.keeps gr.kept h m i.noted.keeps
+            (ap (λ (u : Turn_data). u.keeps) t) c.in_ok-push-2.ensures.items;
+        cut = any_next (is_cut sub above bound) spots new (length rows) (length (rows ++ row ∷ [])) p c.args.found.now.cut c.turn_within-turn.result.cut c.either-found.result gr.kept h m i.noted.cut
+            (ap (λ (u : Turn_data). u.cut) t) c.either-found.ensures;
+        choosing = any_next (is_choosing sub above bound) spots new (length rows)
+            (length (rows ++ row ∷ [])) p c.args.found.now.choosing c.has_choice.result c.either-found-2.result gr.kept h m i.noted.choosing chooses c.either-found-2.ensures;
+      };
     }
 
-pub returns-in-Err-clause-large : goal.returns-in-Err-clause-large
-returns-in-Err-clause-large c =
+pub returns-in-Err-clause-limit : goal.returns-in-Err-clause-limit
+returns-in-Err-clause-limit c =
     let p = spot_of c.node-node.result.now in
     let spots = c.args.found.now.table.spots in
     let rows = c.args.found.now.table.rows in
     let new = c.name_all.new.table.spots in
     let es : c.spread.new.self.spots ≡ spots = c.spread.ensures.spots in
     let hk : slice_get spots c.known-k.result ≡ Some p = subst (λ (z : List Spot). slice_get z c.known-k.result ≡ Some p) es c.node-node.ensures in
-    let h : slice_get spots (length rows) ≡ Some p = subst (λ (z : ℕ). slice_get spots z ≡ Some p) (c.known-k.ensures.is ∙ ap (λ (z : List (List ℕ)). length z) c.spread.ensures.rows) hk in
-    let t : turn_by_code p c.arms_in-arms.result.now c.arms_in-theirs.result.now c.turn_within-turn.result ≡ turn_within c.args.sub.now c.args.above.now c.args.bound p = c.turn_within-turn.ensures.turn in
+    let h : slice_get spots (length rows) ≡ Some p = subst (λ (z : ℕ). slice_get spots z ≡ Some p) (c.known-k.ensures.count ∙ ap (λ (z : List (List ℕ)). length z) c.spread.ensures.rows) hk in
+    let t : turn_by_code p c.arms_of_state-arms.result.now c.arms_of_state-theirs.result.now c.turn_within-turn.result ≡ turn_within c.args.sub.now c.args.above.now c.args.bound p
+    = c.turn_within-turn.ensures.turn in
     let gr : Grown spots (nexts_within c.args.sub.now c.args.above.now c.args.bound p) new = subst (λ (z : List Spot). Grown spots z new) (ap (λ (u : Turn_data). u.spots) t)
-    (subst (λ (z : List Spot). Grown z (spots_by p c.arms_in-arms.result.now c.arms_in-theirs.result.now c.turn_within-turn.result.rule) new) es (c.in-Err.ensures.grown p c.node-node.ensures)) in
-    λ e. growing_large (nexts_within c.args.sub.now c.args.above.now c.args.bound) (start_spot c.args.sub.now c.args.above.now) spots rows p c.args.limit new c.requires.found.growing h gr (c.in-Err.ensures.large e)
+    (subst (λ (z : List Spot). Grown z (spots_by p c.arms_of_state-arms.result.now c.arms_of_state-theirs.result.now c.turn_within-turn.result.rule) new) es
+    (c.in-Err.ensures.grown p c.node-node.ensures)) in
+    λ e. growing_large (nexts_within c.args.sub.now c.args.above.now c.args.bound) (start_spot c.args.sub.now c.args.above.now) spots rows p c.args.limit new c.requires.found.growing h gr
+    (c.in-Err.ensures.limit e)
 
 pub turn_within-turn-requires-clause-state : goal.turn_within-turn-requires-clause-state
 turn_within-turn-requires-clause-state c =
     let p = spot_of c.node-node.result.now in
     (stays_within c.args.sub.now c.args.above.now c.args.bound c.requires.ours c.requires.theirs p
-    (to_candidate c.args.sub.now c.args.above.now c.args.bound p (c.requires.found.growing.reached c.known-k.result p (subst (λ (z : List Spot). slice_get z c.known-k.result ≡ Some p) c.spread.ensures.spots c.node-node.ensures)))).state
+    (to_candidate c.args.sub.now c.args.above.now c.args.bound p
+    (c.requires.found.growing.reached c.known-k.result p (subst (λ (z : List Spot). slice_get z c.known-k.result ≡ Some p) c.spread.ensures.spots c.node-node.ensures)))).state
 
-pub turn_within-turn-requires-clause-there : goal.turn_within-turn-requires-clause-there
-turn_within-turn-requires-clause-there c =
+pub turn_within-turn-requires-clause-present : goal.turn_within-turn-requires-clause-present
+turn_within-turn-requires-clause-present c =
     let p = spot_of c.node-node.result.now in
     (stays_within c.args.sub.now c.args.above.now c.args.bound c.requires.ours c.requires.theirs p
-    (to_candidate c.args.sub.now c.args.above.now c.args.bound p (c.requires.found.growing.reached c.known-k.result p (subst (λ (z : List Spot). slice_get z c.known-k.result ≡ Some p) c.spread.ensures.spots c.node-node.ensures)))).there
+    (to_candidate c.args.sub.now c.args.above.now c.args.bound p
+    (c.requires.found.growing.reached c.known-k.result p (subst (λ (z : List Spot). slice_get z c.known-k.result ≡ Some p) c.spread.ensures.spots c.node-node.ensures)))).present
 
 pub turn_within-turn-requires-clause-short : goal.turn_within-turn-requires-clause-short
 turn_within-turn-requires-clause-short c =
     let p = spot_of c.node-node.result.now in
     candidate_short c.args.sub.now c.args.above.now c.args.bound p
-    (to_candidate c.args.sub.now c.args.above.now c.args.bound p (c.requires.found.growing.reached c.known-k.result p (subst (λ (z : List Spot). slice_get z c.known-k.result ≡ Some p) c.spread.ensures.spots c.node-node.ensures)))
+    (to_candidate c.args.sub.now c.args.above.now c.args.bound p
+    (c.requires.found.growing.reached c.known-k.result p (subst (λ (z : List Spot). slice_get z c.known-k.result ≡ Some p) c.spread.ensures.spots c.node-node.ensures)))
 
 pub turn_within-turn-requires-clause-arms : goal.turn_within-turn-requires-clause-arms
-turn_within-turn-requires-clause-arms c = c.arms_in-arms.ensures.arms ∙ ap (λ (z : DNode_data). arms_in c.args.sub.now z.state) c.node.view_is
+turn_within-turn-requires-clause-arms c = c.arms_of_state-arms.ensures.arms ∙ ap (λ (z : DNode_data). arms_of_state c.args.sub.now z.state) c.node.view_is
 
 pub turn_within-turn-requires-clause-theirs : goal.turn_within-turn-requires-clause-theirs
-turn_within-turn-requires-clause-theirs c = c.arms_in-theirs.ensures.arms ∙ ap (λ (z : DNode_data). arms_in c.args.above.now z.above) c.node.view_is
+turn_within-turn-requires-clause-theirs c = c.arms_of_state-theirs.ensures.arms ∙ ap (λ (z : DNode_data). arms_of_state c.args.above.now z.above) c.node.view_is
+
+pub name_all-requires-clause-within : goal.name_all-requires-clause-within
+name_all-requires-clause-within c =
+    let k : c.known-k.result ≡ length c.args.found.now.table.rows = c.known-k.ensures.count ∙ ap (λ (z : List (List ℕ)). length z) c.spread.ensures.rows in
+    subst (λ (z : List Spot). StandsWithin z c.known-k.result c.args.limit) (sym c.spread.ensures.spots)
+    (subst (λ (z : ℕ). StandsWithin c.args.found.now.table.spots z c.args.limit) (sym k) c.requires.next)
+
+pub name_all-requires-clause-once : goal.name_all-requires-clause-once
+name_all-requires-clause-once c = record { ours = c.arms_of_state-arms.ensures.once; theirs_too = c.arms_of_state-theirs.ensures.once }
 
 pub name_all-requires-clause-fits : goal.name_all-requires-clause-fits
 name_all-requires-clause-fits c = λ p e.
     let q : spot_of c.node-node.result.now ≡ p = same_Some (spot_of c.node-node.result.now) p (sym c.node-node.ensures ∙ e) in
-    subst (λ (z : Spot). IfSome c.turn_within-turn.result.rule (λ r. RuleFits z.pending c.arms_in-arms.result.now c.arms_in-theirs.result.now r)) q c.turn_within-turn.ensures.fits
+    subst (λ (z : Spot). IfSome c.turn_within-turn.result.rule (λ r. RuleFits z.pending c.arms_of_state-arms.result.now c.arms_of_state-theirs.result.now r)) q c.turn_within-turn.ensures.fits
 
-pub arms_in-arms-requires-clause-state : goal.arms_in-arms-requires-clause-state
-arms_in-arms-requires-clause-state c =
+pub arms_of_state-arms-requires-clause-state : goal.arms_of_state-arms-requires-clause-state
+arms_of_state-arms-requires-clause-state c =
     let p = spot_of c.node-node.result.now in
     subst (λ (z : DNode_data). z.state < length c.args.sub.now.states) (sym c.node.view_is)
     (stays_within c.args.sub.now c.args.above.now c.args.bound c.requires.ours c.requires.theirs p
-    (to_candidate c.args.sub.now c.args.above.now c.args.bound p (c.requires.found.growing.reached c.known-k.result p (subst (λ (z : List Spot). slice_get z c.known-k.result ≡ Some p) c.spread.ensures.spots c.node-node.ensures)))).state
+    (to_candidate c.args.sub.now c.args.above.now c.args.bound p
+    (c.requires.found.growing.reached c.known-k.result p (subst (λ (z : List Spot). slice_get z c.known-k.result ≡ Some p) c.spread.ensures.spots c.node-node.ensures)))).state
 
-pub arms_in-theirs-requires-clause-state : goal.arms_in-theirs-requires-clause-state
-arms_in-theirs-requires-clause-state c =
+pub arms_of_state-theirs-requires-clause-state : goal.arms_of_state-theirs-requires-clause-state
+arms_of_state-theirs-requires-clause-state c =
     let p = spot_of c.node-node.result.now in
     subst (λ (z : DNode_data). z.above < length c.args.above.now.states) (sym c.node.view_is)
     (stays_within c.args.sub.now c.args.above.now c.args.bound c.requires.ours c.requires.theirs p
-    (to_candidate c.args.sub.now c.args.above.now c.args.bound p (c.requires.found.growing.reached c.known-k.result p (subst (λ (z : List Spot). slice_get z c.known-k.result ≡ Some p) c.spread.ensures.spots c.node-node.ensures)))).there
+    (to_candidate c.args.sub.now c.args.above.now c.args.bound p
+    (c.requires.found.growing.reached c.known-k.result p (subst (λ (z : List Spot). slice_get z c.known-k.result ≡ Some p) c.spread.ensures.spots c.node-node.ensures)))).present

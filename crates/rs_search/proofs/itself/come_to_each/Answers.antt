@@ -2,18 +2,23 @@ use Rattle.std.proofs.Common.{arith, ◌≡◌, List, map, slice_index_or, subst
 use Rattle.rs_model.specs.declared.graph.Arm.{Arm}
 use Rattle.rs_model.specs.declared.values.Sort.TheVariants as sort
 use Rattle.rs_derive.specs.Moves.{Spot}
-use Rattle.rs_search.specs.Itself.{AreNamed, even}
-use Rattle.rs_search.proofs.Alike.{arm_reads, map_more, named_none, named_push}
+use Rattle.rs_graph.specs.Discovery.{AreNamed}
+use Rattle.rs_graph.proofs.Growth.{named_none, named_push}
+use Rattle.rs_search.specs.Itself.{even}
+use Rattle.rs_search.proofs.Alike.{arm_reads, map_more}
 use Rattle.rs_search.proofs.itself.come_to_each.Goals as goal
 
 pub loop-i-init : goal.loop-i-init
-loop-i-init c = (rw c.new-row.ensures (named_none c.args.found.now.items), c.requires.few, c.requires.placed, refl)
+loop-i-init c = (rw c.new-row.ensures (named_none c.args.found.now.items), c.requires.positions)
 
-pub come_to-requires-clause-there : goal.come_to-requires-clause-there
-come_to-requires-clause-there c =
+pub come_to-requires-clause-present : goal.come_to-requires-clause-present
+come_to-requires-clause-present c =
     let none : Arm = record { label = record { 0 = 0 }; sort = sort.Unit; next = 0 } in
-    let h = c.requires.there c.loop-i.i (slice_index_or c.args.arms.now c.loop-i.i none) (arm_reads c.args.arms.now c.loop-i.i none c.loop-i-test.true) in
-    let s = c.loop-i.invariant.3 in omega arith
+    let h = c.requires.present c.loop-i.i (slice_index_or c.args.arms.now c.loop-i.i none) (arm_reads c.args.arms.now c.loop-i.i none c.loop-i-test.true) in
+    let s = c.loop-i.invariant.1.size in omega arith
+
+pub come_to-requires-clause-positions : goal.come_to-requires-clause-positions
+come_to-requires-clause-positions c = let p = c.loop-i.invariant.1 in record { bounded = p.bounded; placed = p.placed; size = refl }
 
 pub loop-i-preserved : goal.loop-i-preserved
 loop-i-preserved c =
@@ -23,10 +28,8 @@ loop-i-preserved c =
     let h = arm_reads c.args.arms.now c.loop-i.i none c.loop-i-test.true in
     let m = map_more (λ (a : Arm). even a.next) c.args.arms.now c.loop-i.i (slice_index_or c.args.arms.now c.loop-i.i none) h in (
       subst (λ (z : List Spot). AreNamed c.args.found.now.items z c.come_to.new.found.items c.push.new.self) (sym m)
-          (named_push c.args.found.now.items _ c.loop-i.found.items c.come_to.new.found.items _ c.in_ok-n.n c.loop-i.row c.push.new.self i.0 e.adds e.at e.old e.fresh e.longer c.in_ok-push.ensures.ok),
-      e.few,
-      e.placed,
-      e.size ∙ i.3,
+          (named_push c.args.found.now.items _ c.loop-i.found.items c.come_to.new.found.items _ c.in_ok-n.n c.loop-i.row c.push.new.self i.0 e.named c.in_ok-push.ensures.ok),
+      record { bounded = e.positions.bounded; placed = e.positions.placed; size = e.positions.size ∙ i.1.size },
     )
 
 pub returns-clause-named : goal.returns-clause-named

@@ -7,9 +7,11 @@ use Rattle.rs_search.proofs.itself.first_lists.Goals as goal
 pub returns-clause-found : goal.returns-clause-found
 returns-clause-found c =
     let e = c.in_ok-come_to.ensures in
-    first_spot c.in_ok-found.found.items c.come_to.new.found.items (even c.machine.inside.start) c.in_ok-come_to.field-0 c.in_ok-found.ensures.items e.adds e.at ∙ ap (λ (z : Machine_data). even z.start ∷ []) c.machine.view_is
+    first_spot c.in_ok-found.found.items c.come_to.new.found.items (even c.machine.inside.start) c.in_ok-come_to.field-0 c.in_ok-found.ensures.items e.named.adds e.named.at
+    ∙ ap (λ (z : Machine_data). even z.start ∷ []) c.machine.view_is
 
-pub returns-clause-size : goal.returns-clause-size
-returns-clause-size c =
+pub returns-clause-positions : goal.returns-clause-positions
+returns-clause-positions c =
     let l : length c.in_ok-places.places.items ≡ length c.machine.inside.states.items = search (rules, c.in_ok-places.ensures.len, c.len.ensures) in
-    c.in_ok-come_to.ensures.size ∙ l ∙ ap (λ (z : Machine_data). length z.states) c.machine.view_is
+    let p = c.in_ok-come_to.ensures.positions in
+    record { bounded = p.bounded; placed = p.placed; size = p.size ∙ l ∙ ap (λ (z : Machine_data). length z.states) c.machine.view_is }

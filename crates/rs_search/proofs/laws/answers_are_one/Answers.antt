@@ -10,5 +10,5 @@ returns-clause-fault c = one_refusal
 pub returns-clause-either : goal.returns-clause-either
 returns-clause-either c = not_both_ways
 
-pub returns-clause-few : goal.returns-clause-few
-returns-clause-few c = few_nodes
+pub returns-clause-bounded : goal.returns-clause-bounded
+returns-clause-bounded c = few_nodes

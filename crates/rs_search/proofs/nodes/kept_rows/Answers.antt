@@ -12,7 +12,8 @@ bounds-keeps-items c = c.requires.within (slice_index_or c.args.items.now c.loop
 
 pub loop-i-preserved : goal.loop-i-preserved
 loop-i-preserved c =
-    kept_on c.args.keeps.now c.args.items.now c.args.nexts.now c.loop-i.i (slice_index_or c.args.items.now c.loop-i.i 0) (slice_index_or c.args.keeps.now (slice_index_or c.args.items.now c.loop-i.i 0) false)
+    kept_on c.args.keeps.now c.args.items.now c.args.nexts.now c.loop-i.i (slice_index_or c.args.items.now c.loop-i.i 0)
+    (slice_index_or c.args.keeps.now (slice_index_or c.args.items.now c.loop-i.i 0) false)
     c.index-nexts-i.result c.in_ok-kept_row.field-0 c.loop-i.kept.items c.push.new.self.items c.loop-i.invariant
     (reads_at c.args.items.now c.loop-i.i (slice_index_or c.args.items.now c.loop-i.i 0) 0 c.loop-i-test.true refl)
     (reads_at c.args.nexts.now c.loop-i.i c.index-nexts-i.result c.index-nexts-i.result (let a = c.requires.nexts in let b = c.loop-i-test.true in omega arith) (sym c.index-nexts-i.is))

@@ -24,10 +24,16 @@ loop-number-preserved c =
     let new : Entry = record { code = entry.code; link = link } in
     let coded : codes_in entries ≡ codes_of (spots_of nodes) = i.0 ∙ c.requires.coded in
     let short : n < length nodes = (let t = c.loop-number-test.true in omega arith) in
-    let long : length entries ≡ length nodes = sym (length-map entries (λ (e : Entry). e.code)) ∙ ap (λ (z : List ℕ). length z) coded ∙ length-map (spots_of nodes) (λ (p : Spot). acts_code 0 p.pending) ∙ length-map nodes spot_of in
+    let long : length entries ≡ length nodes
+    = sym (length-map entries (λ (e : Entry). e.code)) ∙ ap (λ (z : List ℕ). length z) coded ∙ length-map (spots_of nodes) (λ (p : Spot). acts_code 0 p.pending) ∙ length-map nodes spot_of in
     let gn : slice_get nodes n ≡ Some node = reads_at nodes n node node short (sym c.index-nodes-number.is) in
     let ge : slice_get entries n ≡ Some entry = reads_at entries n entry entry (omega arith) (sym c.index.ensures) in
-    let eb : bucket ≡ bucket_by c.args.buckets entry.code node.state node.above = c.bucket_by-bucket.ensures.is ∙ ap (λ (z : DNode_data). bucket_by c.args.buckets entry.code z.state z.above) c.node.view_is in
+    let eb : bucket ≡ bucket_by c.args.buckets entry.code node.state node.above
+    = c.bucket_by-bucket.ensures.bucket ∙ ap (λ (z : DNode_data). bucket_by c.args.buckets entry.code z.state z.above) c.node.view_is in
     let lt : bucket < length heads = (let w = c.bucket_by-bucket.ensures.within in let s = i.1 in omega arith) in
-    let eh = c.index-link.ensures ∙ get_or_default heads bucket link 0 lt in
-    (same_codes entries n entry new c.index.ensures refl ∙ i.0, length-set heads bucket (n + 1) ∙ i.1, files_one_more nodes entries heads c.args.buckets n bucket link node entry new gn ge coded eb lt eh refl i.2)
+    let eh = c.index-link.ensures ∙ get_or_default heads bucket link 0 lt in (
+      same_codes entries n entry new c.index.ensures refl ∙ i.0,
+      length-set heads bucket (n + 1)
+          ∙ i.1,
+      files_one_more nodes entries heads c.args.buckets n bucket link node entry new gn ge coded eb lt eh refl i.2,
+    )

@@ -12,15 +12,18 @@ returns-then-is_same c =
     let some = c.loop-left-test.true in
     let within = c.loop-left.invariant.0 in
     nearest_there c.args.name.now c.args.bindings.now (c.loop-left.left - 1) c.loop-left.left (c.binding.inside.name.now, c.binding.inside.number) (omega (arith, some)) (omega (arith, some, within))
-    (subst (λ (b : List ℕ × ℕ). b ≡ get_or c.args.bindings.now (c.loop-left.left - 1) b) (sym c.binding.view_is) c.index-bindings-left.is) (sym c.is_same.ensures ∙ c.if-is_same.true) c.loop-left.invariant.1
+    (subst (λ (b : List ℕ × ℕ). b ≡ get_or c.args.bindings.now (c.loop-left.left - 1) b) (sym c.binding.view_is) c.index-bindings-left.is)
+    (sym c.is_same.ensures ∙ c.if-is_same.true) c.loop-left.invariant.1
 
 pub loop-left-preserved : goal.loop-left-preserved
 loop-left-preserved c =
     let some = c.loop-left-test.true in
     let within = c.loop-left.invariant.0 in (
       omega (arith, within),
-      nearest_before c.args.name.now c.args.bindings.now (c.loop-left.left - 1) c.loop-left.left (c.binding.inside.name.now, c.binding.inside.number) (omega (arith, some)) (omega (arith, some, within))
-          (subst (λ (b : List ℕ × ℕ). b ≡ get_or c.args.bindings.now (c.loop-left.left - 1) b) (sym c.binding.view_is) c.index-bindings-left.is) (sym c.is_same.ensures ∙ c.if-is_same.false) c.loop-left.invariant.1,
+      nearest_before c.args.name.now c.args.bindings.now (c.loop-left.left - 1) c.loop-left.left (c.binding.inside.name.now, c.binding.inside.number) (omega (arith, some))
+          (omega (arith, some, within))
+          (subst (λ (b : List ℕ × ℕ). b ≡ get_or c.args.bindings.now (c.loop-left.left - 1) b) (sym c.binding.view_is) c.index-bindings-left.is)
+          (sym c.is_same.ensures ∙ c.if-is_same.false) c.loop-left.invariant.1,
     )
 
 pub returns : goal.returns

@@ -1,5 +1,5 @@
-use Rattle.rs_tool.proofs.OneSession.{one-session}
+use Rattle.rs_tool.proofs.OneSession.{one_session_shown}
 use Rattle.rs_tool.proofs.laws.headline_means_one_session.Goals as goal
 
 pub returns : goal.returns
-returns c = one-session
+returns c = one_session_shown

@@ -25,5 +25,6 @@ pub returns : goal.returns
 returns c = λ none.
     let words : List (List ℕ) = bytes_of_words c.args.words.now in
     let app_is : app_of c.in_ok-program.program ≡ app = c.in_ok-program.ensures in
-    ⊎_elim (λ memory. let kind : c.kind.result ≡ OutOfMemory = c.kind.ensures ∙ memory in let same : c.eq.result ≡ true = c.eq.ensures ∙ rw kind refl in true≢false (sym same ∙ c.if-eq.false)) (λ among. subst (IsAmong (kind_of c.in-Err.error)) (ap (λ a. fault_of a words) app_is ∙ none) among)
+    ⊎_elim (λ memory. let kind : c.kind.result ≡ OutOfMemory = c.kind.ensures ∙ memory in let same : c.eq.result ≡ true = c.eq.ensures ∙ rw kind refl in true≢false (sym same ∙ c.if-eq.false))
+    (λ among. subst (IsAmong (kind_of c.in-Err.error)) (ap (λ a. fault_of a words) app_is ∙ none) among)
     (c.in-Err.ensures.kinds (ap is_simple_and_free app_is ∙ free))

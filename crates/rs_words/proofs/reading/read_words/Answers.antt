@@ -5,7 +5,8 @@ use Rattle.rs_words.proofs.Exact.{meaning_of_refused, meaning_of_taken}
 use Rattle.rs_words.proofs.reading.read_words.Goals as goal
 
 pub returns-then-not-dashes_are_allowed : goal.returns-then-not-dashes_are_allowed
-returns-then-not-dashes_are_allowed c = meaning_of_refused (bytes_of_words c.args.words.now) (λ allowed e. true≢false (sym allowed ∙ sym c.dashes_are_allowed.ensures ∙ c.if-not-dashes_are_allowed.true))
+returns-then-not-dashes_are_allowed c = meaning_of_refused (bytes_of_words c.args.words.now)
+    (λ allowed e. true≢false (sym allowed ∙ sym c.dashes_are_allowed.ensures ∙ c.if-not-dashes_are_allowed.true))
 
 pub returns-in-None : goal.returns-in-None
 returns-in-None c = meaning_of_refused (bytes_of_words c.args.words.now) (λ allowed e. subst (ClapFinds (bytes_of_words c.args.words.now)) c.in-None.is c.in_ok-matches_in.ensures e)

@@ -1,7 +1,7 @@
 use Rattle.std.proofs.Common.{rules, arith, ◌≡◌, suc, ◌+◌, List, [], ◌∷◌, ◌++◌, length, length-append, Some, ap, ◌∙◌}
 use Rattle.rs_project.specs.Data.{Front_data}
-use Rattle.rs_project.proofs.Buckets.{filed-lone}
-use Rattle.rs_project.proofs.Singles.{lone-on, lone-same}
+use Rattle.rs_project.proofs.Buckets.{filed_lone}
+use Rattle.rs_project.proofs.Singles.{lone_on, lone_same}
 use Rattle.rs_project.proofs.filing.Fronts.add_lone.Goals as goal
 
 pub invariant_of-self-2 : goal.invariant_of-self-2
@@ -15,9 +15,10 @@ invariant_of-self-2 c =
     let room = c.requires in
     let grown = ap (λ (z : List Front_data). length z) items ∙ length-append c.self.inside.items.items (front ∷ []) in
     record {
-      filed = filed-lone c.self.inside.items.items c.push_reserved.new.self.items c.self.inside.heads.items c.self.inside.links.items c.push_reserved-2.new.self.items front c.args.talk
+      filed = filed_lone c.self.inside.items.items c.push_reserved.new.self.items c.self.inside.heads.items c.self.inside.links.items c.push_reserved-2.new.self.items front c.args.talk
           c.in_ok-front.ensures items links c.self.invariant.filed;
-      lone = lone-on c.self.inside.items.items c.push_reserved.new.self.items c.make_room.new.numbers.items c.set_number.new.numbers.items front (Some c.args.talk) (c.len-number.result + 1)
-          c.in_ok-front.ensures c.in_ok-make_room.ensures.room top items c.set_number.ensures (lone-same c.self.inside.items.items c.self.inside.lone.items c.make_room.new.numbers.items c.make_room.ensures.same c.self.invariant.lone);
-      few = omega (arith, view, room, grown);
+      lone = lone_on c.self.inside.items.items c.push_reserved.new.self.items c.make_room.new.numbers.items c.set_number.new.numbers.items front (Some c.args.talk) (c.len-number.result + 1)
+          c.in_ok-front.ensures c.in_ok-make_room.ensures.room top items c.set_number.ensures
+          (lone_same c.self.inside.items.items c.self.inside.lone.items c.make_room.new.numbers.items c.make_room.ensures.same c.self.invariant.lone);
+      bounded = omega (arith, view, room, grown);
     }

@@ -1,12 +1,12 @@
 use Rattle.std.proofs.Common.{◌∷◌, ◌-◌, ◌<◌, [], inl, ℕ, List, Err, get_or, refl, arith, ap, subst, sym, ◌∙◌}
 use Rattle.rs_project.specs.Marks.{Survey_data}
 use Rattle.rs_project.specs.Working.{FaultFrom, FindsFrom, IsSearch, Search_data}
-use Rattle.rs_project.proofs.Behind.{fault-from}
-use Rattle.rs_project.proofs.Handed.{handed-on}
-use Rattle.rs_project.proofs.Lists.{at-short}
-use Rattle.rs_project.proofs.Numbers.{stands-adds}
-use Rattle.rs_project.proofs.Runs.{stands-itself}
-use Rattle.rs_project.proofs.Found.{finds-known, noted-at, same-numbers, search-adds, search-result}
+use Rattle.rs_project.proofs.Behind.{fault_from}
+use Rattle.rs_project.proofs.Handed.{handed_on}
+use Rattle.rs_project.proofs.Lists.{at_short}
+use Rattle.rs_project.proofs.Numbers.{stands_adds}
+use Rattle.rs_project.proofs.Runs.{stands_itself}
+use Rattle.rs_project.proofs.Found.{finds_known, noted_at, same_numbers, search_adds, search_result}
 use Rattle.rs_project.proofs.searching.Search.find_idle.Goals as goal
 
 pub returns-then-known-gt0-clause-ok : goal.returns-then-known-gt0-clause-ok
@@ -18,7 +18,7 @@ returns-then-known-gt0-clause-ok c =
     let P : Search_data → Type 0 = λ z. FindsFrom z.survey.protocol z.survey.role z.fronts (c.args.end ∷ []) z.fronts (c.number_at-known.result - 1) in
     let some : 0 < c.number_at-known.result = (let t = c.if-known-gt0.true in omega (arith, t)) in
     subst P c.self.view_is
-    (finds-known S c.self.inside.numbers.items end end c.number_at-known.result c.self.invariant (stands-itself pr role end)
+    (finds_known S c.self.inside.numbers.items end end c.number_at-known.result c.self.invariant (stands_itself pr role end)
     (c.number_at-known.ensures ∙ ap (λ (z : List ℕ). get_or z end 0) c.deref.ensures.value) some)
 
 pub invariant_of-self : goal.invariant_of-self
@@ -28,7 +28,7 @@ invariant_of-self c =
     let role = c.self.inside.survey.now.role in
     let end = c.args.end in
     let numbers = c.make_room.new.numbers.items in
-    let is = same-numbers S c.self.inside.numbers.items numbers c.make_room.ensures.same c.self.invariant in
+    let is = same_numbers S c.self.inside.numbers.items numbers c.make_room.ensures.same c.self.invariant in
     is
 
 pub invariant_of-self-in_err-front : goal.invariant_of-self-in_err-front
@@ -38,7 +38,7 @@ invariant_of-self-in_err-front c =
     let role = c.self.inside.survey.now.role in
     let end = c.args.end in
     let numbers = c.make_room.new.numbers.items in
-    let is = same-numbers S c.self.inside.numbers.items numbers c.make_room.ensures.same c.self.invariant in
+    let is = same_numbers S c.self.inside.numbers.items numbers c.make_room.ensures.same c.self.invariant in
     is
 
 pub invariant_of-self-in_err-number : goal.invariant_of-self-in_err-number
@@ -48,8 +48,9 @@ invariant_of-self-in_err-number c =
     let role = c.self.inside.survey.now.role in
     let end = c.args.end in
     let numbers = c.make_room.new.numbers.items in
-    let is = same-numbers S c.self.inside.numbers.items numbers c.make_room.ensures.same c.self.invariant in
-    search-result S c.number_of.new.fronts numbers (end ∷ []) end c.in_ok-front.front (Err c.in_err-number.field-0.0) is (inl refl) c.in_ok-front.ensures c.in_err-number.ensures.ok c.in_err-number.ensures.same
+    let is = same_numbers S c.self.inside.numbers.items numbers c.make_room.ensures.same c.self.invariant in
+    search_result S c.number_of.new.fronts numbers (end ∷ []) end c.in_ok-front.front (Err c.in_err-number.field-0.0) is
+    (inl refl) c.in_ok-front.ensures c.in_err-number.ensures.ok c.in_err-number.ensures.same
 
 pub returns-in_err-number-clause-err : goal.returns-in_err-number-clause-err
 returns-in_err-number-clause-err c =
@@ -58,10 +59,10 @@ returns-in_err-number-clause-err c =
     let role = c.self.inside.survey.now.role in
     let end = c.args.end in
     let P : Search_data → Type 0 = λ z. FaultFrom z.survey.protocol z.survey.role z.fronts (c.args.end ∷ []) c.in_err-number.field-0.0 in
-    handed-on c.from_residual-in_err-number.result c.in_err-number.field-0.0 (λ e. FaultFrom c.args.self.now.survey.protocol c.args.self.now.survey.role c.args.self.now.fronts (c.args.end ∷ []) e)
+    handed_on c.from_residual-in_err-number.result c.in_err-number.field-0.0 (λ e. FaultFrom c.args.self.now.survey.protocol c.args.self.now.survey.role c.args.self.now.fronts (c.args.end ∷ []) e)
     c.from_residual-in_err-number.ensures.1
     (subst P c.self.view_is
-    (fault-from pr role c.survey.inside.role c.self.inside.fronts (c.args.end ∷ []) c.in_ok-front.front (Err c.in_err-number.field-0.0) (ap (λ (z : Survey_data). z.role) c.survey.view_is)
+    (fault_from pr role c.survey.inside.role c.self.inside.fronts (c.args.end ∷ []) c.in_ok-front.front (Err c.in_err-number.field-0.0) (ap (λ (z : Survey_data). z.role) c.survey.view_is)
     c.in_ok-front.ensures c.in_err-number.ensures.err))
 
 pub overflow_add-number : goal.overflow_add-number
@@ -71,9 +72,9 @@ overflow_add-number c =
     let role = c.self.inside.survey.now.role in
     let end = c.args.end in
     let n = c.in_ok-number.number in
-    let is = search-adds S c.number_of.new.fronts c.self.inside.numbers.items (end ∷ []) end c.in_ok-front.front n c.self.invariant (inl refl) c.in_ok-front.ensures c.in_ok-number.ensures.ok in
-    let short = at-short c.number_of.new.fronts n c.in_ok-front.front (stands-adds c.self.inside.fronts c.number_of.new.fronts c.in_ok-front.front n c.in_ok-number.ensures.ok) in
-    let few = is.found.few in
+    let is = search_adds S c.number_of.new.fronts c.self.inside.numbers.items (end ∷ []) end c.in_ok-front.front n c.self.invariant (inl refl) c.in_ok-front.ensures c.in_ok-number.ensures.ok in
+    let short = at_short c.number_of.new.fronts n c.in_ok-front.front (stands_adds c.self.inside.fronts c.number_of.new.fronts c.in_ok-front.front n c.in_ok-number.ensures.ok) in
+    let few = is.found.bounded in
     omega (arith, short, few)
 
 pub invariant_of-self-2 : goal.invariant_of-self-2
@@ -83,13 +84,13 @@ invariant_of-self-2 c =
     let role = c.self.inside.survey.now.role in
     let end = c.args.end in
     let numbers = c.make_room.new.numbers.items in
-    let is = same-numbers S c.self.inside.numbers.items numbers c.make_room.ensures.same c.self.invariant in
+    let is = same_numbers S c.self.inside.numbers.items numbers c.make_room.ensures.same c.self.invariant in
     let n = c.in_ok-number.number in
     let T : Search_data = record { survey = c.self.inside.survey.now; fronts = c.number_of.new.fronts } in
     let P : List ℕ → Type 0 = λ z. IsSearch T z in
     subst P (sym c.set_number.ensures)
-    (noted-at T numbers end n c.in_ok-front.front (search-adds S c.number_of.new.fronts numbers (end ∷ []) end c.in_ok-front.front n is (inl refl) c.in_ok-front.ensures c.in_ok-number.ensures.ok)
-    c.in_ok-make_room.ensures.room (stands-adds c.self.inside.fronts c.number_of.new.fronts c.in_ok-front.front n c.in_ok-number.ensures.ok) c.in_ok-front.ensures)
+    (noted_at T numbers end n c.in_ok-front.front (search_adds S c.number_of.new.fronts numbers (end ∷ []) end c.in_ok-front.front n is (inl refl) c.in_ok-front.ensures c.in_ok-number.ensures.ok)
+    c.in_ok-make_room.ensures.room (stands_adds c.self.inside.fronts c.number_of.new.fronts c.in_ok-front.front n c.in_ok-number.ensures.ok) c.in_ok-front.ensures)
 
 pub returns-clause-ok : goal.returns-clause-ok
 returns-clause-ok c =
@@ -100,6 +101,6 @@ returns-clause-ok c =
     let P : Search_data → Type 0 = λ z. FindsFrom z.survey.protocol z.survey.role z.fronts (c.args.end ∷ []) c.number_of.new.fronts c.in_ok-number.number in
     subst P c.self.view_is record {
       front = c.in_ok-front.front;
-      is = c.in_ok-front.ensures;
+      is_front = c.in_ok-front.ensures;
       adds = c.in_ok-number.ensures.ok;
     }

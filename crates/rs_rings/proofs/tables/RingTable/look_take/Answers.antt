@@ -4,24 +4,13 @@ use Rattle.rs_model.specs.declared.graph.Arm.{Arm}
 use Rattle.rs_model.specs.declared.machines.State.TheVariants.{Takes}
 use Rattle.rs_model.specs.Data.{Machine_data}
 use Rattle.rs_rings.specs.Acts.{parcels_got, MayTake, Happened, role_of_number, got_act}
-use Rattle.rs_rings.specs.Rule.{machines_of}
+use Rattle.rs_rings.specs.Rule.{machines_in_key}
 use Rattle.rs_rings.specs.Told.{IsAfter}
 use Rattle.rs_rings.specs.Views.{the_part, speaks, taking, getting}
 use Rattle.rs_core.specs.Configurations.{state_of}
 use Rattle.rs_rings.proofs.Parts.{the_role, speaks_put, the_put_here}
 use Rattle.rs_rings.proofs.StepsAsked.{stands_from, may_take, after_twice}
 use Rattle.rs_rings.proofs.tables.RingTable.look_take.Goals as goal
-
-pub give-requires-clause-speaks : goal.give-requires-clause-speaks
-give-requires-clause-speaks c =
-    let p : ℕ = c.args.sender.0 in
-    let q : ℕ = c.args.receiver.0 in
-    let v = c.args.seat.now.me.0 in
-    let a : Part = the_part q v.parts in
-    let told = c.in-Found.ensures.looked in
-    let y : Part = taking p c.in-Found.parcel c.in-Found.seen a in
-    let role = the_role q v.parts c.requires.speaks in
-    ap (λ m. speaks q m.0.parts) told.3 ∙ speaks_put q q y v.parts role ∙ c.requires.speaks
 
 pub give-requires-clause-middle : goal.give-requires-clause-middle
 give-requires-clause-middle c =
@@ -32,9 +21,13 @@ give-requires-clause-middle c =
     let told = c.in-Found.ensures.looked in
     let y : Part = taking p c.in-Found.parcel c.in-Found.seen a in
     let u = c.look.new.seat.me in
-    let role = the_role q v.parts c.requires.speaks in
-    let here : the_part q u.0.parts ≡ y = ap (λ m. the_part q m.0.parts) told.3 ∙ the_put_here q y v.parts role c.requires.speaks in
-    (ap (λ (z : Part). z.middle) here, ap (λ m. m.1) told.3)
+    let role = the_role q v.parts c.requires.idle.speaks_for in
+    let here : the_part q u.0.parts ≡ y = ap (λ m. the_part q m.0.parts) told.3 ∙ the_put_here q y v.parts role c.requires.idle.speaks_for in
+    record {
+      speaks_for = ap (λ m. speaks q m.0.parts) told.3 ∙ speaks_put q q y v.parts role ∙ c.requires.idle.speaks_for;
+      taking_it = ap (λ (z : Part). z.middle) here;
+      holds = ap (λ m. m.1) told.3;
+    }
 
 pub give-requires-clause-may : goal.give-requires-clause-may
 give-requires-clause-may c =
@@ -43,13 +36,14 @@ give-requires-clause-may c =
     let v = c.args.seat.now.me.0 in
     let a : Part = the_part q v.parts in
     let told = c.in-Found.ensures.looked in
-    let ms : List Machine_data = machines_of c.args.self.now.board.shared.key in
+    let ms : List Machine_data = machines_in_key c.args.self.now.board.shared.key in
     let y : Part = taking p c.in-Found.parcel c.in-Found.seen a in
     let u = c.look.new.seat.me in
-    let role = the_role q v.parts c.requires.speaks in
-    let here : the_part q u.0.parts ≡ y = ap (λ m. the_part q m.0.parts) told.3 ∙ the_put_here q y v.parts role c.requires.speaks in
+    let role = the_role q v.parts c.requires.idle.speaks_for in
+    let here : the_part q u.0.parts ≡ y = ap (λ m. the_part q m.0.parts) told.3 ∙ the_put_here q y v.parts role c.requires.idle.speaks_for in
     let arms : List Arm = c.arms_of-arms.result.now in
-    let st : state_of (slice_get ms q) a.state ≡ Some (Takes (role_of_number p) arms) = ap (λ (s : ℕ). state_of (slice_get ms q) s) (sym c.requires.state.0) ∙ stands_from (state_of (slice_get ms q) c.args.state) p arms c.requires.state.1 c.arms_of-arms.ensures in
+    let st : state_of (slice_get ms q) a.state ≡ Some (Takes (role_of_number p) arms)
+    = ap (λ (s : ℕ). state_of (slice_get ms q) s) (sym c.requires.state.0) ∙ stands_from (state_of (slice_get ms q) c.args.state) p arms c.requires.state.1 c.arms_of-arms.ensures in
     let may : MayTake ms q p a.state c.in-Found.parcel c.next_of-next.result = may_take ms p q a.state c.in-Found.parcel c.next_of-next.result arms st told.2 c.next_of-next.ensures in
     subst (λ (z : Part). MayTake ms q p z.state c.in-Found.parcel c.next_of-next.result) (sym here) may
 
@@ -62,9 +56,9 @@ give-requires-clause-got c =
     let told = c.in-Found.ensures.looked in
     let y : Part = taking p c.in-Found.parcel c.in-Found.seen a in
     let u = c.look.new.seat.me in
-    let role = the_role q v.parts c.requires.speaks in
-    let here : the_part q u.0.parts ≡ y = ap (λ m. the_part q m.0.parts) told.3 ∙ the_put_here q y v.parts role c.requires.speaks in
-    c.requires.got ∙ ap (λ (z : Part). length (parcels_got p z.history)) (sym here)
+    let role = the_role q v.parts c.requires.idle.speaks_for in
+    let here : the_part q u.0.parts ≡ y = ap (λ m. the_part q m.0.parts) told.3 ∙ the_put_here q y v.parts role c.requires.idle.speaks_for in
+    record { count = c.requires.got.count ∙ ap (λ (z : Part). length (parcels_got p z.history)) (sym here); fits = c.requires.got.fits }
 
 pub returns-in-Found-clause-taken : goal.returns-in-Found-clause-taken
 returns-in-Found-clause-taken c =
@@ -73,21 +67,22 @@ returns-in-Found-clause-taken c =
     let v = c.args.seat.now.me.0 in
     let a : Part = the_part q v.parts in
     let told = c.in-Found.ensures.looked in
-    let ms : List Machine_data = machines_of c.args.self.now.board.shared.key in
+    let ms : List Machine_data = machines_in_key c.args.self.now.board.shared.key in
     let y : Part = taking p c.in-Found.parcel c.in-Found.seen a in
     let u = c.look.new.seat.me in
-    let role = the_role q v.parts c.requires.speaks in
-    let here : the_part q u.0.parts ≡ y = ap (λ m. the_part q m.0.parts) told.3 ∙ the_put_here q y v.parts role c.requires.speaks in
+    let role = the_role q v.parts c.requires.idle.speaks_for in
+    let here : the_part q u.0.parts ≡ y = ap (λ m. the_part q m.0.parts) told.3 ∙ the_put_here q y v.parts role c.requires.idle.speaks_for in
     let arms : List Arm = c.arms_of-arms.result.now in
-    let st : state_of (slice_get ms q) a.state ≡ Some (Takes (role_of_number p) arms) = ap (λ (s : ℕ). state_of (slice_get ms q) s) (sym c.requires.state.0) ∙ stands_from (state_of (slice_get ms q) c.args.state) p arms c.requires.state.1 c.arms_of-arms.ensures in
+    let st : state_of (slice_get ms q) a.state ≡ Some (Takes (role_of_number p) arms)
+    = ap (λ (s : ℕ). state_of (slice_get ms q) s) (sym c.requires.state.0) ∙ stands_from (state_of (slice_get ms q) c.args.state) p arms c.requires.state.1 c.arms_of-arms.ensures in
     let may : MayTake ms q p a.state c.in-Found.parcel c.next_of-next.result = may_take ms p q a.state c.in-Found.parcel c.next_of-next.result arms st told.2 c.next_of-next.ensures in (
       c.in-Found.seen,
       told.0,
       told.1,
       may,
-      subst (λ (z : Part). Happened ms q z.history (got_act p c.in-Found.parcel)) here c.give.ensures.event,
-      after_twice q y (getting p c.in-Found.parcel c.next_of-next.result y) v u.0 c.give.new.seat.me c.requires.speaks role (ap (λ m. m.0) told.3)
-          (subst (λ (z : Part). IsAfter q (getting p c.in-Found.parcel c.next_of-next.result z) u.0 c.give.new.seat.me) here c.give.ensures.given),
+      subst (λ (z : Part). Happened ms q z.history (got_act p c.in-Found.parcel)) here c.give.ensures.given.happened,
+      after_twice q y (getting p c.in-Found.parcel c.next_of-next.result y) v u.0 c.give.new.seat.me c.requires.idle.speaks_for role (ap (λ m. m.0) told.3)
+          (subst (λ (z : Part). IsAfter q (getting p c.in-Found.parcel c.next_of-next.result z) u.0 c.give.new.seat.me) here c.give.ensures.given.after),
       told.4,
       told.5,
     )

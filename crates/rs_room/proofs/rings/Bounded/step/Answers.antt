@@ -4,7 +4,7 @@ use Rattle.rs_core.specs.Core.{configuration_of}
 use Rattle.rs_room.specs.Counts.{counts_behind}
 use Rattle.rs_room.specs.Looks.{full_ring, pair_of_receive}
 use Rattle.rs_room.specs.Rings.{Bounded_data, CountsStep, HasSteppedWithin, IsRingSession}
-use Rattle.rs_room.proofs.Stepping.{counts, is-bounded, stays-session}
+use Rattle.rs_room.proofs.Stepping.{counts, is_bounded, stays_session}
 use Rattle.rs_room.proofs.rings.Bounded.step.Goals as goal
 
 pub invariant_of-self : goal.invariant_of-self
@@ -16,8 +16,9 @@ invariant_of-self c =
     let F : Bounded_data → Type 0 = λ z. z.steps < 2 ^ 63 in
     let N : Bounded_data → Type 0 = λ z. full_ring z c.args.event ≡ None in
     let T : List (List ℕ) → Type 0 = λ t. IsRingSession record { core = c.step.new.self; capacity = b.capacity; room = b.room; steps = b.steps + 1; taken = t } in
-    let bounded = is-bounded b c.args.event (configuration_of c.step.new.self) c.in-Ok.stepped (subst N (sym c.self.view_is) (search rules)) c.in-Ok.ensures.step in (
-      subst T (sym table) (stays-session b c.args.event c.step.new.self c.self.invariant.0 (subst F (sym c.self.view_is) c.requires.few) (subst R (sym c.self.view_is) c.requires.there) c.step.ensures.machines bounded.step),
+    let bounded = is_bounded b c.args.event (configuration_of c.step.new.self) c.in-Ok.stepped (subst N (sym c.self.view_is) (search rules)) c.in-Ok.ensures.step in (
+      subst T (sym table) (stays_session b c.args.event c.step.new.self c.self.invariant.0 (subst F (sym c.self.view_is) c.requires.bounded)
+          (subst R (sym c.self.view_is) c.requires.present) c.step.ensures.machines bounded.step),
       c.self.invariant.1 ∙ sym c.step.ensures.machines,
     )
 
@@ -26,7 +27,7 @@ returns-in-Ok-clause-step c =
     let b : Bounded_data = record { core = c.self.inside.core; capacity = c.self.inside.capacity; room = c.self.inside.room; steps = c.self.inside.steps; taken = c.self.inside.taken } in
     let N : Bounded_data → Type 0 = λ z. full_ring z c.args.event ≡ None in
     let P : Bounded_data → Type 0 = λ z. HasSteppedWithin z.core.machines z.capacity (configuration_of z.core) c.args.event (configuration_of c.step.new.self) c.in-Ok.stepped in
-    subst P c.self.view_is (is-bounded b c.args.event (configuration_of c.step.new.self) c.in-Ok.stepped (subst N (sym c.self.view_is) (search rules)) c.in-Ok.ensures.step)
+    subst P c.self.view_is (is_bounded b c.args.event (configuration_of c.step.new.self) c.in-Ok.stepped (subst N (sym c.self.view_is) (search rules)) c.in-Ok.ensures.step)
 
 pub returns-in-Ok-clause-counts : goal.returns-in-Ok-clause-counts
 returns-in-Ok-clause-counts c =
@@ -37,4 +38,5 @@ returns-in-Ok-clause-counts c =
     let F : Bounded_data → Type 0 = λ z. z.steps < 2 ^ 63 in
     let P : Bounded_data → Type 0 = λ z. CountsStep z c.args.event record { core = c.step.new.self; capacity = b.capacity; room = b.room; steps = b.steps + 1; taken = c.count.new.self } in
     let T : List (List ℕ) → Type 0 = λ t. CountsStep b c.args.event record { core = c.step.new.self; capacity = b.capacity; room = b.room; steps = b.steps + 1; taken = t } in
-    subst P c.self.view_is (subst T (sym table) (counts b c.self.invariant.0 (subst F (sym c.self.view_is) c.requires.few) c.args.event c.step.new.self c.in-Ok.stepped (subst R (sym c.self.view_is) c.requires.there) c.in-Ok.ensures.step))
+    subst P c.self.view_is (subst T (sym table)
+    (counts b c.self.invariant.0 (subst F (sym c.self.view_is) c.requires.bounded) c.args.event c.step.new.self c.in-Ok.stepped (subst R (sym c.self.view_is) c.requires.present) c.in-Ok.ensures.step))

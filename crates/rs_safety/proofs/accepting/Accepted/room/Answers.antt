@@ -1,5 +1,10 @@
-use Rattle.rs_safety.proofs.Accepts.{all-owe-few}
+use Rattle.rs_safety.proofs.Accepts.{all_owe_few_shown}
 use Rattle.rs_safety.proofs.accepting.Accepted.room.Goals as goal
 
 pub room-requires : goal.room-requires
-room-requires c = all-owe-few (record { protocol = c.self.inside.protocol.now; projections = c.self.inside.projections.now; derivations = c.self.inside.derivations.now; machines = c.self.inside.machines.items }) c.self.invariant
+room-requires c = rw c.as_slice.ensures.value (all_owe_few_shown (record {
+  protocol = c.self.inside.protocol;
+  projections = c.self.inside.projections.items;
+  derivations = c.self.inside.derivations.items;
+  machines = c.self.inside.machines.items;
+}) c.self.invariant)

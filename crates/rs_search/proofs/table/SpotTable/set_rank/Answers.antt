@@ -11,7 +11,8 @@ invariant_of-self c =
     let k = c.args.number in
     let n = c.index_mut-node.result.now in
     let new : DNode_data = record { state = c.node.inside.state; pending = c.node.inside.pending; above = c.node.inside.above; rank = c.args.rank; next = c.node.inside.next } in
-    table_same nodes (set nodes k new) c.self.inside.index.heads.items c.self.inside.index.entries.items c.self.inside.known c.self.inside.known (same_spots nodes k n new c.index_mut-node.ensures.value (ap spot_of c.node.view_is))
+    table_same nodes (set nodes k new) c.self.inside.index.heads.items c.self.inside.index.entries.items c.self.inside.known c.self.inside.known
+    (same_spots nodes k n new c.index_mut-node.ensures.value (ap spot_of c.node.view_is))
     (let l = length-set nodes k new in let w = c.self.invariant.within in omega arith) c.self.invariant
 
 pub returns-clause-ranks : goal.returns-clause-ranks

@@ -15,7 +15,10 @@ loop-number-init c = record {
 pub loop-number-preserved : goal.loop-number-preserved
 loop-number-preserved c =
     let i = c.loop-number.invariant in
-    let more = begun_more c.args.self.now c.loop-number.number c.loop-number.stages.items c.push_stage.new.stages.items c.in-Ok.stage record { count = i.count; each = i.each } c.in-Ok.ensures.of c.in-Ok.ensures.first c.push_stage.ensures.items in
+    let more = begun_more c.args.self.now c.loop-number.number c.loop-number.stages.items c.push_stage.new.stages.items c.in-Ok.stage record {
+      count = i.count;
+      each = i.each;
+    } c.in-Ok.ensures.of c.in-Ok.ensures.first c.push_stage.ensures.items in
     record {
       count = more.count;
       each = more.each;
@@ -29,5 +32,8 @@ returns-in-Ok-first c =
     let i = c.loop-number.invariant in
     let last : c.args.count - 1 ≡ c.loop-number.number = omega (arith, c.loop-number-test.false, c.loop-number.auto.number-end) in
     let first : sight_of_stage c.in-Ok-first.stage ≡ first_stage c.args.self.now c.loop-number.number = c.in-Ok-first.ensures.first ∙ ap (first_stage c.args.self.now) last in
-    let more = begun_more c.args.self.now c.loop-number.number c.loop-number.stages.items c.push_stage-in-Ok-first.new.stages.items c.in-Ok-first.stage record { count = i.count; each = i.each } c.in-Ok-first.ensures.of first c.push_stage-in-Ok-first.ensures.items in
+    let more = begun_more c.args.self.now c.loop-number.number c.loop-number.stages.items c.push_stage-in-Ok-first.new.stages.items c.in-Ok-first.stage record {
+      count = i.count;
+      each = i.each;
+    } c.in-Ok-first.ensures.of first c.push_stage-in-Ok-first.ensures.items in
     all_begun c.args.self.now (c.loop-number.number + 1) c.push_stage-in-Ok-first.new.stages.items more (omega (arith, last, c.requires.count, c.requires.some))

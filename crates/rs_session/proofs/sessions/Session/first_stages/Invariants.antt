@@ -1,6 +1,6 @@
 use Rattle.std.proofs.Common.{◌≡◌, ℕ, ◌<◌, ◌≤◌, length, Some, slice_get, vec_capacity}
 use Rattle.rs_session.specs.Stages.{IsOf, first_stage, sight_of_stage}
-use Rattle.rs_session.specs.Standing.{AreFirstFrom}
+use Rattle.rs_session.proofs.Beginning.{AreFirstFrom}
 use Rattle.rs_session.specs.declared.stages.Stage.{Stage}
 use Rattle.rs_session.proofs.sessions.Session.first_stages.Given as goal
 

@@ -9,6 +9,8 @@ returns-in-Done c = record {
 
 pub returns-in-Full : goal.returns-in-Full
 returns-in-Full c = record {
-  told = full c.args.session.now c.rings.result.now c.args.self c.self.inside.standing c.put.new.self c.args.arm c.args.value c.sending_arm.result.0 c.sending_arm.result.1 c.in-Full.sent c.in-Full.taken c.in-Full.parcel
+  told =
+      full c.args.session.now c.rings.result.now c.args.self c.self.inside.standing c.put.new.self c.args.arm c.args.value c.sending_arm.result.0 c.sending_arm.result.1 c.in-Full.sent
+      c.in-Full.taken c.in-Full.parcel
       c.rings.ensures.rings c.self.view_is c.requires.table c.requires.arm c.sending_arm.ensures c.in-Full.ensures.told.0 c.in-Full.ensures.told.1;
 }

@@ -26,9 +26,11 @@ invariant_of-self c =
     let is = subst (λ (p : Pass_data). sight_of_pass p role ≡ c.args.self.now) same c.self.view_is in
     let one = subst (λ (p : Pass_data). IsOne p.view role state acts) same c.self.invariant in
     let at = arm_of_label (slice_get c.args.arms.now c.place_by_label-arm.result) c.in-One.parcel.label c.place_by_label-arm.ensures in
-    let took = look_one c.args.rings.now c.args.peer c.args.arms.now c.in-One.parcel c.place_by_label-arm.result state acts c.args.self.now role c.deref_mut.result.now c.look_take.new.pass at.0 is c.requires.well_formed c.requires.stands
+    let took = look_one c.args.rings.now c.args.peer c.args.arms.now c.in-One.parcel c.place_by_label-arm.result state acts c.args.self.now role c.deref_mut.result.now c.look_take.new.pass at.0 is
+    c.requires.well_formed c.requires.stands
     at.1 at.2 one c.in-One.ensures.told c.look_take.ensures.table in
-    subst (λ (z : Arm). IsOne c.look_take.new.pass.view c.self.inside.role z.next (c.self.inside.acts + 1)) (sym (get_or_from_slice_get c.args.arms.now c.place_by_label-arm.result at.0 _ at.1)) took.one
+    subst (λ (z : Arm). IsOne c.look_take.new.pass.view c.self.inside.role z.next (c.self.inside.acts + 1))
+    (sym (get_or_from_slice_get c.args.arms.now c.place_by_label-arm.result at.0 _ at.1)) took.one
 
 pub returns-in-One : goal.returns-in-One
 returns-in-One c =
@@ -37,6 +39,7 @@ returns-in-One c =
     let is = subst (λ (p : Pass_data). sight_of_pass p role ≡ c.args.self.now) same c.self.view_is in
     let one = subst (λ (p : Pass_data). IsOne p.view role state acts) same c.self.invariant in
     let at = arm_of_label (slice_get c.args.arms.now c.place_by_label-arm.result) c.in-One.parcel.label c.place_by_label-arm.ensures in
-    let took = look_one c.args.rings.now c.args.peer c.args.arms.now c.in-One.parcel c.place_by_label-arm.result state acts c.args.self.now role c.deref_mut.result.now c.look_take.new.pass at.0 is c.requires.well_formed c.requires.stands
+    let took = look_one c.args.rings.now c.args.peer c.args.arms.now c.in-One.parcel c.place_by_label-arm.result state acts c.args.self.now role c.deref_mut.result.now c.look_take.new.pass at.0 is
+    c.requires.well_formed c.requires.stands
     at.1 at.2 one c.in-One.ensures.told c.look_take.ensures.table in
     record { told = took.got }

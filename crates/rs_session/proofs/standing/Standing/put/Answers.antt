@@ -10,7 +10,8 @@ invariant_of-self c =
     let same = sym c.deref_mut.ensures.value in
     let is = subst (λ (p : Pass_data). sight_of_pass p role ≡ c.args.self.now) same c.self.view_is in
     let one = subst (λ (p : Pass_data). IsOne p.view role state acts) same c.self.invariant in
-    (put_done c.args.rings.now c.args.peer.0 c.args.parcel c.args.next state acts c.args.self.now role c.deref_mut.result.now c.put.new.pass is c.requires.well_formed c.requires.may one c.in-Done.ensures.told c.put.ensures.table).one
+    (put_done c.args.rings.now c.args.peer.0 c.args.parcel c.args.next state acts c.args.self.now role c.deref_mut.result.now c.put.new.pass is c.requires.well_formed c.requires.may one
+    c.in-Done.ensures.told c.put.ensures.table).one
 
 pub returns-in-Done : goal.returns-in-Done
 returns-in-Done c =
@@ -18,4 +19,7 @@ returns-in-Done c =
     let same = sym c.deref_mut.ensures.value in
     let is = subst (λ (p : Pass_data). sight_of_pass p role ≡ c.args.self.now) same c.self.view_is in
     let one = subst (λ (p : Pass_data). IsOne p.view role state acts) same c.self.invariant in
-    record { told = (put_done c.args.rings.now c.args.peer.0 c.args.parcel c.args.next state acts c.args.self.now role c.deref_mut.result.now c.put.new.pass is c.requires.well_formed c.requires.may one c.in-Done.ensures.told c.put.ensures.table).sent }
+    record {
+      told = (put_done c.args.rings.now c.args.peer.0 c.args.parcel c.args.next state acts c.args.self.now role c.deref_mut.result.now c.put.new.pass is c.requires.well_formed
+          c.requires.may one c.in-Done.ensures.told c.put.ensures.table).sent;
+    }

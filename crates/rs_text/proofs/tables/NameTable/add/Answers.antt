@@ -1,7 +1,7 @@
 use Rattle.std.proofs.Common.{rules, arith, ◌≡◌, ◌<◌, ◌+◌, [], ◌∷◌, ◌++◌, length, get_or, refl, ◌∙◌}
 use Rattle.std.proofs.lemmas.List.{get_or_default}
 use Rattle.rs_text.specs.Tables.{AreFiled}
-use Rattle.rs_text.proofs.Tabling.{filed-on}
+use Rattle.rs_text.proofs.Tabling.{filed_on}
 use Rattle.rs_text.proofs.tables.NameTable.add.Goals as goal
 
 pub invariant_of-self-2 : goal.invariant_of-self-2
@@ -15,5 +15,6 @@ invariant_of-self-2 c _ =
     c.index.ensures ∙ get_or_default c.self.inside.heads.items c.bucket_of-bucket.result c.index.result.now 0 (omega (arith, size, lt)) in
     let links : c.push-2.new.self.items ≡ c.self.inside.links.items ++ (c.index.result.now ∷ []) = search (rules, c.in_ok-reserve.ensures.items) in
     let names : c.push.new.self.items ≡ c.self.inside.names.items ++ (c.args.word.now ∷ []) = search rules in
-    filed-on c.self.inside.names.items c.push.new.self.items c.self.inside.heads.items c.self.inside.links.items _ c.push-2.new.self.items c.args.word.now c.bucket_of-bucket.result c.index.result.now (c.len-place.result + 1)
-    c.bucket_of-bucket.ensures.is lt count head names links refl filed
+    filed_on c.self.inside.names.items c.push.new.self.items c.self.inside.heads.items c.self.inside.links.items _ c.push-2.new.self.items c.args.word.now c.bucket_of-bucket.result c.index.result.now
+    (c.len-place.result + 1)
+    c.bucket_of-bucket.ensures.bucket lt count head names links refl filed

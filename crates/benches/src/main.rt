@@ -1,0 +1,163 @@
+//! Sessions over rings, on one thread and on several, and sessions by several workers, whose actors do a stated amount of work
+//! at each act: how many parcels came in order and how far the workers came; with the word `rings` how many parcels came in a
+//! second, and with the word `workers` how many acts were made. Without a word it ends with 1 where one of some further sessions
+//! doesn't go as it should.
+#![tactic(auto)]
+
+mod ring_machines;
+mod ring_players;
+mod ring_runs;
+mod ring_sessions;
+mod ring_threads;
+mod ring_times;
+mod ring_trials;
+mod worker_actors;
+mod worker_runs;
+mod worker_sessions;
+mod worker_times;
+
+use rs_model::NoMemory;
+use std::alloc::{Alloc, Global};
+use std::env::{self, Env};
+use std::io;
+use std::process::ExitCode;
+use std::sync::Wait;
+use std::thread::Threads;
+use std::time::Clock;
+use worker_runs::{Workload, run_of};
+use worker_sessions::SESSIONS;
+
+/// The threads and the capacities of rings that are tried.
+const ROWS: [(u8, u16); 4] = [(1, 16), (2, 1), (2, 16), (2, 1024)];
+
+/// The numbers of workers that are tried.
+const WORKERS: [u8; 3] = [1, 2, 4];
+
+/// The rounds of work at each act that are timed.
+const ROUNDS: [u32; 5] = [0, 100, 300, 1000, 3000];
+
+/// What is asked for.
+enum Asked {
+    /// Whether all goes as it should.
+    Trials,
+    /// How fast parcels go through rings.
+    RingTimes,
+    /// How fast workers make acts.
+    WorkerTimes,
+}
+
+/// What the first word behind the program's name asks for.
+fn what_is_asked<R: Env + Alloc<A = Global>>(rt: &R) -> io::Result<Asked> {
+    for (place, word) in env::args(rt)?.enumerate() {
+        if place == 1 {
+            if word.as_str() == "rings" {
+                return Ok(Asked::RingTimes);
+            }
+            if word.as_str() == "workers" {
+                return Ok(Asked::WorkerTimes);
+            }
+        }
+    }
+    Ok(Asked::Trials)
+}
+
+/// Tells how many parcels came in order.
+fn tell_orders<R: Threads + Wait + Sync + Print + Alloc<A = Global>>(rt: &R) -> io::Result<()> {
+    for (threads, capacity) in ROWS {
+        let right = told(ring_sessions::stream(rt, rt.alloc(), threads, capacity, 1000))?;
+        println!(rt;
+            "threads {threads}, capacity {capacity}: {right} of 1000 parcels came in order"
+        )?;
+    }
+    let right = told(ring_sessions::rounds(rt, rt.alloc(), 3, 1000))?;
+    println!(rt; "both ways, capacity 3: {right} of 2000 parcels came in order")?;
+    let right = told(ring_sessions::held(rt, rt.alloc(), 10))?;
+    println!(rt; "one pass held: {right} of 33 parcels came in order")
+}
+
+fn told<T>(right: Result<T, NoMemory>) -> io::Result<T> {
+    match right {
+        Ok(right) => Ok(right),
+        Err(_refused) => Err(io::Error::from(io::ErrorKind::OutOfMemory)),
+    }
+}
+
+/// Tells what the role that came first to 1,000 acts has worked out.
+fn tell_numbers<R: Threads + Wait + Sync + Print + Alloc<A = Global>>(rt: &R) -> io::Result<()> {
+    for session in SESSIONS {
+        for workers in WORKERS {
+            let load = Workload {
+                rounds: 10,
+                limit: 1000,
+                workers,
+            };
+            match run_of(rt, rt.alloc(), session.text.as_bytes(), load) {
+                Some(end) => println!(rt;
+                    "{}, workers {workers}: a role has made {} acts, and its number is {}",
+                    session.name, end.first_acts, end.first_number
+                )?,
+                None => println!(rt; "{}, workers {workers}: no run", session.name)?,
+            }
+        }
+    }
+    Ok(())
+}
+
+/// Tells how many parcels came in a second.
+fn tell_ring_times<R: Threads + Wait + Sync + Clock + Print + Alloc<A = Global>>(
+    rt: &R,
+) -> io::Result<()> {
+    for (threads, capacity) in ROWS {
+        let rate = ring_times::of_stream(rt, threads, capacity)?;
+        println!(rt; "threads {threads}, capacity {capacity}: {rate} parcels a second")?;
+    }
+    Ok(())
+}
+
+/// Tells how many acts were made in a second.
+fn tell_worker_times<R: Threads + Wait + Sync + Clock + Print + Alloc<A = Global>>(
+    rt: &R,
+) -> io::Result<()> {
+    for session in SESSIONS {
+        for rounds in ROUNDS {
+            for workers in WORKERS {
+                let rate = worker_times::acts_a_second(
+                    rt,
+                    session.text.as_bytes(),
+                    rounds,
+                    workers,
+                )?;
+                println!(rt; "{}\t{rounds}\t{workers}\t{rate}", session.name)?;
+            }
+        }
+    }
+    Ok(())
+}
+
+/// Whether all went as it should.
+fn run<R: Threads + Wait + Sync + Clock + Print + Env + Alloc<A = Global>>(
+    rt: &R,
+) -> io::Result<bool> {
+    match what_is_asked(rt)? {
+        Asked::RingTimes => {
+            tell_ring_times(rt)?;
+            Ok(true)
+        }
+        Asked::WorkerTimes => {
+            tell_worker_times(rt)?;
+            Ok(true)
+        }
+        Asked::Trials => {
+            tell_orders(rt)?;
+            tell_numbers(rt)?;
+            told(ring_trials::are_right(rt, rt.alloc()))
+        }
+    }
+}
+
+fn main(rt: HostRuntime) -> ExitCode {
+    match run(&rt) {
+        Ok(true) => ExitCode::from(0),
+        _ => ExitCode::from(1),
+    }
+}

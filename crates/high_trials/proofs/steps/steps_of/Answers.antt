@@ -1,5 +1,0 @@
-use Rattle.rs_documents.proofs.CanShow.{role_names}
-use Rattle.high_trials.proofs.steps.steps_of.Goals as goal
-
-pub document_steps-requires-clause-roles : goal.document_steps-requires-clause-roles
-document_steps-requires-clause-roles c = let r = role_names c.args.text.now c.in-Ok.document c.in-Ok.ensures.ok in r.0

@@ -1,7 +1,0 @@
-use Rattle.std.proofs.Common.{◌≡◌, ◌+◌, ◌*◌, ◌≤◌}
-use Rattle.ring_bench.specs.Players.{IsAt}
-use Rattle.ring_bench.proofs.runs.ask.Given as goal
-
-abbrev pub invariant-loop-n : goal.invariant-loop-n
-invariant-loop-n g l =
-    IsAt l.rings l.player × (l.player.role ≡ l.fn.player.role) × (l.player.state ≡ 0) × (l.player.acts + 3 * l.fn.first ≡ l.fn.player.acts + 3 * l.n) × (l.right + l.fn.first ≤ l.n)

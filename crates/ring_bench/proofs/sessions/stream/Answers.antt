@@ -1,7 +1,0 @@
-use Rattle.std.proofs.Common.{◌∙◌, refl}
-use Rattle.ring_bench.specs.Sessions.{machines_of_stream}
-use Rattle.ring_bench.proofs.Plays.{both_stand_first}
-use Rattle.ring_bench.proofs.sessions.stream.Goals as goal
-
-pub pair_of-a-requires : goal.pair_of-a-requires
-pair_of-a-requires g c = record { stand = both_stand_first c.as_slice.result.now machines_of_stream c.in_ok-rings.rings c.in_ok-rings.pass (c.as_slice.ensures.value ∙ c.in_ok-machines.ensures) refl c.in_ok-rings.ensures.stand }

@@ -1,3 +1,0 @@
-pub mod Demos
-pub mod DemoSessions
-pub mod Openings

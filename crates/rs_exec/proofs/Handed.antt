@@ -1,0 +1,281 @@
+-- What a send and a receive of a hand are for rounds.
+use Rattle.std.proofs.Common.{◌≡◌, ◌≢◌, inl, inr, ℕ, zero, suc, ◌+◌, ◌<◌, ◌≤◌, List, [], ◌∷◌, ◌++◌, length, Option, Some, None, IsSome, get_or, map, slice_get, slice_set, refl, sym, ap, ◌∙◌, subst}
+use Rattle.std.proofs.Common.{arith}
+use Rattle.std.proofs.lemmas.Bool.Decides.{eqb_tells}
+use Rattle.std.proofs.lemmas.List.{length-map, length-set}
+use Rattle.std.proofs.lemmas.Option.{get_or_from_slice_get, slice_get-map}
+use Rattle.std.specs.Option.{option_map}
+use Rattle.rs_model.specs.declared.limits.TheConstants.{MOST_ROLES}
+use Rattle.rs_model.specs.Data.{Machine_data}
+use Rattle.rs_model.specs.Sorts.{HasSort}
+use Rattle.rs_model.specs.declared.graph.Arm.{Arm}
+use Rattle.rs_model.specs.declared.graph.Role.{Role}
+use Rattle.rs_model.specs.declared.machines.State.TheVariants.{Puts, Takes}
+use Rattle.rs_model.specs.declared.values.Value.{Value}
+use Rattle.rs_core.specs.Choices.{AreWellFormed}
+use Rattle.rs_core.specs.Configurations.{state_at, state_of}
+use Rattle.rs_core.specs.Core.{configuration_of}
+use Rattle.rs_core.specs.Turns.{CanChoose}
+use Rattle.rs_core.proofs.Ends.{get_there}
+use Rattle.rs_safety.specs.Accepting.{Accepted_data, IsAcceptedSession}
+use Rattle.rs_rings.proofs.Seats.{first_part_is, first_speaks}
+use Rattle.rs_core.specs.Histories.{Action, entry_of, transcript_of}
+use Rattle.rs_core.specs.Queues.{FindsItFull, FetchTells, IsLongerBy, IsPosted, StayNoted}
+use Rattle.rs_core.specs.declared.transcripts.Entry.{Entry}
+use Rattle.rs_core.specs.declared.transcripts.Entry.TheVariants as entry
+use Rattle.rs_core.proofs.Stands.{here_is}
+use Rattle.rs_slots.specs.declared.parcels.Parcel.{Parcel}
+use Rattle.rs_rings.specs.Acts.{MayPut, message_of, role_of_number, sent_act, got_act, parcels_sent, parcels_got}
+use Rattle.rs_rings.specs.Passes.{IsChanged, IsPut, ParcelIsTaken, IsEmpty, Pass_data, Rings_data}
+use Rattle.rs_rings.specs.Passes as passes
+use Rattle.rs_rings.specs.Views.{SpeaksFor, history_in, part_of, start_of, starting, state_in, part_with_room, part_with_parcel}
+use Rattle.rs_rings.specs.declared.views.Part.{Part}
+use Rattle.rs_rings.specs.declared.views.View.{View}
+use Rattle.rs_rings.proofs.Arms.{put_once}
+use Rattle.rs_session.proofs.Beginning.{state_there}
+use Rattle.rs_session.proofs.HandedIn.{map_last}
+use Rattle.rs_exec.specs.Hands.{Hand_data, IsHeld, IsSomewhere, core_of, notes_of}
+use Rattle.rs_exec.proofs.Together.{state_is, looked, sends_in, receives_in, under_way, none_under_way}
+
+-- what stands in a list where one element was replaced
+set_here : {X : Type 0} (xs : List X) (p : ℕ) (x : X) → p < length xs → slice_get (slice_set xs p x) p ≡ Some x
+set_here [] p x low = absurd (omega arith)
+set_here (z ∷ zs) zero x low = refl
+set_here (z ∷ zs) (suc p) x low = set_here zs p x (omega arith)
+
+set_aside : {X : Type 0} (xs : List X) (p q : ℕ) (x : X) → q ≢ p → slice_get (slice_set xs p x) q ≡ slice_get xs q
+set_aside [] p q x ne = refl
+set_aside (z ∷ zs) zero zero x ne = absurd (ne refl)
+set_aside (z ∷ zs) zero (suc q) x ne = refl
+set_aside (z ∷ zs) (suc p) zero x ne = refl
+set_aside (z ∷ zs) (suc p) (suc q) x ne = set_aside zs p q x (λ e. ne (ap suc e))
+
+module _ (session : Rings_data) where
+  abbrev ms : List Machine_data
+  ms = session.machines
+
+  -- where role r has gone on to the state s
+  pub held_on : (old new : Pass_data) (states : List ℕ) (r s : ℕ) (y : Part) → IsHeld session old states → r < length ms → new.table ≡ old.table → IsChanged r y old.view new.view → y.state ≡ s
+      → IsSome (state_of (slice_get ms r) s)
+      → IsHeld session new (slice_set states r s)
+  held_on old new states r s y h low table c goes there =
+      let at : state_in new.view r ≡ s = ap (λ (z : Part). z.state) c.part ∙ goes in
+      let many = h.many in
+      record {
+        table = table ∙ h.table;
+        speaks = λ q lower. c.spoken q ∙ h.speaks q lower;
+        well_formed = h.well_formed;
+        some = h.some;
+        roles = h.roles;
+        many = length-set states r s ∙ h.many;
+        states = λ q lower. elim (eqb_tells q r) [
+          | inl t ↦ subst (λ (z : ℕ). slice_get (slice_set states r s) z ≡ Some (state_in new.view z)) (sym t.1) (set_here states r s (omega (arith, many, low)) ∙ ap (λ (n : ℕ). Some n) (sym at))
+          | inr t ↦ set_aside states r q s t.1 ∙ h.states q lower ∙ ap (λ (z : Part). Some z.state) (sym (c.others q t.1))
+        ];
+        somewhere = λ q lower. elim (eqb_tells q r) [
+          | inl t ↦ subst (λ (z : ℕ). IsSomewhere ms new.view z) (sym t.1) (subst (λ (n : ℕ). IsSome (state_of (slice_get ms r) n)) (sym at) there)
+          | inr t ↦ subst (λ (z : Part). IsSome (state_of (slice_get ms q) z.state)) (sym (c.others q t.1)) (h.somewhere q lower)
+        ];
+      }
+
+  -- where role r has done one act more
+  noted_on : (v w : View) (r : ℕ) (y : Part) (a : Action) → IsChanged r y v w → y.history ≡ history_in v r ++ a ∷ [] → IsLongerBy r (entry_of a) (notes_of v) (notes_of w)
+  noted_on v w r y a c more = record {
+    adds = λ t is. ap (λ (l : List Entry). l ++ entry_of a ∷ []) is ∙ sym (map_last entry_of (history_in v r) a) ∙ ap transcript_of (sym (ap (λ (z : Part). z.history) c.part ∙ more));
+    others = λ q t ne is. is ∙ ap (λ (z : Part). transcript_of z.history) (sym (c.others q ne));
+  }
+
+  -- where nobody has done an act
+  noted_still : (v w : View) (r : ℕ) (y : Part) → IsChanged r y v w → y.history ≡ history_in v r → StayNoted (notes_of v) (notes_of w)
+  noted_still v w r y c same q t is = is ∙ ap transcript_of (sym (elim (eqb_tells q r) [
+    | inl e ↦ subst (λ (z : ℕ). history_in w z ≡ history_in v z) (sym e.1) (ap (λ (z : Part). z.history) c.part ∙ same)
+    | inr e ↦ ap (λ (z : Part). z.history) (c.others q e.1)
+  ]))
+
+  -- what a send tells
+  pub record SentBy (r : ℕ) (v w : View) (peer : Role) (place : ℕ) (value : Value) (arm : Arm) : Type 0 where
+    pub posted : IsPosted (Some session.capacity) (core_of ms v) r peer (place, value) (core_of ms w)
+    pub noted : IsLongerBy r (entry.Sent peer arm.label) (notes_of v) (notes_of w)
+    pub goes : state_in w r ≡ arm.next
+    pub present : IsSome (state_of (slice_get ms r) arm.next)
+
+  pub sent_by : (r : ℕ) (v w : View) (peer : Role) (arms : List Arm) (place : ℕ) (value : Value) (arm : Arm) → AreWellFormed ms → ((y : ℕ) → y < length ms → SpeaksFor v y) → r < length ms
+      → state_of (slice_get ms r) (state_in v r) ≡ Some (Puts peer arms) → slice_get arms place ≡ Some arm → HasSort value arm.sort
+      → IsPut ms session.capacity r peer.0 (record { label = arm.label; value = value }) v w → SentBy r v w peer place value arm
+  sent_by r v w peer arms place value arm wf speaks there stands picks has put =
+      let s : ℕ = state_in v r in
+      let x : Parcel = record { label = arm.label; value = value } in
+      let at = here_is (slice_get ms r) s (Puts peer arms) stands in
+      let fit = (wf.fits r at.0 at.1).puts s peer arms at.2 in
+      let apart : r ≢ peer.0 = λ e. fit.other (ap role_of_number (sym e ∙ sym (wf.role r at.0 at.1))) in
+      let may : MayPut ms r peer.0 s x arm.next = record { arms = arms; place = place; arm = arm; puts = stands; picks = picks; same_label = refl; has_sort = has; goes = refl } in
+      let goes : state_in w r ≡ arm.next = ap (λ (z : Part). z.state) put.changed.part ∙ put_once ms r peer.0 s x put.next arm.next wf put.may may in
+      let got : put.taken ≡ length (parcels_got r (history_in v peer.0)) = put.knows (speaks peer.0 fit.known) in
+      let n : ℕ = length (parcels_got r (history_in v peer.0)) in
+      let sent : ℕ = length (parcels_sent peer.0 (history_in v r)) in
+      let le : n ≤ sent = subst (λ (k : ℕ). k ≤ sent) got put.not_more in
+      let below : sent < n + session.capacity = subst (λ (k : ℕ). sent < k + session.capacity) got put.below in
+      let many = under_way ms v w r peer.0 there fit.known apart in
+      record {
+        posted = record {
+          step = sends_in ms v w r peer.0 there fit.known apart place value arms arm stands picks has goes
+              (record { history = ap (λ (z : Part). z.history) put.changed.part; others = put.changed.others }) le;
+          room = subst (λ (k : ℕ). k < session.capacity) (sym many) (omega (arith, le, below));
+          machines = refl;
+        };
+        noted = noted_on v w r (part_of w r) (sent_act peer.0 x) (record { part = refl; spoken = put.changed.spoken; others = put.changed.others }) (ap (λ (z : Part). z.history) put.changed.part);
+        goes = goes;
+        present = state_there ms r arm.next at.0 at.1 (fit.nexts place arm picks);
+      }
+
+  -- what a send into a full ring tells
+  pub record FullBy (r : ℕ) (v w : View) (peer : Role) : Type 0 where
+    pub found : FindsItFull (Some session.capacity) (core_of ms v) r peer (core_of ms w)
+    pub noted : StayNoted (notes_of v) (notes_of w)
+
+  pub full_by : (r : ℕ) (v w : View) (peer : Role) (arms : List Arm) (sent taken : ℕ) (x back : Parcel) → AreWellFormed ms → ((y : ℕ) → y < length ms → SpeaksFor v y) → r < length ms
+      → state_of (slice_get ms r) (state_in v r) ≡ Some (Puts peer arms) → passes.RingIsFull session.capacity r peer.0 x sent taken back v w → FullBy r v w peer
+  full_by r v w peer arms sent taken x back wf speaks there stands full =
+      let s : ℕ = state_in v r in
+      let at = here_is (slice_get ms r) s (Puts peer arms) stands in
+      let fit = (wf.fits r at.0 at.1).puts s peer arms at.2 in
+      let apart : r ≢ peer.0 = λ e. fit.other (ap role_of_number (sym e ∙ sym (wf.role r at.0 at.1))) in
+      let n : ℕ = length (parcels_got r (history_in v peer.0)) in
+      let got : taken ≡ n = full.knows (speaks peer.0 fit.known) in
+      let all : ℕ = length (parcels_sent peer.0 (history_in v r)) in
+      let is : all ≡ n + session.capacity = sym full.is_sent ∙ full.full ∙ ap (λ (k : ℕ). k + session.capacity) got in
+      let many = under_way ms v w r peer.0 there fit.known apart in
+      record {
+        found = record { full = subst (λ (k : ℕ). session.capacity ≤ k) (sym many) (omega (arith, is)); same = looked ms v w r (part_with_room peer.0 taken (part_of v r)) full.changed refl refl };
+        noted = noted_still v w r (part_with_room peer.0 taken (part_of v r)) full.changed refl;
+      }
+
+  -- what a receive tells
+  pub record GotBy (r : ℕ) (v w : View) (peer : Role) (x : Parcel) (arms : List Arm) : Type 0 where
+    pub place : ℕ
+    pub arm : Arm
+    pub picks : slice_get arms place ≡ Some arm
+    pub same_label : arm.label ≡ x.label
+    pub told : FetchTells (core_of ms v) r peer (core_of ms w) (Some (message_of x))
+    pub noted : IsLongerBy r (entry.Got peer x.label x.value) (notes_of v) (notes_of w)
+    pub goes : state_in w r ≡ arm.next
+    pub present : IsSome (state_of (slice_get ms r) arm.next)
+
+  pub got_by : (r : ℕ) (v w : View) (peer : Role) (arms : List Arm) (x : Parcel) → AreWellFormed ms → ((y : ℕ) → y < length ms → SpeaksFor v y) → r < length ms
+      → state_of (slice_get ms r) (state_in v r) ≡ Some (Takes peer arms)
+      → ParcelIsTaken ms r peer.0 x v w → GotBy r v w peer x arms
+  got_by r v w peer arms x wf speaks there stands take =
+      let s : ℕ = state_in v r in
+      let at = here_is (slice_get ms r) s (Takes peer arms) stands in
+      let fit = (wf.fits r at.0 at.1).takes s peer arms at.2 in
+      let apart : r ≢ peer.0 = λ e. fit.other (ap role_of_number (sym e ∙ sym (wf.role r at.0 at.1))) in
+      let both : Some (Takes peer take.may.arms) ≡ Some (Takes peer arms) = sym take.may.takes ∙ stands in
+      let all : take.may.arms ≡ arms = cc (both) in
+      let picks : slice_get arms take.may.place ≡ Some take.may.arm = ap (λ (l : List Arm). slice_get l take.may.place) (sym all) ∙ take.may.picks in
+      let goes : state_in w r ≡ take.may.arm.next = ap (λ (z : Part). z.state) take.changed.part ∙ take.may.goes in
+      record {
+        place = take.may.place;
+        arm = take.may.arm;
+        picks = picks;
+        same_label = take.may.same_label;
+        told = (
+          (
+            receives_in ms v w peer.0 r fit.known there (λ e. apart (sym e)) take.may.place x arms take.may.arm stands picks take.may.same_label take.may.has_sort goes
+                (record { history = ap (λ (z : Part). z.history) take.changed.part; others = take.changed.others }) (take.oldest (speaks peer.0 fit.known)),
+            refl,
+          ),
+          refl,
+        );
+        noted = noted_on v w r (part_of w r) (got_act peer.0 x) (record { part = refl; spoken = take.changed.spoken; others = take.changed.others }) (ap (λ (z : Part). z.history) take.changed.part);
+        goes = goes;
+        present = state_there ms r take.may.arm.next at.0 at.1 (fit.nexts take.may.place take.may.arm picks);
+      }
+
+  -- what a receive from an empty ring tells
+  pub record NoneBy (r : ℕ) (v w : View) (peer : Role) : Type 0 where
+    pub told : FetchTells (core_of ms v) r peer (core_of ms w) None
+    pub noted : StayNoted (notes_of v) (notes_of w)
+
+  pub none_by : (r : ℕ) (v w : View) (peer : Role) (arms : List Arm) (seen : ℕ) → AreWellFormed ms → ((y : ℕ) → y < length ms → SpeaksFor v y) → r < length ms
+      → state_of (slice_get ms r) (state_in v r) ≡ Some (Takes peer arms)
+      → IsEmpty r peer.0 seen v w → NoneBy r v w peer
+  none_by r v w peer arms seen wf speaks there stands empty =
+      let s : ℕ = state_in v r in
+      let at = here_is (slice_get ms r) s (Takes peer arms) stands in
+      let fit = (wf.fits r at.0 at.1).takes s peer arms at.2 in
+      let apart : r ≢ peer.0 = λ e. fit.other (ap role_of_number (sym e ∙ sym (wf.role r at.0 at.1))) in
+      let level : length (parcels_got peer.0 (history_in v r)) ≡ length (parcels_sent r (history_in v peer.0)) = sym empty.is_got ∙ empty.knows (speaks peer.0 fit.known) in
+      record {
+        told = (none_under_way ms v w peer.0 r fit.known there (λ e. apart (sym e)) level, looked ms v w r (part_with_parcel peer.0 seen (part_of v r)) empty.changed refl refl);
+        noted = noted_still v w r (part_with_parcel peer.0 seen (part_of v r)) empty.changed refl;
+      }
+
+  -- what the hand knows of a send that is asked for: n is the number of the role's state
+  pub record CanPost (all : Pass_data) (r : ℕ) (peer : Role) (place : ℕ) (value : Value) (n : ℕ) : Type 0 where
+    pub present : r < length ms
+    pub arms : List Arm
+    pub arm : Arm
+    pub stands : state_of (slice_get ms r) (state_in all.view r) ≡ Some (Puts peer arms)
+    pub at : state_of (slice_get ms r) n ≡ Some (Puts peer arms)
+    pub picks : slice_get arms place ≡ Some arm
+    pub has : HasSort value arm.sort
+
+  pub can_post : (h : Hand_data) (all : Pass_data) (numbers : List ℕ) (r : ℕ) (peer : Role) (place : ℕ) (value : Value) (n : ℕ) → record { session = session; all = all; states = numbers } ≡ h
+      → IsHeld session all numbers
+      → CanChoose (core_of h.session.machines h.all.view) r (place, value) peer → r < length h.session.machines → n ≡ get_or numbers r n → CanPost all r peer place value n
+  can_post h all numbers r peer place value n is held can low read =
+      let can' : CanChoose (core_of ms all.view) r (place, value) peer = subst (λ (z : Hand_data). CanChoose (core_of z.session.machines z.all.view) r (place, value) peer) (sym is) can in
+      let there : r < length ms = subst (λ (z : Hand_data). r < length z.session.machines) (sym is) low in
+      let stands : state_of (slice_get ms r) (state_in all.view r) ≡ Some (Puts peer can'.arms) = sym (state_is ms all.view r there) ∙ can'.puts in
+      let number : n ≡ state_in all.view r = read ∙ get_or_from_slice_get numbers r (state_in all.view r) n (held.states r there) in
+      record { present = there; arms = can'.arms; arm = can'.arm; stands = stands; at = ap (state_of (slice_get ms r)) number ∙ stands; picks = can'.picks; has = can'.has_sort }
+
+  -- the arm of a choice at that state
+  pub same_arm : (v : View) (r : ℕ) (peer : Role) (place : ℕ) (value : Value) (arms : List Arm) (a : Arm) → r < length ms → state_of (slice_get ms r) (state_in v r) ≡ Some (Puts peer arms)
+      → slice_get arms place ≡ Some a
+      → (can : CanChoose (core_of ms v) r (place, value) peer) → a ≡ can.arm
+  same_arm v r peer place value arms a low stands picks can =
+      let both : Some (Puts peer arms) ≡ Some (Puts peer can.arms) = sym stands ∙ sym (state_is ms v r low) ∙ can.puts in
+      let same : arms ≡ can.arms = cc (both) in
+      let one : Some a ≡ Some can.arm = sym picks ∙ ap (λ (l : List Arm). slice_get l place) same ∙ can.picks in
+      cc (one)
+
+  -- what it knows of a receive that is asked for
+  pub record CanFetch (all : Pass_data) (r : ℕ) (peer : Role) : Type 0 where
+    pub present : r < length ms
+    pub arms : List Arm
+    pub stands : state_of (slice_get ms r) (state_in all.view r) ≡ Some (Takes peer arms)
+
+  pub can_fetch : (h : Hand_data) (all : Pass_data) (numbers : List ℕ) (r : ℕ) (peer : Role) → record { session = session; all = all; states = numbers } ≡ h
+      → (arms : List Arm) × (state_at h.session.machines (configuration_of (core_of h.session.machines h.all.view)) r ≡ Some (Takes peer arms)) → r < length h.session.machines → CanFetch all r peer
+  can_fetch h all numbers r peer is takes low =
+      let at = subst (λ (z : Hand_data). (arms : List Arm) × (state_at z.session.machines (configuration_of (core_of z.session.machines z.all.view)) r ≡ Some (Takes peer arms))) (sym is) takes in
+      let there : r < length ms = subst (λ (z : Hand_data). r < length z.session.machines) (sym is) low in
+      record { present = there; arms = at.0; stands = sym (state_is ms all.view r there) ∙ at.1 }
+
+  pub number_is : (all : Pass_data) (numbers : List ℕ) (r n : ℕ) → IsHeld session all numbers → r < length ms → n ≡ get_or numbers r n → n ≡ state_in all.view r
+  number_is all numbers r n held there read = read ∙ get_or_from_slice_get numbers r (state_in all.view r) n (held.states r there)
+
+  -- at the start
+  pub held_first : (a : Accepted_data) (all : Pass_data) (numbers : List ℕ) → IsAcceptedSession a → session.machines ≡ a.machines → all.table ≡ session.table → all.view ≡ starting session.machines
+      → numbers ≡ map (λ (m : Machine_data). m.start) a.machines → IsHeld session all numbers
+  held_first a all numbers s same table first starts =
+      let wf : AreWellFormed ms = subst AreWellFormed (sym same) s.is_session.machines_fit in
+      let many = ap length same ∙ s.is_session.a_machine_each in
+      let roles = s.is_session.roles in
+      let list : numbers ≡ map (λ (m : Machine_data). m.start) ms = starts ∙ ap (λ (l : List Machine_data). map (λ (m : Machine_data). m.start) l) (sym same) in
+      let state : (r : ℕ) → r < length ms → state_in all.view r ≡ start_of (slice_get ms r) = λ r low. ap (λ (v : View). state_in v r) first
+      ∙ ap (λ (z : Part). z.state) (first_part_is ms (length ms) r low) in
+      record {
+        table = table;
+        speaks = λ r low. subst (λ (v : View). SpeaksFor v r) (sym first) (first_speaks ms (length ms) r low);
+        well_formed = wf;
+        some = (let two = roles.0 in omega (arith, many, two));
+        roles = subst (λ (n : ℕ). n ≤ MOST_ROLES) (sym many) roles.1;
+        many = ap length list ∙ length-map ms (λ (m : Machine_data). m.start);
+        states = λ r low. (let one = get_there ms r low in
+            ap (λ (l : List ℕ). slice_get l r) list ∙ slice_get-map (λ (m : Machine_data). m.start) ms r ∙ ap (λ (o : Option Machine_data). option_map (λ (m : Machine_data). m.start) o) one.1
+            ∙ ap (λ (n : ℕ). Some n) (sym (state r low ∙ ap start_of one.1)));
+        somewhere = λ r low. (let one = get_there ms r low in
+            subst (λ (k : ℕ). IsSome (state_of (slice_get ms r) k)) (sym (state r low ∙ ap start_of one.1)) (state_there ms r one.0.start one.0 one.1 (wf.fits r one.0 one.1).start));
+      }

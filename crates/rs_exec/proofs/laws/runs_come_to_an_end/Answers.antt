@@ -1,5 +1,0 @@
-use Rattle.rs_exec.proofs.Ends.{comes-to-an-end}
-use Rattle.rs_exec.proofs.laws.runs_come_to_an_end.Goals as goal
-
-pub returns : goal.returns
-returns g c = λ machines actors limit capacity safe wf. comes-to-an-end g.A.Actor.behaviour machines actors limit capacity record { safe = safe; wf = wf; well = g.met.A.Actor.chooses_well }

@@ -1,6 +1,0 @@
-use Rattle.std.proofs.Common.{◌≡◌, ◌++◌}
-use Rattle.rs_pipeline.specs.Pipelines.{values_text}
-use Rattle.rs_pipeline.proofs.texts.push_values.Given as goal
-
-abbrev pub invariant-loop-role : goal.invariant-loop-role
-invariant-loop-role l = l.text ≡ l.fn.text ++ values_text l.role

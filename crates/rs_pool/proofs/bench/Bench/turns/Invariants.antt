@@ -1,5 +1,0 @@
-use Rattle.rs_pool.specs.Jobs.{JobFits}
-use Rattle.rs_pool.proofs.bench.Bench.turns.Given as goal
-
-abbrev pub invariant-loop : goal.invariant-loop
-invariant-loop g l = JobFits g.A.Actor.behaviour g.N.StartName.start l.fn.role l.job
