@@ -1,3 +1,4 @@
+pub mod BenchSessions
 pub mod Safe
 pub mod Plays
 pub mod Sends

@@ -40,23 +40,23 @@ pub put_on : (rings : Rings_data) (pass pass' : Pass_data) (capacity p q s n nex
     → MayPut rings.machines p q s x next → IsPut rings.machines capacity p q x pass.view pass'.view → PassStands rings pass' p next (n + 1)
 put_on rings pass pass' capacity p q s n next x well_formed at table may put =
     let one : put.next ≡ next = put_once rings.machines p q s x put.next next well_formed (subst (λ (z : ℕ). MayPut rings.machines p q z x put.next) at.at put.may) may in
-    changed rings pass pass' p s n next (n + 1) (sending q x put.next (gaining q put.taken (part_of pass.view p))) at table put.changed one
+    changed rings pass pass' p s n next (n + 1) (sending q x put.next put.loads (gaining q put.taken (part_of pass.view p))) at table put.changed one
     (one_more (history_in pass.view p) (sent_act q x) ∙ ap (λ (z : ℕ). z + 1) at.many)
 
 pub full_on : (rings : Rings_data) (pass pass' : Pass_data) (capacity p q s n : ℕ) (x : Parcel) (sent taken : ℕ) (back : Parcel) → PassStands rings pass p s n → pass'.table ≡ pass.table
-    → RingIsFull capacity p q x sent taken back pass.view pass'.view → PassStands rings pass' p s n
+    → RingIsFull rings.machines capacity p q x sent taken back pass.view pass'.view → PassStands rings pass' p s n
 full_on rings pass pass' capacity p q s n x sent taken back at table full =
     changed rings pass pass' p s n s n (part_with_room q taken (part_of pass.view p)) at table full.changed at.at at.many
 
 -- the one arm of a state that takes tells where a take leads
-pub takes_on : (rings : Rings_data) (pass pass' : Pass_data) (q s n next : ℕ) (p : Role) (x : Parcel) → PassStands rings pass q s n → pass'.table ≡ pass.table
-    → TakesOne rings.machines q p s next → ParcelIsTaken rings.machines q p.0 x pass.view pass'.view → PassStands rings pass' q next (n + 1)
-takes_on rings pass pass' q s n next p x at table one taken =
+pub takes_on : (rings : Rings_data) (pass pass' : Pass_data) (capacity q s n next : ℕ) (p : Role) (x : Parcel) → PassStands rings pass q s n → pass'.table ≡ pass.table
+    → TakesOne rings.machines q p s next → ParcelIsTaken rings.machines capacity q p.0 x pass.view pass'.view → PassStands rings pass' q next (n + 1)
+takes_on rings pass pass' capacity q s n next p x at table one taken =
     let may : MayTake rings.machines q p.0 s x taken.next = subst (λ (z : ℕ). MayTake rings.machines q p.0 z x taken.next) at.at taken.may in
     let both : Some (Takes p (one.arm ∷ [])) ≡ Some (Takes p may.arms) = sym one.takes ∙ may.takes in
     let arms : one.arm ∷ [] ≡ may.arms = cc (both) in
     let is : taken.next ≡ next = may.goes ∙ only may.place may.arm one.arm (ap (λ (l : List Arm). slice_get l may.place) arms ∙ may.picks) ∙ one.goes in
-    changed rings pass pass' q s n next (n + 1) (getting p.0 x taken.next (taking p.0 x taken.put (part_of pass.view q))) at table taken.changed is
+    changed rings pass pass' q s n next (n + 1) (getting p.0 x taken.next taken.loads (taking p.0 x taken.put (part_of pass.view q))) at table taken.changed is
     (one_more (history_in pass.view q) (got_act p.0 x) ∙ ap (λ (z : ℕ). z + 1) at.many)
   where
     only : (place : ℕ) (a b : Arm) → slice_get (b ∷ []) place ≡ Some a → a.next ≡ b.next
@@ -64,7 +64,7 @@ takes_on rings pass pass' q s n next p x at table one taken =
     only (suc place) a b e = absurd (cc (e))
 
 pub empty_on : (rings : Rings_data) (pass pass' : Pass_data) (q s n p seen : ℕ) → PassStands rings pass q s n → pass'.table ≡ pass.table
-    → IsEmpty q p seen pass.view pass'.view → PassStands rings pass' q s n
+    → IsEmpty rings.machines q p seen pass.view pass'.view → PassStands rings pass' q s n
 empty_on rings pass pass' q s n p seen at table empty =
     changed rings pass pass' q s n s n (part_with_parcel p seen (part_of pass.view q)) at table empty.changed at.at at.many
 

@@ -11,8 +11,10 @@ use Rattle.rs_safety.proofs.Computed.{projections_are}
 use Rattle.rs_safety.proofs.Tested.{machines_are, derivations_are}
 use Rattle.rs_safety.proofs.Sessions.{equal_safe}
 use Rattle.rs_safety.proofs.Reordered.{safe}
-use Rattle.benches.specs.Sessions.{stream, projections_of_stream, machines_of_stream, relay, projections_of_relay, machines_of_relay, rounds, projections_of_rounds, machines_of_rounds}
-use Rattle.benches.specs.Sessions.{derivations_of_rounds, swap, projections_of_swap, machines_of_swap, derivations_of_swap}
+use Rattle.benches.specs.Sessions.{stream, machines_of_stream, relay, machines_of_relay, rounds, projections_of_rounds, machines_of_rounds}
+use Rattle.benches.proofs.BenchSessions.{projections_of_stream, projections_of_relay}
+use Rattle.benches.specs.Sessions.{swap, machines_of_swap}
+use Rattle.benches.proofs.BenchSessions.{derivations_of_rounds, projections_of_swap, derivations_of_swap}
 
 passes_stream : of_protocols.first_fault stream ≡ None
 unfolding of_protocols.first_fault

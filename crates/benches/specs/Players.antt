@@ -1,4 +1,4 @@
--- Believed: players, each with the pass of one role.
+-- Steps: players, each with the pass of one role.
 use Rattle.std.specs.Prelude.{◌≡◌, ℕ, List, [], ◌∷◌, length, Some, slice_get}
 use Rattle.rs_model.specs.Data.{Machine_data}
 use Rattle.rs_model.specs.declared.graph.Arm.{Arm}

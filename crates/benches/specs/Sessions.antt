@@ -1,4 +1,4 @@
--- Believed: the sessions that are run over rings. Their roles are A, B and C.
+-- Steps: the sessions that are run over rings. Their roles are A, B and C.
 use Rattle.std.specs.Prelude.{ℕ, List, [], ◌∷◌}
 use Rattle.rs_model.specs.Data.{Machine_data, Protocol_data}
 use Rattle.rs_model.specs.declared.graph.Arm.{Arm}
@@ -45,13 +45,6 @@ machine role states = record { role = role; states = states; start = 0 }
 abbrev pub stream : Protocol_data
 stream = record { roles = 2; nodes = Talk a b (arm 0 sort.Natural 0 ∷ []) ∷ []; root = 0 }
 
--- its projections, in role order
-abbrev pub projections_of_stream : List Projection_data
-projections_of_stream =
-    record { machine = machine a (puts b 0 sort.Natural 0 ∷ []); sets = (0 ∷ []) ∷ [] }
-    ∷ record { machine = machine b (takes a 0 sort.Natural 0 ∷ []); sets = (0 ∷ []) ∷ [] }
-    ∷ []
-
 -- its machines: each role does as its projection does
 abbrev pub machines_of_stream : List Machine_data
 machines_of_stream = machine a (puts b 0 sort.Natural 0 ∷ []) ∷ machine b (takes a 0 sort.Natural 0 ∷ []) ∷ []
@@ -63,17 +56,6 @@ relay = record {
   nodes = Talk b c (arm 0 sort.Natural 1 ∷ []) ∷ Talk c b (arm 1 sort.Natural 2 ∷ []) ∷ Talk b a (arm 2 sort.Natural 0 ∷ []) ∷ [];
   root = 0;
 }
-
--- its projections, in role order
-abbrev pub projections_of_relay : List Projection_data
-projections_of_relay =
-    record { machine = machine a (takes b 2 sort.Natural 0 ∷ []); sets = (2 ∷ []) ∷ [] }
-    ∷ record {
-      machine = machine b (puts c 0 sort.Natural 1 ∷ takes c 1 sort.Natural 2 ∷ puts a 2 sort.Natural 0 ∷ []);
-      sets = (0 ∷ []) ∷ (1 ∷ []) ∷ (2 ∷ []) ∷ [];
-    }
-    ∷ record { machine = machine c (takes b 0 sort.Natural 1 ∷ puts b 1 sort.Natural 0 ∷ []); sets = (0 ∷ []) ∷ (1 ∷ []) ∷ [] }
-    ∷ []
 
 -- its machines: each role does as its projection does
 abbrev pub machines_of_relay : List Machine_data
@@ -105,13 +87,6 @@ machines_of_rounds =
 abbrev pub swap : Protocol_data
 swap = record { roles = 2; nodes = Talk a b (arm 0 sort.Unit 1 ∷ []) ∷ Talk b a (arm 1 sort.Unit 2 ∷ []) ∷ Finished ∷ []; root = 0 }
 
--- its projections, in role order
-abbrev pub projections_of_swap : List Projection_data
-projections_of_swap =
-    record { machine = machine a (puts b 0 sort.Unit 1 ∷ takes b 1 sort.Unit 2 ∷ Done ∷ []); sets = (0 ∷ []) ∷ (1 ∷ []) ∷ [] ∷ [] }
-    ∷ record { machine = machine b (takes a 0 sort.Unit 1 ∷ puts a 1 sort.Unit 2 ∷ Done ∷ []); sets = (0 ∷ []) ∷ (1 ∷ []) ∷ [] ∷ [] }
-    ∷ []
-
 -- its machines: A does as its projection does, and B sends first
 abbrev pub machines_of_swap : List Machine_data
 machines_of_swap =
@@ -130,25 +105,3 @@ takes_y so = act.Takes b (record { 0 = 1 }) so ∷ []
 -- B owes the receive of x
 abbrev pub takes_x : Sort → List Act
 takes_x so = act.Takes a (record { 0 = 0 }) so ∷ []
-
--- those of the machines of `rounds`
-abbrev pub derivations_of_rounds : List Derivation_data
-derivations_of_rounds =
-    record { role = a; bound = 16; nodes = node 0 [] 0 0 (1 ∷ []) ∷ node 1 [] 1 0 (2 ∷ []) ∷ node 1 (takes_y sort.Natural) 0 0 (0 ∷ []) ∷ [] }
-    ∷ record { role = b; bound = 16; nodes = node 0 [] 0 0 (1 ∷ []) ∷ node 0 (takes_x sort.Natural) 1 1 (2 ∷ []) ∷ node 1 (takes_x sort.Natural) 0 0 (0 ∷ []) ∷ [] }
-    ∷ []
-
--- those of the machines of `swap`
-abbrev pub derivations_of_swap : List Derivation_data
-derivations_of_swap =
-    record {
-      role = a;
-      bound = 16;
-      nodes = node 0 [] 0 0 (1 ∷ []) ∷ node 1 [] 1 0 (2 ∷ []) ∷ node 1 (takes_y sort.Unit) 2 0 (3 ∷ []) ∷ node 2 [] 2 0 [] ∷ [];
-    }
-    ∷ record {
-      role = b;
-      bound = 16;
-      nodes = node 0 [] 0 0 (1 ∷ []) ∷ node 0 (takes_x sort.Unit) 1 1 (2 ∷ []) ∷ node 1 (takes_x sort.Unit) 2 0 (3 ∷ []) ∷ node 2 [] 2 0 [] ∷ [];
-    }
-    ∷ []

@@ -1,4 +1,4 @@
--- Believed: how an actor behaves that works at each act.
+-- Steps: how an actor behaves that works at each act.
 use Rattle.std.specs.Prelude.{ℕ, ◌+◌, ◌^◌, ◌-◌, min}
 use Rattle.rs_core.specs.Actors.{Behaviour, ChoosesWell}
 use Rattle.rs_core.specs.Choosing.{draws_well}

@@ -2,7 +2,8 @@
 
 ghost use Rattle.std.specs.Prelude.{◌≡◌, ◌++◌, ◌∷◌, [], None, IfOk, IfSome, length};
 ghost use Rattle.rs_model.specs.Limits.{IsCapacity};
-ghost use Rattle.rs_exec.specs.Polling.{HasStopped};
+ghost use Rattle.rs_core.specs.Draws.{by_draws};
+ghost use Rattle.rs_exec.specs.Polling.{HasStopped, IsTaskFrom, begun_by};
 ghost use Rattle.rs_exec.specs.Tasks.{IsTaskOf};
 ghost use Rattle.rs_session.specs.Stages.{AreFirst, IsEnded, sight_of_stage};
 ghost use Rattle.rs_session.specs.declared.stages.Stage.TheVariants as kind;
@@ -10,8 +11,9 @@ ghost use Rattle.rs_session.specs.declared.stages.Stage.TheVariants as kind;
 use crate::documents::{ONCE, TWICE, accepted_of};
 use crate::transcripts::push_entries;
 use futures::executor::block_on;
-use rs_core::{Entry, SeededActor};
-use rs_exec::{RoleFuture, RoleTask, SessionName, SessionTask, Turn, Why};
+use futures::future::join;
+use rs_core::{Actor, Entry, SeededActor};
+use rs_exec::{RoleFuture, RoleTask, SessionTask, TaskName, Turn, Why};
 use rs_model::{Label, NoMemory, Role, Value};
 use rs_rings::{Closed, Loose};
 use rs_safety::Accepted;
@@ -59,6 +61,7 @@ fn task_of(rt: &impl Abort, alloc: Global, stage: Stage) -> RoleTask<SeededActor
     requires nothing { (sight_of_stage stage).part.history ≡ [] }
     ensures stage { result.stage ≡ stage }
     ensures kept { result.kept ≡ None }
+    ensures transcript { result.transcript ≡ [] }
 {
     let role = stage.role();
     match RoleTask::new(alloc, stage, SeededActor::new(0, role), 100) {
@@ -71,6 +74,8 @@ fn pair_of(rt: &impl Abort, alloc: Global, text: &[u8], capacity: u16) -> Pair
     requires { IsCapacity capacity }
     ensures a { IsTaskOf result.session result.a }
     ensures b { IsTaskOf result.session result.b }
+    ensures a_from { IsTaskFrom by_draws (begun_by result.session result.a) result.a }
+    ensures b_from { IsTaskFrom by_draws (begun_by result.session result.b) result.b }
 {
     let Some((session, stages)) = begun_of(alloc, text, capacity) else {
         panic!(rt; "not accepted");
@@ -272,19 +277,19 @@ fn a_session_is_given_up(rt: HostRuntime) {
     assert!(rt; closed.roles() == 2);
 }
 
-/// An executor polls the task until it doesn't go on. It hands back the task, which is still of the session.
-fn blocked_on<R: Wait + RandomSource + AllocGlobal, N: SessionName>(
+/// An executor polls the task until it doesn't go on. It hands back the task, which is still one that began so.
+fn blocked_on<R: Wait + RandomSource + AllocGlobal, A: Actor, N: TaskName<A>>(
     rt: &R,
     alloc: Global,
     session: &Session,
-    task: RoleTask<SeededActor>,
-) -> (io::Result<Turn>, RoleTask<SeededActor>)
-    requires session { session.now ≡ N.session }
-    requires of { IsTaskOf session.now task }
+    task: RoleTask<A>,
+) -> (io::Result<Turn>, RoleTask<A>)
+    requires session { session.now ≡ N.begun.session }
+    requires from { IsTaskFrom A.behaviour N.begun task }
     ensures stopped { IfOk result.0 HasStopped }
-    ensures of { IsTaskOf session.now result.1 }
+    ensures from { IsTaskFrom A.behaviour N.begun result.1 }
 {
-    let mut task = SessionTask::<SeededActor, N>::new(task);
+    let mut task = SessionTask::<A, N>::new(task);
     let turn = block_on(rt, RoleFuture::new(alloc, &mut task, session));
     (turn, task.into_task())
 }
@@ -295,11 +300,11 @@ fn polled<R: Wait + RandomSource + AllocGlobal + Abort>(
     alloc: Global,
     pair: Pair,
 ) -> (io::Result<Turn>, LeftOver)
-    requires a { IsTaskOf pair.session pair.a }
+    requires a { IsTaskFrom by_draws (begun_by pair.session pair.a) pair.a }
     requires b { IsTaskOf pair.session pair.b }
 {
     let Pair { session, a, b } = pair;
-    let (turn, a) = blocked_on::<R, Brand>(rt, alloc, &session, a);
+    let (turn, a) = blocked_on::<R, SeededActor, Brand>(rt, alloc, &session, a);
     (turn, left_of(rt, alloc, Pair { session, a, b }))
 }
 
@@ -316,5 +321,89 @@ fn an_executor_plays_a_role(rt: HostRuntime) -> Result<(), Fail> {
         }
         _ => assert!(rt; false, "one is under way"),
     }
+    Ok(())
+}
+
+/// One executor polls the tasks of two roles, until neither goes on.
+fn both_blocked_on<R: Wait + RandomSource + AllocGlobal, A: Actor, M: TaskName<A>, N: TaskName<A>>(
+    rt: &R,
+    alloc: Global,
+    session: &Session,
+    one: RoleTask<A>,
+    other: RoleTask<A>,
+) -> (io::Result<(Turn, Turn)>, RoleTask<A>, RoleTask<A>)
+    requires session { (session.now ≡ M.begun.session) × (session.now ≡ N.begun.session) }
+    requires one { IsTaskFrom A.behaviour M.begun one }
+    requires other { IsTaskFrom A.behaviour N.begun other }
+    ensures one { IsTaskFrom A.behaviour M.begun result.1 }
+    ensures other { IsTaskFrom A.behaviour N.begun result.2 }
+{
+    let mut one = SessionTask::<A, M>::new(one);
+    let mut other = SessionTask::<A, N>::new(other);
+    let turns = block_on(
+        rt,
+        join(
+            RoleFuture::new(alloc, &mut one, session),
+            RoleFuture::new(alloc, &mut other, session),
+        ),
+    );
+    (turns, one.into_task(), other.into_task())
+}
+
+/// The same, where what the second task began with is named first.
+fn both_named<R: Wait + RandomSource + AllocGlobal, A: Actor, M: TaskName<A>>(
+    rt: &R,
+    alloc: Global,
+    session: &Session,
+    one: RoleTask<A>,
+    other: RoleTask<A>,
+) -> (io::Result<(Turn, Turn)>, RoleTask<A>, RoleTask<A>)
+    requires session { session.now ≡ M.begun.session }
+    requires one { IsTaskFrom A.behaviour M.begun one }
+    requires other { IsTaskFrom A.behaviour (begun_by session.now other) other }
+    ensures one { IsTaskFrom A.behaviour M.begun result.1 }
+    ensures other { IsTaskFrom A.behaviour (begun_by session.now other) result.2 }
+{
+    both_blocked_on::<R, A, M, Brand>(rt, alloc, session, one, other)
+}
+
+/// Both roles play to their ends as two futures of one executor: the turns with which they are ready, and what is left.
+fn both_polled<R: Wait + RandomSource + AllocGlobal + Abort>(
+    rt: &R,
+    alloc: Global,
+    pair: Pair,
+) -> (io::Result<(Turn, Turn)>, Pair)
+    requires a { IsTaskFrom by_draws (begun_by pair.session pair.a) pair.a }
+    requires b { IsTaskFrom by_draws (begun_by pair.session pair.b) pair.b }
+    ensures a { IsTaskOf result.1.session result.1.a }
+    ensures b { IsTaskOf result.1.session result.1.b }
+{
+    let Pair { session, a, b } = pair;
+    let (turns, a, b) = both_named::<R, SeededActor, Brand>(rt, alloc, &session, a, b);
+    (turns, Pair { session, a, b })
+}
+
+/// The texts of what the two roles did in a session that both have ended. It is closed.
+fn played(rt: &impl Abort, alloc: Global, pair: Pair) -> Result<(Text, Text), NoMemory>
+    requires a { IsTaskOf pair.session pair.a }
+    requires b { IsTaskOf pair.session pair.b }
+{
+    let Pair { session, a, b } = pair;
+    let (a, _, a_did) = a.into_parts();
+    let (b, _, b_did) = b.into_parts();
+    let closed = closed_of(rt, alloc, session, ended_of(rt, a), ended_of(rt, b));
+    assert!(rt; closed.roles() == 2);
+    Ok((did(alloc, a_did.as_slice())?, did(alloc, b_did.as_slice())?))
+}
+
+#[test]
+fn one_executor_plays_a_session(rt: HostRuntime) -> Result<(), Fail> {
+    let alloc = rt.alloc();
+    let pair = pair_of(&rt, alloc, TWICE, 2);
+    let (turns, pair) = both_polled(&rt, alloc, pair);
+    let (a, b) = played(&rt, alloc, pair)?;
+    assert!(rt; turns? == (Turn::Ended, Turn::Ended));
+    assert!(rt; a.as_slice() == b"B!x.B!x.B?y.B?y.".as_slice());
+    assert!(rt; b.as_slice() == b"A!y.A!y.A?x.A?x.".as_slice());
     Ok(())
 }

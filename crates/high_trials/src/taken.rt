@@ -116,15 +116,18 @@ fn is_taken(
     let roles = accepted.machines().len();
     let there = core.queue_len(sender, receiver);
     match taken_within(alloc, accepted, past, sender, receiver, place) {
-        Ok(events) => take(
-            alloc,
-            &mut core,
-            roles,
-            events.as_slice(),
-            sender,
-            receiver,
-            place,
-        ),
+        Ok(events) => {
+            (place as usize) < there
+                && take(
+                    alloc,
+                    &mut core,
+                    roles,
+                    events.as_slice(),
+                    sender,
+                    receiver,
+                    place,
+                )
+        }
         Err(AliveFault::NoMessage { len }) => len as usize == there && there <= place as usize,
         Err(_) => false,
     }

@@ -4,11 +4,12 @@ ghost use Rattle.std.specs.Prelude.{◌≡◌, ◌≤◌, true};
 ghost use Rattle.rs_demos.specs.Sessions.{has_session};
 
 use crate::documents::{BUFFERING, ENDLESS};
+use crate::gates::Recorder;
 use crate::runs::{HowToRun, QueueKind, pool_run, seeded, session_run};
-use rs_core::{Actor, Outcome, Run};
-use rs_demos::{demo_actors, demo_document, demo_output};
+use rs_core::{Actor, Outcome, Run, Transcript};
+use rs_demos::{DemoActor, demo_actors, demo_document, demo_output};
 use rs_model::Demo;
-use rs_pool::NoGate;
+use rs_pool::{Gate, NoGate};
 use rs_text::Text;
 use std::alloc::Global;
 use std::sync::Wait;
@@ -117,8 +118,13 @@ fn texts_that_are_refused_do_not_run(rt: HostRuntime) -> Result<(), Fail> {
     Ok(())
 }
 
-/// What the butterfly of eight numbers prints by so many workers.
-fn butterfly<R: Threads + Wait + Sync>(rt: &R, alloc: Global, workers: u8) -> Option<Text>
+/// The butterfly of eight numbers, run by so many workers past the gate.
+fn butterfly_run<R: Threads + Wait + Sync, G: Gate + Sync>(
+    rt: &R,
+    alloc: Global,
+    workers: u8,
+    gate: &G,
+) -> Option<Run<DemoActor>>
     requires { (1 ≤ workers) × (workers ≤ 16) }
 {
     let Ok(actors) = demo_actors(alloc, Demo::Butterfly, b"1 2 3 4 5 6 7 8") else {
@@ -131,7 +137,14 @@ fn butterfly<R: Threads + Wait + Sync>(rt: &R, alloc: Global, workers: u8) -> Op
         workers,
         limit: 4096,
     };
-    match pool_run(rt, alloc, text.as_slice(), actors, how, &NoGate) {
+    pool_run(rt, alloc, text.as_slice(), actors, how, gate)
+}
+
+/// What it prints.
+fn butterfly<R: Threads + Wait + Sync>(rt: &R, alloc: Global, workers: u8) -> Option<Text>
+    requires { (1 ≤ workers) × (workers ≤ 16) }
+{
+    match butterfly_run(rt, alloc, workers, &NoGate) {
         Some(
             Run {
                 outcome: Outcome::Ended(_),
@@ -160,4 +173,35 @@ fn butterflies_transform(rt: HostRuntime) {
             "with {workers} workers"
         );
     }
+}
+
+/// Whether the gate's calls lay round each turn of each role: one turn for each act, and one more that told its end.
+fn lay_round_each_turn(gate: &Recorder, transcripts: &[Transcript]) -> bool {
+    let mut role: u8 = 0;
+    for transcript in transcripts {
+        match gate.turns_of(role) {
+            Some(turns) if turns > transcript.as_slice().len() as u64 => {}
+            _ => return false,
+        }
+        role = role.saturating_add(1);
+    }
+    true
+}
+
+#[test]
+fn the_gate_is_called_round_each_turn(rt: HostRuntime) -> Result<(), Fail> {
+    let alloc = rt.alloc();
+    let gate = Recorder::new(alloc, 4, 8)?;
+    let Some(run) = butterfly_run(&rt, alloc, 4, &gate) else {
+        panic!(rt; "the butterfly runs");
+    };
+    match &run.outcome {
+        Outcome::Ended(transcripts) => {
+            assert!(rt; transcripts.as_slice().len() == 8);
+            assert!(rt; lay_round_each_turn(&gate, transcripts.as_slice()));
+        }
+        Outcome::Stopped(_) => assert!(rt; false, "all end"),
+    }
+    assert!(rt; gate.is_in_order());
+    Ok(())
 }

@@ -19,7 +19,7 @@ fn arms(alloc: Global, sort: Sort, many: u32) -> Result<Vec<Arm>, NoMemory> {
 }
 
 fn chosen(alloc: Global, actor: &mut SeededActor, arms: &[Arm]) -> Result<(u16, Value), NoMemory> {
-    if arms.is_empty() {
+    if arms.is_empty() || arms.len() > 65_536 {
         return Err(NoMemory);
     }
     let choice = actor.choose(alloc, arms)?;

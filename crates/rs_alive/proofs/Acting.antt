@@ -1,10 +1,12 @@
 -- What the role to which the waits lead does.
-use Rattle.std.proofs.Common.{◌≡◌, ℕ, List, [], ◌∷◌, Option, Some, None, slice_get, refl, subst}
+use Rattle.std.proofs.Common.{◌≡◌, ℕ, List, [], ◌∷◌, Option, Some, None, slice_get, refl, sym, ap, ◌∙◌, subst, subst₂}
 use Rattle.rs_model.specs.Data.{Machine_data}
 use Rattle.rs_model.specs.declared.graph.Arm.{Arm}
 use Rattle.rs_model.specs.declared.graph.Role.{Role}
-use Rattle.rs_model.specs.declared.machines.State.TheVariants.{Puts, Takes}
+use Rattle.rs_model.specs.declared.machines.State.{State}
+use Rattle.rs_model.specs.declared.machines.State.TheVariants.{Done, Puts, Takes}
 use Rattle.rs_model.specs.declared.values.Sort.TheVariants as sort
+use Rattle.rs_model.specs.declared.values.Value.{Value}
 use Rattle.rs_model.specs.Values.{empty_value}
 use Rattle.rs_model.proofs.EmptyValues.{empty_fits}
 use Rattle.rs_core.specs.declared.messages.Event.{Event}
@@ -18,7 +20,8 @@ use Rattle.rs_core.specs.Configurations.{Configuration, Step, state_at}
 use Rattle.rs_core.specs.Core.{HasStepped, StepIsRefused, IsUnsent, send_fault}
 use Rattle.rs_core.specs.Safety.{CanMove, MaySend, MayReceive}
 use Rattle.rs_core.proofs.Stands.{here_is}
-use Rattle.rs_alive.specs.Schedule.{CanLeadOn, WaitsLeadOn, event_of}
+use Rattle.rs_alive.specs.Schedule.{CanLeadOn, WaitsLeadOn, event_by, event_of}
+use Rattle.rs_alive.specs.Taken.{IsStepOfEmpty}
 use Rattle.rs_alive.proofs.Chains.{one_chain}
 
 -- where the waits lead, the role can go on
@@ -77,3 +80,29 @@ is_step ms c d (Send role arm value) Sent st = st
 is_step ms c d (Send role arm value) (Got label v) st = absurd st
 is_step ms c d (Receive role) Sent st = absurd st
 is_step ms c d (Receive role) (Got label v) st = st.0
+
+-- what is sent in a state is the empty value of the arm by which it is sent
+first_empty : (o : Option State) (role who : Role) (place : ℕ) (v : Value) → event_by o role ≡ Some (Send who place v)
+    → (role ≡ who) × ((peer : Role) (arms : List Arm) (arm : Arm) → o ≡ Some (Puts peer arms) → slice_get arms place ≡ Some arm → v ≡ empty_value arm.sort)
+first_empty None role who place v h = absurd (cc (h))
+first_empty (Some Done) role who place v h = absurd (cc (h))
+first_empty (Some (Takes q xs)) role who place v h = absurd (cc (h))
+first_empty (Some (Puts q [])) role who place v h = absurd (cc (h))
+first_empty (Some (Puts q (x ∷ xs))) role who place v h =
+    let er : role ≡ who = cc (h) in
+    let ep : 0 ≡ place = cc (h) in
+    let ev : empty_value x.sort ≡ v = cc (h) in (
+      er,
+      λ peer arms arm is at. (let same : x ∷ xs ≡ arms = cc (is) in
+          let P : List Arm → ℕ → Type 0 = λ y z. slice_get y z ≡ Some arm in
+          let first : Some x ≡ Some arm = subst₂ P (sym same) (sym ep) at in
+          let e : x ≡ arm = cc (first) in
+          sym ev ∙ ap (λ (z : Arm). empty_value z.sort) e),
+    )
+
+pub empty_step : (ms : List Machine_data) (c d : Configuration) (role : Role) (event : Event) → event_of ms c role ≡ Some event → Step ms c event d → IsStepOfEmpty ms c event d
+empty_step ms c d role (Send who place v) act st =
+    let f = first_empty (state_at ms c role.0) role who place v act in
+    let P : Role → Type 0 = λ z. state_at ms c z.0 ≡ Some (Puts st.peer st.arms) in
+    (st, f.1 st.peer st.arms st.arm (subst P (sym f.0) st.puts) st.picks)
+empty_step ms c d role (Receive who) act st = st

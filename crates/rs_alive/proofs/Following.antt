@@ -1,5 +1,5 @@
 -- The schedule, followed event by event: what holds after so many of them.
-use Rattle.std.proofs.Common.{◌≡◌, ◌≢◌, ◌⊎◌, inl, inr, ℕ, zero, suc, ◌+◌, ◌-◌, ◌*◌, ◌<◌, ◌≤◌, Bool, true, false, List, [], ◌∷◌, ◌++◌, Some, length, refl, sym, ap, ◌∙◌, subst, subst₂, arith}
+use Rattle.std.proofs.Common.{◌≡◌, ◌≢◌, ◌⊎◌, inl, inr, ℕ, zero, suc, ◌+◌, ◌-◌, ◌*◌, ◌<◌, ◌≤◌, Bool, true, false, List, [], ◌∷◌, ◌++◌, Some, length, slice_get, refl, sym, ap, ◌∙◌, subst, subst₂, arith}
 use Rattle.std.proofs.Common.{append_assoc, length-append}
 use Rattle.std.proofs.lemmas.Bool.Decides.{eqb_tells}
 use Rattle.rs_model.specs.Data.{Machine_data}
@@ -9,6 +9,7 @@ use Rattle.rs_model.specs.declared.machines.State.TheVariants.{Puts, Takes}
 use Rattle.rs_model.specs.declared.values.Value.{Value}
 use Rattle.rs_core.specs.declared.messages.Event.{Event}
 use Rattle.rs_core.specs.declared.messages.Event.TheVariants.{Send, Receive}
+use Rattle.rs_core.specs.declared.messages.Message.{Message}
 use Rattle.rs_core.specs.Configurations.{Configuration, IsReachable, Receives, Sends, Step, role_of, state_at}
 use Rattle.rs_core.specs.Safety.{CanMove, MaySend, MayReceive}
 use Rattle.rs_core.proofs.Stands.{Stands, done_after, one_more}
@@ -18,8 +19,8 @@ use Rattle.rs_safety.proofs.Walks.{same_role}
 use Rattle.rs_safety.proofs.Walked.{WalksOf, good, of_accepted}
 use Rattle.rs_alive.specs.Pasts.{PastLeadsTo}
 use Rattle.rs_alive.specs.Schedule.{Advances, CanLeadOn, event_of, takes_from}
-use Rattle.rs_alive.specs.Taken.{Else, IsTaken, Older, Oldest, acts_by}
-use Rattle.rs_alive.proofs.Acting.{receives, sends_first}
+use Rattle.rs_alive.specs.Taken.{CarryEmptyValues, Else, IsTaken, Older, Oldest, acts_by}
+use Rattle.rs_alive.proofs.Acting.{empty_step, receives, sends_first}
 use Rattle.rs_alive.proofs.Bound.{counts, long_of, most_lag, most_owed, setting, top_of}
 use Rattle.rs_alive.proofs.Chains.{one_chain}
 use Rattle.rs_alive.proofs.Scheduled.{MessageAt, Still, Turn, nearer, starts_low, still_receive, still_send, total, total_bound, total_falls, turn, within_bound, zeros}
@@ -51,6 +52,7 @@ pub record Following (a : Accepted_data) (past : List Event) (p u : Role) (place
   pub enough : total (length a.machines) (most_of a past p) (done_after (done_in past) events) ≤ ahead
   pub count : length events + total (length a.machines) (most_of a past p) (done_after (done_in past) events) ≤ length a.machines * most_of a past p
   pub so_far : (rest : List Event) → IsTaken a.machines p u c before rest → IsTaken a.machines p u c0 place (events ++ rest)
+  pub values : (rest : List Event) → CarryEmptyValues a.machines c rest → CarryEmptyValues a.machines c0 (events ++ rest)
 
 pub start : (a : Accepted_data) (past : List Event) (p u : Role) (place : ℕ) (c : Configuration) → IsAcceptedSession a → PastLeadsTo a.machines past c
     → p.0 < length a.machines → u.0 < length a.machines → p.0 ≢ u.0 → place < length (c.queue p.0 u.0) → Following a past p u place c c place []
@@ -72,6 +74,7 @@ start a past p u place c s l hp hu ne there =
       enough = b;
       count = omega (arith, b);
       so_far = λ rest t. t;
+      values = λ rest t. t;
     }
 
 -- who acts next
@@ -107,7 +110,7 @@ how ms c d role event (MayReceive peer arms m later h q) act st =
 record Acted (a : Accepted_data) (past : List Event) (p : Role) (c d : Configuration) (events : List Event) (role : Role) (event : Event) : Type 0 where
   present : role.0 < length a.machines
   bounded : done_after (done_in past) events role.0 < most_of a past p
-  is : How a.machines c d role event
+  kind : How a.machines c d role event
 
 acted : (a : Accepted_data) (past : List Event) (p u : Role) (place : ℕ) (c0 c d : Configuration) (before : ℕ) (events : List Event) (event : Event) (takes : Bool) → IsAcceptedSession a
     → u.0 < length a.machines
@@ -117,7 +120,7 @@ acted a past p u place c0 c d before events event takes s hu f ad =
     let one = one_chain a.machines c t.leads.0 ad.leads.0 u.0 t.role ad.role.0 t.leads.1 ad.leads.1 in
     let T : ℕ → Type 0 = λ z. z < length a.machines in
     let F : ℕ → Type 0 = λ z. done_after (done_in past) events z < most_of a past p in
-    record { present = subst T one.1 t.known; bounded = subst F one.1 t.bounded; is = how a.machines c d ad.role event (subst (CanMove a.machines c) one.1 t.can) ad.acts ad.step }
+    record { present = subst T one.1 t.known; bounded = subst F one.1 t.bounded; kind = how a.machines c d ad.role event (subst (CanMove a.machines c) one.1 t.can) ad.acts ad.step }
 
 done_snoc : (done : ℕ → ℕ) (es : List Event) (e : Event) → done_after done (es ++ (e ∷ [])) ≡ one_more (done_after done es) (role_of e)
 done_snoc done [] e = refl
@@ -134,14 +137,15 @@ goes_to : (a : Accepted_data) (past : List Event) (p u : Role) (place : ℕ) (c0
     → Acted a past p c d events role event
     → Still a.machines (WalksOf a.protocol a.projections a.machines a.derivations) (done_after (done_in past) events) ahead d p u.0 k (low_of a past p) role.0
     → ((rest : List Event) → IsTaken a.machines p u d k rest → IsTaken a.machines p u c0 place ((events ++ (event ∷ [])) ++ rest))
+    → ((rest : List Event) → CarryEmptyValues a.machines d rest → CarryEmptyValues a.machines c0 ((events ++ (event ∷ [])) ++ rest))
     → Following a past p u place c0 d k (events ++ (event ∷ []))
-goes_to a past p u place c0 c d k events role event zero enough count act still so =
+goes_to a past p u place c0 c d k events role event zero enough count act still so values =
     let f = total_falls (length a.machines) (most_of a past p) role.0 (done_after (done_in past) events) act.present act.bounded in
     absurd (omega arith)
-goes_to a past p u place c0 c d k events role event (suc ahead) enough count act still so =
+goes_to a past p u place c0 c d k events role event (suc ahead) enough count act still so values =
     let f = total_falls (length a.machines) (most_of a past p) role.0 (done_after (done_in past) events) act.present act.bounded in
     let e : done_after (done_in past) (events ++ (event ∷ [])) ≡ one_more (done_after (done_in past) events) role.0 =
-    done_snoc (done_in past) events event ∙ ap (λ (z : ℕ). one_more (done_after (done_in past) events) z) (role_by a.machines c d role event act.is) in
+    done_snoc (done_in past) events event ∙ ap (λ (z : ℕ). one_more (done_after (done_in past) events) z) (role_by a.machines c d role event act.kind) in
     let S : (ℕ → ℕ) → Type 0 = λ z. Standing a (low_of a past p) z (suc ahead) d p u.0 k in
     let N : (ℕ → ℕ) → Type 0 = λ z. total (length a.machines) (most_of a past p) z ≤ ahead in
     let C : (ℕ → ℕ) → Type 0 = λ z. length (events ++ (event ∷ [])) + total (length a.machines) (most_of a past p) z ≤ length a.machines * most_of a past p in
@@ -151,6 +155,7 @@ goes_to a past p u place c0 c d k events role event (suc ahead) enough count act
       enough = subst N (sym e) (omega arith);
       count = subst C (sym e) (omega (arith, length-append events (event ∷ [])));
       so_far = so;
+      values = values;
     }
 
 -- more is taken by one event more
@@ -161,6 +166,14 @@ more : (ms : List Machine_data) (p u : Role) (c0 c d : Configuration) (place bef
 more ms p u c0 c d place before k events event so one rest t =
     let P : List Event → Type 0 = λ z. IsTaken ms p u c0 place z in
     subst P (sym (append_assoc events (event ∷ []) rest)) (so (event ∷ rest) (one rest t))
+
+-- one value more that is sent is empty
+more_values : (a : Accepted_data) (past : List Event) (p u : Role) (place : ℕ) (c0 c d : Configuration) (before : ℕ) (events : List Event) (event : Event) (takes : Bool)
+    → Following a past p u place c0 c before events → Advances a.machines p u c d event takes
+    → (rest : List Event) → CarryEmptyValues a.machines d rest → CarryEmptyValues a.machines c0 ((events ++ (event ∷ [])) ++ rest)
+more_values a past p u place c0 c d before events event takes f ad rest t =
+    let P : List Event → Type 0 = λ z. CarryEmptyValues a.machines c0 z in
+    subst P (sym (append_assoc events (event ∷ []) rest)) (f.values (event ∷ rest) (d, empty_step a.machines c d ad.role event ad.acts ad.step, t))
 
 -- whether an act takes a message of the sender
 send_takes : (ms : List Machine_data) (c : Configuration) (role p u peer : Role) (arms : List Arm) → state_at ms c role.0 ≡ Some (Puts peer arms) → takes_from ms c role p u ≡ false
@@ -185,7 +198,7 @@ pub goes_on : (a : Accepted_data) (past : List Event) (p u : Role) (place : ℕ)
     → Following a past p u place c0 c before events → Advances a.machines p u c d event false → Following a past p u place c0 d before (events ++ (event ∷ []))
 goes_on a past p u place c0 c d before events event s hu f ad =
     let act = acted a past p u place c0 c d before events event false s hu f ad in
-    by act act.is
+    by act act.kind
   where
     by : Acted a past p c d events ad.role event → How a.machines c d ad.role event → Following a past p u place c0 d before (events ++ (event ∷ []))
     by act (Sending peer arms v h e st) =
@@ -193,12 +206,14 @@ goes_on a past p u place c0 c d before events event s hu f ad =
         (still_send a.machines (WalksOf a.protocol a.projections a.machines a.derivations) (done_after (done_in past) events) f.ahead c f.standing.0 p u.0 before
         (low_of a past p) ad.role.0 v d st f.standing.1)
         (more a.machines p u c0 c d place before before events event f.so_far (λ rest t. Else c d event before rest (λ arms' h' e'. cc (e, e')) ad.step t))
+        (more_values a past p u place c0 c d before events event false f ad)
     by act (Receiving peer arms h e st ep) = elim (receive_takes a.machines c ad.role p u peer arms h) [
       | inl t ↦ absurd (let no = ad.tells in let good = t.0 in cc (no, good))
       | inr t ↦ goes_to a past p u place c0 c d before events ad.role event f.ahead f.enough f.count act
           (still_receive a.machines (WalksOf a.protocol a.projections a.machines a.derivations) (done_after (done_in past) events) f.ahead c f.standing.0
           (setting a.protocol a.projections a.machines a.derivations (of_accepted a s)).peered p u.0 before (low_of a past p) ad.role.0 d st (elsewhere t.1) f.standing.1)
           (more a.machines p u c0 c d place before before events event f.so_far (λ rest t'. Else c d event before rest (other t.1) ad.step t'))
+          (more_values a past p u place c0 c d before events event false f ad)
     ]
       where
         elsewhere : (ad.role.0 ≢ u.0) ⊎ (peer.0 ≢ p.0) → (ad.role.0 ≢ u.0) ⊎ (st.peer.0 ≢ p.0)
@@ -218,7 +233,7 @@ record TakesOne (a : Accepted_data) (past : List Event) (p u : Role) (c d : Conf
   acts : Acted a past p c d events role event
   arms : List Arm
   takes : state_at a.machines c u.0 ≡ Some (Takes p arms)
-  is : event ≡ Receive u
+  receives : event ≡ Receive u
   step : Receives a.machines c role.0 d
   here : role.0 ≡ u.0
   from : step.peer.0 ≡ p.0
@@ -227,7 +242,7 @@ takes_one : (a : Accepted_data) (past : List Event) (p u : Role) (place : ℕ) (
     → Following a past p u place c0 c before events → (ad : Advances a.machines p u c d event true) → TakesOne a past p u c d events ad.role event
 takes_one a past p u place c0 c d before events event s hu f ad =
     let act = acted a past p u place c0 c d before events event true s hu f ad in
-    by act act.is
+    by act act.kind
   where
     by : Acted a past p c d events ad.role event → How a.machines c d ad.role event → TakesOne a past p u c d events ad.role event
     by act (Sending peer arms v h e st) = absurd (let no = send_takes a.machines c ad.role p u peer arms h in let good = ad.tells in cc (no, good))
@@ -238,7 +253,7 @@ takes_one a past p u place c0 c d before events event s hu f ad =
             acts = act;
             arms = arms;
             takes = subst₂ Q t.1 (same_role peer p t.2) h;
-            is = e ∙ ap (λ (z : Role). Receive z) (same_role ad.role u t.1);
+            receives = e ∙ ap (λ (z : Role). Receive z) (same_role ad.role u t.1);
             step = st;
             here = t.1;
             from = ap (λ (z : Role). z.0) ep ∙ t.2;
@@ -257,7 +272,8 @@ comes_nearer a past p u place c0 c d before events event s hu f ad =
     (nearer a.machines (WalksOf a.protocol a.projections a.machines a.derivations) (done_after (done_in past) events) f.ahead c f.standing.0
     (setting a.protocol a.projections a.machines a.derivations (of_accepted a s)).peered p u.0 before (low_of a past p) ad.role.0 d o.step o.here o.from f.standing.1)
     (more a.machines p u c0 c d place (suc before) before events event f.so_far
-    (λ rest t. (let Q : Event → Type 0 = λ y. T y rest in subst Q (sym o.is) (Older c d o.arms before rest o.takes (subst R o.here o.step) t))))
+    (λ rest t. (let Q : Event → Type 0 = λ y. T y rest in subst Q (sym o.receives) (Older c d o.arms before rest o.takes (subst R o.here o.step) t))))
+    (more_values a past p u place c0 c d (suc before) events event true f ad)
 
 -- the message itself is taken
 pub arrives : (a : Accepted_data) (past : List Event) (p u : Role) (place : ℕ) (c0 c d : Configuration) (events : List Event) (event : Event) → IsAcceptedSession a → u.0 < length a.machines
@@ -266,7 +282,18 @@ arrives a past p u place c0 c d events event s hu f ad =
     let o = takes_one a past p u place c0 c d 0 events event s hu f ad in
     let R : ℕ → Type 0 = λ z. Receives a.machines c z d in
     let T : Event → Type 0 = λ y. IsTaken a.machines p u c 0 (y ∷ []) in
-    f.so_far (event ∷ []) (subst T (sym o.is) (Oldest c d o.arms o.takes (subst R o.here o.step)))
+    f.so_far (event ∷ []) (subst T (sym o.receives) (Oldest c d o.arms o.takes (subst R o.here o.step)))
+
+-- and what was sent on the way are empty values
+pub all_empty : (a : Accepted_data) (past : List Event) (p u : Role) (place : ℕ) (c0 c d : Configuration) (before : ℕ) (events : List Event) (event : Event) (takes : Bool)
+    → Following a past p u place c0 c before events → Advances a.machines p u c d event takes → CarryEmptyValues a.machines c0 (events ++ (event ∷ []))
+all_empty a past p u place c0 c d before events event takes f ad = f.values (event ∷ []) (d, empty_step a.machines c d ad.role event ad.acts ad.step, tt)
+
+-- a message stands at a place below the length
+pub stands_at : (queue : List Message) (place : ℕ) → place < length queue → (message : Message) × (slice_get queue place ≡ Some message)
+stands_at [] place low = absurd (omega arith)
+stands_at (m ∷ ms) zero low = (m, refl)
+stands_at (m ∷ ms) (suc place) low = stands_at ms place (omega arith)
 
 -- there are few events
 pub few_events : (a : Accepted_data) (past : List Event) (p u : Role) (place : ℕ) (c0 c d : Configuration) (before : ℕ) (events : List Event) (event : Event) (takes : Bool) → IsAcceptedSession a
@@ -291,7 +318,7 @@ falls a past p u place c0 c d before events event takes s hu f ad =
     let act = acted a past p u place c0 c d before events event takes s hu f ad in
     let t = total_falls (length a.machines) (most_of a past p) ad.role.0 (done_after (done_in past) events) act.present act.bounded in
     let e : done_after (done_in past) (events ++ (event ∷ [])) ≡ one_more (done_after (done_in past) events) ad.role.0 =
-    done_snoc (done_in past) events event ∙ ap (λ (z : ℕ). one_more (done_after (done_in past) events) z) (role_by a.machines c d ad.role event act.is) in
+    done_snoc (done_in past) events event ∙ ap (λ (z : ℕ). one_more (done_after (done_in past) events) z) (role_by a.machines c d ad.role event act.kind) in
     let N : (ℕ → ℕ) → Type 0 = λ z. total (length a.machines) (most_of a past p) z < total (length a.machines) (most_of a past p) (done_after (done_in past) events) in
     subst N (sym e) (omega arith)
 

@@ -1,10 +1,11 @@
--- Believed: what is answered of a past, which is a list of events.
+-- Public: what is answered of a past, which is a list of events.
 use Rattle.std.specs.Prelude.{◌≡◌, ℕ, ◌<◌, ◌≤◌, List, Some, length, slice_get, take}
 use Rattle.rs_model.specs.Data.{Machine_data}
 use Rattle.rs_model.specs.declared.graph.Role.{Role}
 use Rattle.rs_core.specs.declared.messages.Event.{Event}
+use Rattle.rs_core.specs.declared.messages.Message.{Message}
 use Rattle.rs_core.specs.Configurations.{Configuration, StartsAt, Step, Steps}
-use Rattle.rs_alive.specs.Taken.{IsTaken}
+use Rattle.rs_alive.specs.Taken.{CarryEmptyValues, EndsWithReceive, IsTaken}
 use Rattle.rs_alive.specs.declared.taking.AliveFault.{AliveFault}
 use Rattle.rs_alive.specs.declared.taking.AliveFault.TheVariants as fault
 
@@ -14,12 +15,17 @@ pub record PastLeadsTo (machines : List Machine_data) (events : List Event) (c :
   pub starts : StartsAt machines first
   pub steps : Steps machines first events c
 
--- the past leads to a configuration, and from there these events take the message at the place of the queue from the
--- sender to the receiver
+-- the past leads to a configuration in which this message stands at the place of the queue from the sender to the receiver.
+-- From there the events take what stands at the place, and the last of them is the receive of this very message. What they
+-- send are empty values
 pub record IsContinued (machines : List Machine_data) (past : List Event) (sender receiver : Role) (place : ℕ) (events : List Event) : Type 0 where
   pub at : Configuration
+  pub message : Message
   pub leads : PastLeadsTo machines past at
+  pub stands : slice_get (at.queue sender.0 receiver.0) place ≡ Some message
   pub taken : IsTaken machines sender receiver at place events
+  pub ends : EndsWithReceive machines sender receiver at events message
+  pub values : CarryEmptyValues machines at events
 
 -- the event at that place is the first one of the past that is no step: those before it lead to a configuration, and from
 -- there it leads nowhere
@@ -36,7 +42,7 @@ pub record HasNoMessage (machines : List Machine_data) (past : List Event) (send
   pub at : Configuration
   pub leads : PastLeadsTo machines past at
   pub has : length (at.queue sender.0 receiver.0) ≡ many
-  pub bounded : many ≤ place
+  pub none : many ≤ place
 
 -- what a fault says; of refused memory nothing is said
 abbrev pub PastTells : List Machine_data → List Event → Role → Role → ℕ → AliveFault → Type 0

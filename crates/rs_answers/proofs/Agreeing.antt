@@ -25,7 +25,7 @@ use Rattle.rs_answers.specs.Verifying.{blame_of, first_blame}
 record Shown (own : List (Option Derivation_data)) (p : ℕ) (m : Machine_data) (j : Projection_data) : Type 0 where
   pub derivation : Derivation_data
   pub present : slice_get own p ≡ Some (Some derivation)
-  pub is : IsDerivation derivation m j.machine
+  pub derives : IsDerivation derivation m j.machine
   pub remembers : Remembers derivation m j.machine
 
 shown : (n : ℕ) (own : List (Option Derivation_data)) (ms : List Machine_data) (js : List Projection_data) → first_blame n own ms js ≡ None → length own ≡ length ms
@@ -40,10 +40,10 @@ shown n (Some x ∷ own) (y ∷ ms) (z ∷ js) e f zero m j hm hj =
     let s = no_fault x y z.machine none in
     let P : Machine_data → Type 0 = λ v. Shown (Some x ∷ own) zero v j in
     let Q : Projection_data → Type 0 = λ v. Shown (Some x ∷ own) zero y v in
-    subst P (same_Some y m hm) (subst Q (same_Some z j hj) (record { derivation = x; present = refl; is = s.0; remembers = s.1 }))
+    subst P (same_Some y m hm) (subst Q (same_Some z j hj) (record { derivation = x; present = refl; derives = s.0; remembers = s.1 }))
 shown n (Some x ∷ own) (y ∷ ms) (z ∷ js) e f (suc p) m j hm hj =
     let k = shown (suc n) own ms js (none_first (blame_of (Some x) y z) (record { 0 = n }) (first_blame (suc n) own ms js) e).1 (omega (arith, f)) p m j hm hj in
-    record { derivation = k.derivation; present = k.present; is = k.is; remembers = k.remembers }
+    record { derivation = k.derivation; present = k.present; derives = k.derives; remembers = k.remembers }
 
 -- where none is blamed, the search within a bound that no derivation exceeds gives up, or finds one
 pub verified_is_found : (bound : ℕ) (bytes : List ℕ) (d : Document_data) (ps : List Projection_data) (ms : List Machine_data) → SpellsDocument bytes d → HasMachines d ps ms
@@ -57,7 +57,7 @@ verified_is_found bound bytes d ps ms doc h none short role fault u =
     let k = shown 0 d.derivations ms ps none size role.0 u.machine u.projection u.runs u.projects in
     elim (followed_not_refused u.machine u.projection.machine bound fault (machine_proper d.protocol ps ms s role.0 u.machine u.runs)
     (projection_proper d.protocol ps ms s role.0 u.projection u.projects)
-    (record { derivation = k.derivation; is_derivation = k.is; remembers = k.remembers; within = short role.0 k.derivation k.present }) u.refused) [
+    (record { derivation = k.derivation; is_derivation = k.derives; remembers = k.remembers; within = short role.0 k.derivation k.present }) u.refused) [
       | inl e ↦ e
       | inr e ↦ absurd (u.cause e)
     ]

@@ -28,7 +28,7 @@ use Rattle.rs_wellformed.proofs.Faults as well_formed_protocols
 use Rattle.rs_documents.specs.Data.{Document_data}
 use Rattle.rs_answers.specs.Derivations.{AreCanonical, AreFirstCanonical, IsUnderivable}
 use Rattle.rs_model.specs.Limits.{IsBound}
-use Rattle.rs_documents.specs.Reading.{AreInPlace, DocumentIsReady}
+use Rattle.rs_documents.specs.Ready.{AreInPlace, DocumentIsReady}
 use Rattle.rs_answers.specs.Sessions.{HasMachines, MachineRefusal, first_refusal, refusal_or}
 use Rattle.rs_answers.specs.Machines.{machine_or, machines_of}
 use Rattle.rs_documents.proofs.SpeltSessions.{IsSpeltSession}
@@ -39,7 +39,7 @@ later_fit : (o : Option MachineFault) (role : Role) (later : Option MachineRefus
 later_fit None role later k = (refl, k)
 later_fit (Some f) role later k = absurd (cc (k))
 
-each_fits : (roles : ℕ) (ms : List Machine_data) → first_refusal roles ms ≡ None → (p : ℕ) (m : Machine_data) → slice_get ms p ≡ Some m → IsWellFormedMachine m roles
+pub each_fits : (roles : ℕ) (ms : List Machine_data) → first_refusal roles ms ≡ None → (p : ℕ) (m : Machine_data) → slice_get ms p ≡ Some m → IsWellFormedMachine m roles
 each_fits roles [] e p m h = absurd (cc (h))
 each_fits roles (x ∷ ms) e zero m h =
     let same : x ≡ m = same_Some x m h in
@@ -48,18 +48,18 @@ each_fits roles (x ∷ ms) e zero m h =
 each_fits roles (x ∷ ms) e (suc p) m h = each_fits roles ms (later_fit (first_fault x roles) x.role (first_refusal roles ms) e).1 p m h
 
 -- the machine of a role is its own, or that of its projection
-record IsChosen (own : List (Option Machine_data)) (ps : List Projection_data) (p : ℕ) (m : Machine_data) : Type 0 where
+pub record IsChosen (own : List (Option Machine_data)) (ps : List Projection_data) (p : ℕ) (m : Machine_data) : Type 0 where
   pub own' : Option Machine_data
   pub projection : Projection_data
   pub has : slice_get own p ≡ Some own'
   pub projects : slice_get ps p ≡ Some projection
-  pub is : m ≡ machine_or own' projection
+  pub machine_is : m ≡ machine_or own' projection
 
-chosen : (own : List (Option Machine_data)) (ps : List Projection_data) (p : ℕ) (m : Machine_data) → slice_get (machines_of own ps) p ≡ Some m → IsChosen own ps p m
+pub chosen : (own : List (Option Machine_data)) (ps : List Projection_data) (p : ℕ) (m : Machine_data) → slice_get (machines_of own ps) p ≡ Some m → IsChosen own ps p m
 chosen [] ps p m h = absurd (cc (h))
 chosen (x ∷ xs) [] p m h = absurd (cc (h))
-chosen (x ∷ xs) (j ∷ js) zero m h = record { own' = x; projection = j; has = refl; projects = refl; is = sym (same_Some (machine_or x j) m h) }
-chosen (x ∷ xs) (j ∷ js) (suc p) m h = let c = chosen xs js p m h in record { own' = c.own'; projection = c.projection; has = c.has; projects = c.projects; is = c.is }
+chosen (x ∷ xs) (j ∷ js) zero m h = record { own' = x; projection = j; has = refl; projects = refl; machine_is = sym (same_Some (machine_or x j) m h) }
+chosen (x ∷ xs) (j ∷ js) (suc p) m h = let c = chosen xs js p m h in record { own' = c.own'; projection = c.projection; has = c.has; projects = c.projects; machine_is = c.machine_is }
 
 in_place : (d : Document_data) (ps : List Projection_data) → AreInPlace d.machines → AreNumberedProjections d.protocol ps → (p : ℕ) (m : Machine_data)
     → slice_get (machines_of d.machines ps) p ≡ Some m → m.role.0 ≡ p
@@ -70,7 +70,7 @@ in_place d ps placed h p m e = go (chosen d.machines ps p m e)
     by (Some x) j has projects is = ap (λ (z : Machine_data). z.role.0) is ∙ placed p x has
 
     go : IsChosen d.machines ps p m → m.role.0 ≡ p
-    go c = by c.own' c.projection c.has c.projects c.is
+    go c = by c.own' c.projection c.has c.projects c.machine_is
 
 chosen_many : (own : List (Option Machine_data)) (ps : List Projection_data) → length own ≡ length ps → length (machines_of own ps) ≡ length ps
 chosen_many [] [] e = refl

@@ -10,7 +10,7 @@ use Rattle.rs_project.specs.Refusals.{FirstRefusal}
 use Rattle.rs_project.specs.declared.projecting.ProjFault.{ProjFault}
 use Rattle.rs_project.specs.declared.projecting.ProjFault.TheVariants as proj
 use Rattle.rs_documents.specs.Data.{Document_data}
-use Rattle.rs_documents.specs.Reading.{AreShort, DocumentIsReady}
+use Rattle.rs_documents.specs.Ready.{AreShort, DocumentIsReady}
 use Rattle.rs_answers.specs.Sessions.{Refuses, machine_or, machines_of}
 
 pub last_or_before : {A : Type 0} (xs : List A) (y : A) (q : ℕ) (x : A) → slice_get (xs ++ y ∷ []) q ≡ Some x → (slice_get xs q ≡ Some x) ⊎ ((q ≡ length xs) × (y ≡ x))
@@ -99,7 +99,7 @@ sizes : (own : List (Option Machine_data)) (d : Document_data) (projections : Li
     → AreNumberedProjections d.protocol projections → length own ≡ length projections
 sizes own d projections e ready roles h = ap length e ∙ ready.one_each ∙ roles ∙ sym h.many
 
-few_states : (protocol : Protocol_data) (projections : List Projection_data) → AreNumberedProjections protocol projections → (k : ℕ) (p : Projection_data) → slice_get projections k ≡ Some p
+pub few_states : (protocol : Protocol_data) (projections : List Projection_data) → AreNumberedProjections protocol projections → (k : ℕ) (p : Projection_data) → slice_get projections k ≡ Some p
     → length p.machine.states ≤ MOST_STATES
 few_states protocol projections h k p e =
     let x = h.each k p e in

@@ -25,3 +25,7 @@ pub mod Drawn
 pub mod Performed
 pub mod Told
 pub mod OverRings
+pub mod OneBesideSeveral
+pub mod Renumbered
+pub mod SmallNumbers
+pub mod ReadAgain

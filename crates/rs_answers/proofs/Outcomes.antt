@@ -30,7 +30,7 @@ pub few_machines : (pr : Protocol_data) (ps : List Projection_data) (ms : List M
 few_machines pr ps ms s = let many = s.a_machine_each in let few = s.roles.1 in omega arith
 
 -- what a run shows is what is told of its end
-tells_shown : (names : Names_data) (ms : List Machine_data) (capacity : ℕ) (o : Ending ℕ) (x : Outcome) (actors : List ℕ) (a : Answer_data) → EndingShows (length ms) o x actors
+pub tells_shown : (names : Names_data) (ms : List Machine_data) (capacity : ℕ) (o : Ending ℕ) (x : Outcome) (actors : List ℕ) (a : Answer_data) → EndingShows (length ms) o x actors
     → a ≡ outcome_answer names x → TellsEnd names ms capacity a o
 tells_shown names ms capacity (Ended k) (outcome.Ended transcripts) actors a s e = HasEnded k transcripts s.0 e
 tells_shown names ms capacity (Ended k) (outcome.Stopped role) actors a s e = absurd s

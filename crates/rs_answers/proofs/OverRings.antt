@@ -32,7 +32,7 @@ module _ {A : Type 0} (b : Behaviour A) (ms : List Machine_data) (given : ℕ �
   not_both k (Stopped p m) same stopped = same
   not_both k (Stuck m) same stopped = same
 
-  shown_of : (k : Moment A) (x : Outcome) (left : List A) → PlainIs ms b given limit None (EndsWith ms k.history k.actor) → AgreesWithPlain ms b given limit x left
+  pub shown_of : (k : Moment A) (x : Outcome) (left : List A) → PlainIs ms b given limit None (EndsWith ms k.history k.actor) → AgreesWithPlain ms b given limit x left
       → EndingShows (length ms) (Ended k) x left
   shown_of k (outcome.Ended transcripts) left is agrees = shown_too k transcripts left is.some.0 (is.each is.some.0 is.some.1) (agrees.each is.some.0 is.some.1)
   shown_of k (outcome.Stopped role) left is agrees = absurd (not_both k is.some.0 (is.each is.some.0 is.some.1) (agrees.0.each is.some.0 is.some.1))

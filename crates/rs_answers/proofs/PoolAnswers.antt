@@ -1,6 +1,6 @@
 -- What is told of runs by several workers: that it is one thing, but for the role that is named where one was stopped, and that
 -- there is such a thing.
-use Rattle.std.proofs.Common.{◌≡◌, ◌⊎◌, inl, inr, ℕ, ◌≤◌, List, [], Some, None, length, refl, sym, ap, subst, ◌∙◌, arith}
+use Rattle.std.proofs.Common.{◌≡◌, inl, inr, ℕ, ◌≤◌, List, [], Some, None, length, refl, sym, ap, subst, ◌∙◌, arith}
 use Rattle.std.proofs.lemmas.Bool.Decides.{leb_tells}
 use Rattle.rs_core.specs.Choices.{AreWellFormed}
 use Rattle.rs_core.specs.Choosing.{draws_well}
@@ -28,7 +28,7 @@ use Rattle.rs_safety.specs.Room.{room_of}
 use Rattle.rs_answers.specs.Data.{Answer_data}
 use Rattle.rs_answers.specs.Derivations.{AreCanonical}
 use Rattle.rs_answers.specs.Pools as pools
-use Rattle.rs_answers.specs.Pools.{IsRunTogether, IsTooSmall, RunsByWorkers, RunsTogether, RunsWith, TellsPool}
+use Rattle.rs_answers.specs.Pools.{AreSameOrStopped, IsRunTogether, IsTooSmall, RunsByWorkers, RunsTogether, RunsWith, TellsPool}
 use Rattle.rs_answers.specs.RefusalTexts.{too_small}
 use Rattle.rs_answers.specs.Refusals.{refusal_answer}
 use Rattle.rs_answers.specs.Runs as runs
@@ -46,12 +46,8 @@ use Rattle.rs_answers.proofs.SomeSession.{Derived, NotSo, Prepared}
 
 -- ---- one answer
 
--- two answers are the same, or both tell that a role was stopped
-abbrev pub AreAlike : Answer_data → Answer_data → Type 0
-AreAlike a b = (a ≡ b) ⊎ ((a.verdict ≡ verdict.Stopped) × (b.verdict ≡ verdict.Stopped))
-
 alike : (names : Names_data) (ms : List Machine_data) (given : ℕ → ℕ) (limit : ℕ) (a b : Answer_data) (x y : Outcome) (left right : List ℕ) → AgreesWithPlain ms by_draws given limit x left
-    → AgreesWithPlain ms by_draws given limit y right → a ≡ outcome_answer names x → b ≡ outcome_answer names y → AreAlike a b
+    → AgreesWithPlain ms by_draws given limit y right → a ≡ outcome_answer names x → b ≡ outcome_answer names y → AreSameOrStopped a b
 alike names ms given limit a b (outcome.Ended one) (outcome.Ended other) left right h k e f =
     inl (e ∙ ap (ended_answer names) (both_ended by_draws ms given limit one other left right h k).0 ∙ sym f)
 alike names ms given limit a b (outcome.Ended one) (outcome.Stopped role) left right h k e f = absurd (not_both by_draws ms given limit one role left right h k)
@@ -59,19 +55,20 @@ alike names ms given limit a b (outcome.Stopped role) (outcome.Ended other) left
 alike names ms given limit a b (outcome.Stopped p) (outcome.Stopped q) left right h k e f = inr (ap (λ (z : Answer_data). z.verdict) e, ap (λ (z : Answer_data). z.verdict) f)
 
 -- what is told of runs of the same machines by the same actors is alike
-pub one_pool : (names : Names_data) (ms : List Machine_data) (given : ℕ → ℕ) (limit : ℕ) (a b : Answer_data) → TellsPool names ms given limit a → TellsPool names ms given limit b → AreAlike a b
+pub one_pool : (names : Names_data) (ms : List Machine_data) (given : ℕ → ℕ) (limit : ℕ) (a b : Answer_data) → TellsPool names ms given limit a → TellsPool names ms given limit b
+    → AreSameOrStopped a b
 one_pool names ms given limit a b h k = alike names ms given limit a b h.outcome k.outcome h.actors k.actors h.agrees k.agrees h.told k.told
 
 -- what is told of an accepted session is alike
 pub one_together : (options : RunOptions) (names : Names_data) (ms : List Machine_data) (ds : List Derivation_data) (a b : Answer_data) → RunsTogether options names ms ds a
-    → RunsTogether options names ms ds b → AreAlike a b
+    → RunsTogether options names ms ds b → AreSameOrStopped a b
 one_together options names ms ds a b (IsTooSmall less x) (IsTooSmall more y) = inl (x ∙ sym y)
 one_together options names ms ds a b (IsTooSmall less x) (IsRunTogether enough k) = absurd (omega (arith, less, enough))
 one_together options names ms ds a b (IsRunTogether enough h) (IsTooSmall less y) = absurd (omega (arith, less, enough))
 one_together options names ms ds a b (IsRunTogether enough h) (IsRunTogether other k) = one_pool names ms (actor_of options.seed) options.limit a b h k
 
 -- what several workers answer to one document is alike
-pub one_by_workers : (options : RunOptions) (d : Document_data) (a b : Answer_data) → RunsByWorkers options d a → RunsByWorkers options d b → AreAlike a b
+pub one_by_workers : (options : RunOptions) (d : Document_data) (a b : Answer_data) → RunsByWorkers options d a → RunsByWorkers options d b → AreSameOrStopped a b
 one_by_workers options d a b (pools.IsRefused r h x) (pools.IsRefused s k y) = inl (x ∙ ap (refusal_answer d.names) (one_refusal options.bound d r s h k) ∙ sym y)
 one_by_workers options d a b (pools.IsRefused r h x) (pools.IsAccepted ps ms ds k f y) = absurd (not_refused options.bound d ps ms ds r k f h)
 one_by_workers options d a b (pools.IsAccepted ps ms ds h f x) (pools.IsRefused s k y) = absurd (not_refused options.bound d ps ms ds s h f k)
@@ -97,7 +94,7 @@ one_by_one options bytes d a b doc (runs.IsRun ps ms ds h f x) (runs.IsRun qs ns
 
 -- what is answered to one document by the same workers is alike
 pub one_with : (workers : Workers) (options : RunOptions) (bytes : List ℕ) (d : Document_data) (a b : Answer_data) → SpellsDocument bytes d → RunsWith workers options d a
-    → RunsWith workers options d b → AreAlike a b
+    → RunsWith workers options d b → AreSameOrStopped a b
 one_with One options bytes d a b doc h k = inl (one_by_one options bytes d a b doc h k)
 one_with (Several n) options bytes d a b doc h k = one_by_workers options d a b h k
 

@@ -13,7 +13,7 @@ use Rattle.rs_derive.specs.Derivations.{spot_of}
 use Rattle.rs_derive.specs.Moves.{Spot}
 use Rattle.rs_documents.specs.Canonical.{ArePrintable, CanBeShown}
 use Rattle.rs_documents.specs.Data.{Document_data}
-use Rattle.rs_documents.specs.Reading.{DocumentIsReady}
+use Rattle.rs_documents.specs.Ready.{DocumentIsReady}
 use Rattle.rs_global.specs.Enough.{AreEnough}
 use Rattle.rs_graph.proofs.Growth.{at_in}
 use Rattle.rs_graph.specs.Lists.{Among}
@@ -44,7 +44,7 @@ use Rattle.rs_answers.proofs.Derivings.{found_at, session_has}
 use Rattle.rs_answers.proofs.Owed.{IsActOf, in_parts, Sends, Receives, owed_acts}
 
 -- the peer and the label of the act have names
-record IsNamed (names : Names_data) (a : Act) : Type 0 where
+pub record IsNamed (names : Names_data) (a : Act) : Type 0 where
   pub peer : peer_of a < length names.roles
   pub label : label_number a < length names.labels
 
@@ -88,7 +88,7 @@ state_of pr role j s state is at =
     (get_or j.sets s [], is.states s (get_or j.sets s []) state (slice_get-get_or j.sets s [] (omega (arith, within, all))) at)
 
 -- each act of a projection has names
-act_named : (names : Names_data) (pr : Protocol_data) (role : Role) (j : Projection_data) → AreEnough names pr → IsProjection pr role j → IsWellFormedMachine j.machine pr.roles → (a : Act)
+pub act_named : (names : Names_data) (pr : Protocol_data) (role : Role) (j : Projection_data) → AreEnough names pr → IsProjection pr role j → IsWellFormedMachine j.machine pr.roles → (a : Act)
     → IsActOf j.machine a → IsNamed names a
 act_named names pr role j enough is w _ (Sends s place peer arms arm there at) =
     let of = state_of pr role j s (Puts peer arms) is there in
@@ -102,7 +102,7 @@ act_named names pr role j enough is w _ (Receives s place peer arms arm there at
     record { peer = omega (arith, known, roles); label = takes_named names pr role j.sets of.0 peer arms place arm enough of.1 at }
 
 -- what holds of each item of a list holds of all
-all_of : {X : Type 0} (P : X → Type 0) (xs : List X) → ((x : X) → Among xs x → P x) → All P xs
+pub all_of : {X : Type 0} (P : X → Type 0) (xs : List X) → ((x : X) → Among xs x → P x) → All P xs
 all_of P [] h = All-nil P
 all_of P (x ∷ xs) h = All-cons P x xs (h x (inl refl)) (all_of P xs (λ y k. h y (inr k)))
 
@@ -198,7 +198,7 @@ printable names pr role m j bound d wf enough few known is same within found =
     at_first : (d : Derivation_data) → IsCanonical m j.machine bound d → 1 ≤ length d.nodes
     at_first d f = some_nodes d.nodes _ f.canonical.first
 
-there : (ds : List Derivation_data) (k : ℕ) (d : Derivation_data) → slice_get (map Some ds) k ≡ Some (Some d) → slice_get ds k ≡ Some d
+pub there : (ds : List Derivation_data) (k : ℕ) (d : Derivation_data) → slice_get (map Some ds) k ≡ Some (Some d) → slice_get ds k ≡ Some d
 there [] k d e = absurd (cc e)
 there (x ∷ ds) zero d e = cc e
 there (x ∷ ds) (suc k) d e = there ds k d e

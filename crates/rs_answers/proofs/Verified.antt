@@ -11,7 +11,7 @@ use Rattle.rs_derive.specs.Derivations.{IsDerivation, IsProper, Remembers}
 use Rattle.rs_derive.specs.Faults.{first_fault}
 use Rattle.rs_derive.specs.declared.faults.DeriveFault.{DeriveFault}
 use Rattle.rs_documents.specs.Data.{Document_data}
-use Rattle.rs_documents.specs.Reading.{DerivationsAreHeld, IsBounded}
+use Rattle.rs_documents.specs.Ready.{DerivationsAreHeld, IsBounded}
 use Rattle.rs_model.specs.Data.{Machine_data, Protocol_data}
 use Rattle.rs_model.specs.declared.graph.Role.{Role}
 use Rattle.rs_model.specs.declared.memory.NoMemory.{NoMemory}

@@ -1,4 +1,4 @@
--- Believed: documents that are accepted, and those that are refused.
+-- Public: documents that are accepted, and those that are refused.
 use Rattle.std.specs.Prelude.{◌≡◌, ◌⊎◌, ℕ}
 use Rattle.rs_documents.specs.Data.{Document_data}
 use Rattle.rs_safety.specs.Accepting.{IsAcceptedSession}

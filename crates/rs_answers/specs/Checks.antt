@@ -1,4 +1,4 @@
--- Believed: what `check` answers to a document.
+-- Public: what `check` answers to a document.
 use Rattle.std.specs.Prelude.{◌≡◌, ℕ, List, Bool, true, false, map, Some}
 use Rattle.rs_model.specs.Data.{Machine_data}
 use Rattle.rs_project.specs.Data.{Projection_data}

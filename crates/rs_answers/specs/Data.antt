@@ -1,4 +1,4 @@
--- Believed: what contracts see of answers.
+-- Public: what contracts see of answers.
 use Rattle.std.specs.Prelude.{ℕ, List}
 use Rattle.rs_answers.specs.declared.verdicts.Verdict.{Verdict}
 

@@ -1,4 +1,4 @@
--- Believed: which session is handed out beside the answer to a demo.
+-- Public: which session is handed out beside the answer to a demo.
 use Rattle.std.specs.Prelude.{◌≡◌, ℕ, List, length, Option}
 use Rattle.rs_answers.specs.Data.{Answer_data}
 use Rattle.rs_answers.specs.RunSessions.{HasCome, IsThereWhere, WasRun}

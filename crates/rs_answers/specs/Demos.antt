@@ -1,4 +1,4 @@
--- Believed: what `demo` answers to its input.
+-- Public: what `demo` answers to its input.
 use Rattle.std.specs.Prelude.{◌≡◌, ◌<◌, ◌≤◌, ℕ, List, [], codes, get_or, length, Option, Some}
 use Rattle.rs_answers.specs.Data.{Answer_data}
 use Rattle.rs_answers.specs.Derivations.{AreCanonical}

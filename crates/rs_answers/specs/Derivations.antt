@@ -1,4 +1,4 @@
--- Believed: the derivations of a session: those that the search finds for its machines.
+-- Public: the derivations of a session: those that the search finds for its machines.
 use Rattle.std.specs.Prelude.{◌≡◌, ◌≢◌, ℕ, List, Some, length, slice_get}
 use Rattle.rs_derive.specs.Data.{Derivation_data}
 use Rattle.rs_model.specs.Data.{Machine_data}

@@ -1,4 +1,4 @@
--- Believed: the machines of a document's session.
+-- Headline: the machines of a document's session.
 use Rattle.std.specs.Prelude.{List, [], ◌∷◌, Option, Some, None}
 use Rattle.rs_model.specs.Data.{Machine_data}
 use Rattle.rs_project.specs.Data.{Projection_data}

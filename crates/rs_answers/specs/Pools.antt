@@ -1,5 +1,5 @@
--- Believed: what `run` answers to a document whose session several workers run.
-use Rattle.std.specs.Prelude.{◌≡◌, ◌<◌, ◌≤◌, ℕ, List}
+-- Public: what `run` answers to a document whose session several workers run.
+use Rattle.std.specs.Prelude.{◌≡◌, ◌⊎◌, ◌<◌, ◌≤◌, ℕ, List}
 use Rattle.rs_core.specs.Draws.{by_draws}
 use Rattle.rs_core.specs.declared.runs.Outcome.{Outcome}
 use Rattle.rs_derive.specs.Data.{Derivation_data}
@@ -18,6 +18,7 @@ use Rattle.rs_answers.specs.declared.refusals.Refusal.{Refusal}
 use Rattle.rs_model.specs.declared.runs.RunOptions.{RunOptions}
 use Rattle.rs_model.specs.declared.runs.Workers.{Workers}
 use Rattle.rs_model.specs.declared.runs.Workers.TheVariants.{One, Several}
+use Rattle.rs_answers.specs.declared.verdicts.Verdict.TheVariants as verdict
 
 -- what is told of a run of the machines by several workers: what the plain run over unbounded queues comes to, by these
 -- actors. Where that one is stopped, the role that is named is one that comes to its limit wherever all go on as long as
@@ -49,3 +50,12 @@ pub data RunsByWorkers (options : RunOptions) (d : Document_data) (answer : Answ
 abbrev pub RunsWith : Workers → RunOptions → Document_data → Answer_data → Type 0
 RunsWith One options d answer = Runs options d answer
 RunsWith (Several n) options d answer = RunsByWorkers options d answer
+
+-- where the session of the document is accepted, the rings hold as many messages as its room
+abbrev pub RingsHoldItsRoom : RunOptions → Document_data → Type 0
+RingsHoldItsRoom options d = (projections : List Projection_data) (machines : List Machine_data) (derivations : List Derivation_data) → HasMachines d projections machines
+    → AreCanonical options.bound machines projections derivations → room_of derivations ≤ capacity_of options.ring (room_of derivations)
+
+-- two answers are the same, or both tell that a role was stopped
+abbrev pub AreSameOrStopped : Answer_data → Answer_data → Type 0
+AreSameOrStopped one other = (one ≡ other) ⊎ ((one.verdict ≡ verdict.Stopped) × (other.verdict ≡ verdict.Stopped))

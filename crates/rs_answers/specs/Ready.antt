@@ -1,4 +1,4 @@
--- Steps: what comes of a session that is ready to be run.
+-- Public: what comes of a session that is ready to be run.
 use Rattle.std.specs.Prelude.{◌≡◌, ◌≤◌, ℕ, List, length, Option, None}
 use Rattle.rs_core.specs.Plain.{Moment, Stopped, IsPlain}
 use Rattle.rs_core.specs.Runs.{IsGiven}

@@ -1,4 +1,4 @@
--- Believed: the answers that refuse, by the reason.
+-- Public: the answers that refuse, by the reason.
 use Rattle.std.specs.Prelude.{ℕ, List, [], ◌∷◌, codes, Bool, true, false, Option, Some, None}
 use Rattle.std.specs.Fmt.{decimal}
 use Rattle.rs_model.specs.Data.{Names_data}

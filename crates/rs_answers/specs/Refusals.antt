@@ -1,4 +1,4 @@
--- Believed: why a document is refused, by the first reason that applies, and what is answered.
+-- Public: why a document is refused, by the first reason that applies, and what is answered.
 use Rattle.std.specs.Prelude.{◌≡◌, ℕ, List, [], Some, None}
 use Rattle.rs_model.specs.Data.{Machine_data, Names_data}
 use Rattle.rs_model.specs.declared.graph.Role.{Role}

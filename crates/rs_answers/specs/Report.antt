@@ -1,4 +1,4 @@
--- Believed: the report of an accepted session, from its derivations.
+-- Public: the report of an accepted session, from its derivations.
 use Rattle.std.specs.Prelude.{ℕ, List, [], ◌∷◌, ◌++◌, codes, length}
 use Rattle.std.specs.Fmt.{decimal}
 use Rattle.rs_derive.specs.Data.{Derivation_data}

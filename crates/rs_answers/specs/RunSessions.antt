@@ -1,4 +1,4 @@
--- Believed: which session is handed out beside the answer to a run.
+-- Public: which session is handed out beside the answer to a run.
 use Rattle.std.specs.Prelude.{◌≡◌, ℕ, List, Option, Some, None}
 use Rattle.rs_core.specs.Actors.{Behaviour}
 use Rattle.rs_core.specs.Configurations.{Configuration}

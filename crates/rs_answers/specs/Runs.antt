@@ -1,4 +1,4 @@
--- Believed: what `run` answers to a document.
+-- Public: what `run` answers to a document.
 use Rattle.std.specs.Prelude.{◌≡◌, ℕ, ◌+◌, ◌%◌, ◌^◌, List, [], ◌∷◌, codes, length, min, Option, Some, None}
 use Rattle.std.specs.Fmt.{decimal}
 use Rattle.rs_core.specs.Draws.{by_draws}

@@ -1,4 +1,4 @@
--- Believed: the session of a document: its projections and its machines.
+-- Public: the session of a document: its projections and its machines.
 use Rattle.std.specs.Prelude.{◌≡◌, ℕ, ◌<◌, List, [], ◌∷◌, Option, Some, None}
 use Rattle.rs_model.specs.Data.{Machine_data, Protocol_data}
 use Rattle.rs_model.specs.Faults.{first_fault}

@@ -1,4 +1,4 @@
--- Believed: what `show` answers to a document: its canonical text.
+-- Public: what `show` answers to a document: its canonical text.
 use Rattle.std.specs.Prelude.{◌≡◌}
 use Rattle.rs_documents.specs.Canonical.{IsCanonicalDocument}
 use Rattle.rs_documents.specs.Data.{Document_data}

@@ -1,4 +1,4 @@
--- Believed: the faults that the protocol of a text may have.
+-- Public: the faults that the protocol of a text may have.
 use Rattle.rs_wellformed.specs.declared.checks.WfFault.{WfFault}
 use Rattle.rs_wellformed.specs.declared.checks.WfFault.TheVariants as wf
 

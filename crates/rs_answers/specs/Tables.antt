@@ -1,4 +1,4 @@
--- Believed: what `project` answers to a document.
+-- Public: what `project` answers to a document.
 use Rattle.std.specs.Prelude.{◌≡◌, ℕ, List, Some, None}
 use Rattle.std.specs.List.{flat_map}
 use Rattle.rs_machines.specs.Tables.{table_of}

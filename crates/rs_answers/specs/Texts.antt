@@ -1,4 +1,4 @@
--- Believed: texts that are put together of pieces.
+-- Public: texts that are put together of pieces.
 use Rattle.std.specs.Prelude.{ℕ, List}
 use Rattle.std.specs.Fmt.{decimal}
 use Rattle.std.specs.List.{flat_map}

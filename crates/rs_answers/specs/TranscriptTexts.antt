@@ -1,4 +1,4 @@
--- Believed: how transcripts are written.
+-- Public: how transcripts are written.
 use Rattle.std.specs.Prelude.{ℕ, ℤ, ◌/◌, ◌%◌, List, [], ◌∷◌, ◌++◌, codes, Bool, true, false}
 use Rattle.std.specs.Fmt.{decimal, digit_glyph, signed_decimal}
 use Rattle.std.specs.List.{flat_map}

@@ -1,4 +1,4 @@
--- Believed: what `verify` answers to a document.
+-- Public: what `verify` answers to a document.
 use Rattle.std.specs.Prelude.{◌≡◌, ℕ, suc, List, [], ◌∷◌, Option, Some, None}
 use Rattle.std.specs.List.{flat_map}
 use Rattle.rs_derive.specs.Data.{Derivation_data}
@@ -6,7 +6,7 @@ use Rattle.rs_derive.specs.Derivations.{IsProper}
 use Rattle.rs_derive.specs.Faults.{first_fault}
 use Rattle.rs_derive.specs.declared.faults.DeriveFault.{DeriveFault}
 use Rattle.rs_documents.specs.Data.{Document_data}
-use Rattle.rs_documents.specs.Reading.{IsBounded}
+use Rattle.rs_documents.specs.Ready.{IsBounded}
 use Rattle.rs_model.specs.Data.{Machine_data}
 use Rattle.rs_model.specs.declared.graph.Role.{Role}
 use Rattle.rs_project.specs.Data.{Projection_data}

@@ -4,7 +4,7 @@ ghost use Rattle.std.specs.Prelude.{◌≡◌, ℕ, IfErr, IfOk, OnOk, length};
 ghost use Rattle.rs_answers.specs.Accepting.{IsAcceptedDocument, IsRefusedDocument};
 ghost use Rattle.rs_answers.specs.Derivations.{AreCanonical};
 ghost use Rattle.rs_answers.specs.Refusals as spec;
-ghost use Rattle.rs_documents.specs.Reading.{DocumentIsReady};
+ghost use Rattle.rs_documents.specs.Ready.{DocumentIsReady};
 ghost use Rattle.rs_model.specs.Limits.{IsBound};
 ghost use Rattle.rs_safety.specs.Sessions.{IsSession};
 

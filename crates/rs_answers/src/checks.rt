@@ -3,7 +3,7 @@
 ghost use Rattle.std.specs.Prelude.{◌≡◌, Some, false, length, map, true, IfOk};
 ghost use Rattle.rs_answers.specs.Checks.{Checks};
 ghost use Rattle.rs_documents.specs.Canonical.{CanBeShown};
-ghost use Rattle.rs_documents.specs.Reading.{DocumentIsReady};
+ghost use Rattle.rs_documents.specs.Ready.{DocumentIsReady};
 
 use crate::answers::Answer;
 use crate::derivations::derived_session;

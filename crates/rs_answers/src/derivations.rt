@@ -5,7 +5,7 @@ ghost use Rattle.rs_model.specs.Data.{Protocol_data};
 ghost use Rattle.rs_model.specs.Limits.{IsBound};
 ghost use Rattle.rs_safety.specs.Sessions.{IsSession};
 ghost use Rattle.rs_answers.specs.Derivations.{AreCanonical, IsUnderivable};
-ghost use Rattle.rs_documents.specs.Reading.{DocumentIsReady};
+ghost use Rattle.rs_documents.specs.Ready.{DocumentIsReady};
 ghost use Rattle.rs_answers.specs.Refusals.{HasNoDerivations};
 ghost use Rattle.rs_answers.specs.Sessions.{HasMachines};
 
@@ -72,6 +72,7 @@ pub fn derived_session(
 ) -> Result<DerivedSession, Refusal>
     requires ready { DocumentIsReady document.now }
     ensures machines { IfOk result (λ s. HasMachines document.now s.projections.items s.machines.items) }
+    ensures session { IfOk result (λ s. IsSession document.now.protocol s.projections.items s.machines.items) }
     ensures derivations { IfOk result (λ s. AreCanonical bound s.machines.items s.projections.items s.derivations.items) }
     ensures bound { OnOk result (IsBound bound) }
     ensures err { IfErr result (λ r. (r ≡ Refusal.NoMemory) ⊎ HasNoDerivations bound document.now r) }

@@ -1,6 +1,6 @@
 //! Laws about the definitions: each function does nothing, and its contract is the law.
 
-ghost use Rattle.std.specs.Prelude.{◌≡◌, ℕ, ◌≤◌, List, Some, None, slice_get, Option, length};
+ghost use Rattle.std.specs.Prelude.{◌≡◌, ℕ, ◌≤◌, true, false, List, Some, None, slice_get, Option, length};
 ghost use Rattle.rs_derive.specs.Data.{Derivation_data};
 ghost use Rattle.rs_documents.specs.Data.{Document_data};
 ghost use Rattle.rs_documents.specs.Documents.{SpellsDocument};
@@ -9,6 +9,8 @@ ghost use Rattle.rs_model.specs.declared.graph.Role.{Role};
 ghost use Rattle.rs_project.specs.Data.{Projection_data};
 ghost use Rattle.rs_search.specs.declared.faults.SearchFault.{SearchFault};
 ghost use Rattle.rs_search.specs.declared.faults.SearchFault.TheVariants.{TooLarge};
+ghost use Rattle.rs_documents.specs.Ready.{DocumentIsReady};
+ghost use Rattle.rs_answers.specs.Checks.{Checks};
 ghost use Rattle.rs_answers.specs.Derivations.{IsUnderivable, AreCanonical};
 ghost use Rattle.rs_answers.specs.Sessions.{HasMachines};
 ghost use Rattle.rs_answers.specs.Verifying as verifying;
@@ -17,7 +19,9 @@ ghost use Rattle.rs_wellformed.specs.Faults.{first_fault};
 ghost use Rattle.rs_wellformed.specs.declared.checks.WfFault.{WfFault};
 ghost use Rattle.rs_answers.specs.SpeltFaults.{IsFaultOfSpeltProtocol};
 ghost use Rattle.rs_answers.specs.Data.{Answer_data};
-ghost use Rattle.rs_answers.specs.declared.verdicts.Verdict.TheVariants.{Fine};
+ghost use Rattle.rs_answers.specs.Pools.{AreSameOrStopped, RingsHoldItsRoom, RunsByWorkers};
+ghost use Rattle.rs_answers.specs.Runs.{Runs};
+ghost use Rattle.rs_answers.specs.declared.verdicts.Verdict.TheVariants.{Fine, RoomTooSmall};
 ghost use Rattle.rs_core.specs.Plain.{Moment, Stopped, Stuck, IsPlain};
 ghost use Rattle.rs_answers.specs.Demos.{AnswersDemo, Opens, actor_at};
 ghost use Rattle.rs_answers.specs.declared.limits.TheConstants.{DEMO_LIMIT};
@@ -25,7 +29,9 @@ ghost use Rattle.rs_demos.specs.Acting.{by_demo};
 ghost use Rattle.rs_demos.specs.Results.{Computes};
 ghost use Rattle.rs_demos.specs.declared.actors.DemoActor.{DemoActor};
 ghost use Rattle.rs_model.specs.declared.limits.TheConstants.{MOST_BYTES, DEFAULT_BOUND};
+ghost use Rattle.rs_model.specs.Limits.{IsBound};
 ghost use Rattle.rs_model.specs.declared.demos.Demo.{Demo};
+ghost use Rattle.rs_model.specs.declared.runs.RunOptions.{RunOptions};
 ghost use Rattle.rs_safety.specs.Room.{room_of};
 
 /// A protocol that a text spells has no other faults than a talk to itself, too many arms, and a label that stands twice at
@@ -44,6 +50,13 @@ pub fn what_verifies_is_found()
         → (role : Role) (fault : SearchFault) → IsUnderivable bound machines projections role fault → fault ≡ TooLarge }
 {}
 
+/// What `check --derivations` prints of a document that was read is read again, and `verify` then reports what `check` does. Its
+/// labels may have other numbers.
+pub fn printed_derivations_are_verified()
+    ensures { (bound : ℕ) (bytes : List ℕ) (d : Document_data) (printed told : Answer_data) → IsBound bound → SpellsDocument bytes d → DocumentIsReady d → Checks bound true d printed
+        → Checks bound false d told → told.verdict ≡ Fine → (e : Document_data) × SpellsDocument printed.text e × verifying.Verifies e told }
+{}
+
 /// In a run over rings that hold as many messages as the room of the session says, some role can always move until all
 /// have ended.
 pub fn runs_of_demos_are_never_stuck()
@@ -60,6 +73,16 @@ pub fn runs_of_demos_are_never_stopped()
         (role : ℕ) (end : Moment DemoActor)
         → length bytes ≤ MOST_BYTES → Opens kind bytes actors text → SpellsDocument text d → HasMachines d projections machines
         → IsPlain machines by_demo (actor_at actors) DEMO_LIMIT capacity (Stopped role end) → ⊥ }
+{}
+
+/// One worker and several answer the same to a document, where the rings hold as many messages as the room of its session; or
+/// both tell that a role was stopped, and the role that is named may be another. And so it is where the answer of several is
+/// not that the rings are too small.
+pub fn one_worker_answers_as_several_do()
+    ensures enough { (options : RunOptions) (bytes : List ℕ) (d : Document_data) (one several : Answer_data) → IsBound options.bound → SpellsDocument bytes d → RingsHoldItsRoom options d
+        → Runs options d one → RunsByWorkers options d several → AreSameOrStopped one several }
+    ensures told { (options : RunOptions) (bytes : List ℕ) (d : Document_data) (one several : Answer_data) → IsBound options.bound → SpellsDocument bytes d → (several.verdict ≡ RoomTooSmall → ⊥)
+        → Runs options d one → RunsByWorkers options d several → AreSameOrStopped one several }
 {}
 
 /// There is an answer of each demo to all bytes.

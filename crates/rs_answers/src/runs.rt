@@ -5,7 +5,7 @@ ghost use Rattle.rs_answers.specs.Ready.{Warrants};
 ghost use Rattle.rs_answers.specs.Runs as spec;
 ghost use Rattle.rs_answers.specs.RunSessions.{GivesRun};
 ghost use Rattle.rs_core.specs.Runs.{IsGiven};
-ghost use Rattle.rs_documents.specs.Reading.{DocumentIsReady};
+ghost use Rattle.rs_documents.specs.Ready.{DocumentIsReady};
 
 use crate::accepting::{AcceptedDocument, accept_document};
 use crate::answers::{Answer, AnswerWithSession};

@@ -3,7 +3,7 @@
 ghost use Rattle.std.specs.Prelude.{◌≡◌, ◌<◌, ◌⊎◌, ◌^◌, length, IfOk, IfErr, IfSome, IfNone, Some, None};
 ghost use Rattle.std.specs.List.{All};
 ghost use Rattle.rs_project.specs.Numbered.{AreNumberedProjections};
-ghost use Rattle.rs_documents.specs.Reading.{DocumentIsReady};
+ghost use Rattle.rs_documents.specs.Ready.{DocumentIsReady};
 ghost use Rattle.rs_answers.specs.Refusals.{HasNoSession};
 ghost use Rattle.rs_answers.specs.Sessions.{HasMachines, Refuses, first_refusal, machine_or, machines_of};
 ghost use Rattle.rs_wellformed.specs.WellFormed.{IsWellFormed};

@@ -1,7 +1,7 @@
 //! What `project` answers to a document.
 
 ghost use Rattle.std.specs.Prelude.{◌≡◌, ◌++◌, IfOk, OnOk};
-ghost use Rattle.rs_documents.specs.Reading.{DocumentIsReady};
+ghost use Rattle.rs_documents.specs.Ready.{DocumentIsReady};
 ghost use Rattle.rs_answers.specs.Tables.{Projects, tables_text};
 
 use crate::answers::Answer;

@@ -10,7 +10,8 @@ use Rattle.rs_bodies.specs.declared.dialects.Head.{Head}
 use Rattle.rs_bodies.specs.declared.places.Place.{Place}
 use Rattle.rs_bodies.specs.declared.places.Place.TheVariants as place
 use Rattle.rs_bodies.specs.Places.{choice, IsGoneBackTo}
-use Rattle.rs_bodies.specs.Printing.{flags_behind_arms, marked_place, flags_behind_place, flags_behind_places, back_flags, AreBack}
+use Rattle.rs_bodies.specs.Printing.{flags_behind_arms, marked_place, flags_behind_place, flags_behind_places, back_flags}
+use Rattle.rs_bodies.proofs.BackAgain.{AreBack}
 
 abbrev one_marked : ℕ → Arm → List Bool → List Bool
 one_marked n a flags = if nat_le a.next n && nat_lt a.next (length flags) then slice_set flags a.next true else flags
@@ -21,12 +22,12 @@ one_marked n a flags = if nat_le a.next n && nat_lt a.next (length flags) then s
 record Tells (number : ℕ) (a : Arm) (flags : List Bool) : Type 0 where
   later : a.next ≤ number
   within : a.next < length flags
-  is : one_marked number a flags ≡ set flags a.next true
+  sets : one_marked number a flags ≡ set flags a.next true
 
 tells : (number : ℕ) (a : Arm) (flags : List Bool) → Tells number a flags ⊎ ((one_marked number a flags ≡ flags) × (a.next ≤ number → a.next < length flags → ⊥))
 tells number a flags = elim (leb_tells a.next number) [
   | inl e ↦ elim (leb_tells (suc a.next) (length flags)) [
-    | inl f ↦ inl (record { later = e.1; within = (let k = f.1 in omega arith); is = rw (e.0, f.0) refl })
+    | inl f ↦ inl (record { later = e.1; within = (let k = f.1 in omega arith); sets = rw (e.0, f.0) refl })
     | inr f ↦ inr (rw (e.0, f.0) refl, λ _ h. (let k = f.1 in omega arith))
   ]
   | inr e ↦ inr (rw e.0 refl, λ h _. (let k = e.1 in omega arith))
@@ -55,7 +56,7 @@ Leads p number a = a.next ≤ number → IsGoneBackTo p a.next
 
 one_sound : (p : List Place) (number : ℕ) (a : Arm) (flags : List Bool) → Leads p number a → AreSound p flags → AreSound p (one_marked number a flags)
 one_sound p number a flags leads sound n h = elim (tells number a flags) [
-  | inl e ↦ elim (set_tells flags a.next n (rw e.is at h)) [
+  | inl e ↦ elim (set_tells flags a.next n (rw e.sets at h)) [
     | inl same ↦ rw same (leads e.later)
     | inr old ↦ sound n old
   ]
@@ -96,13 +97,13 @@ all_sound (x ∷ places) p n flags later sound =
 -- ---- what is gone back to is marked
 
 one_length : (number : ℕ) (a : Arm) (flags : List Bool) → length (one_marked number a flags) ≡ length flags
-one_length number a flags = elim (tells number a flags) [ inl e ↦ rw e.is (length-set flags a.next true) | inr e ↦ rw e.0 refl ]
+one_length number a flags = elim (tells number a flags) [ inl e ↦ rw e.sets (length-set flags a.next true) | inr e ↦ rw e.0 refl ]
 
 one_keeps : (number : ℕ) (a : Arm) (flags : List Bool) (n : ℕ) → get_or flags n false ≡ true → get_or (one_marked number a flags) n false ≡ true
-one_keeps number a flags n h = elim (tells number a flags) [ inl e ↦ rw e.is (set_keeps flags a.next n e.within h) | inr e ↦ rw e.0 h ]
+one_keeps number a flags n h = elim (tells number a flags) [ inl e ↦ rw e.sets (set_keeps flags a.next n e.within h) | inr e ↦ rw e.0 h ]
 
 one_marks : (number : ℕ) (a : Arm) (flags : List Bool) → a.next ≤ number → a.next < length flags → get_or (one_marked number a flags) a.next false ≡ true
-one_marks number a flags later within = elim (tells number a flags) [ inl e ↦ rw e.is (get_or-set_same flags a.next true false within) | inr e ↦ absurd (e.1 later within) ]
+one_marks number a flags later within = elim (tells number a flags) [ inl e ↦ rw e.sets (get_or-set_same flags a.next true false within) | inr e ↦ absurd (e.1 later within) ]
 
 arms_length : (arms : List Arm) (number : ℕ) (flags : List Bool) → length (flags_behind_arms number arms flags) ≡ length flags
 arms_length [] number flags = refl

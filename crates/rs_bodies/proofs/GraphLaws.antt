@@ -9,7 +9,8 @@ use Rattle.rs_bodies.specs.declared.dialects.Dialect.{Dialect}
 use Rattle.rs_bodies.specs.Data.{Spelling_data}
 use Rattle.rs_bodies.specs.Faults.{FirstFault}
 use Rattle.rs_bodies.specs.Feeding.{PartAnswer, ReadsAs, first_roles}
-use Rattle.rs_bodies.specs.GraphKinds.{GraphKind, SpellsOf}
+use Rattle.rs_bodies.specs.GraphKinds.{GraphKind}
+use Rattle.rs_bodies.proofs.GraphSpelling.{SpellsOf}
 use Rattle.rs_bodies.specs.Spellings.{Spells, spelling_of}
 use Rattle.rs_bodies.specs.Spells.{Tree, names_of}
 use Rattle.rs_bodies.specs.GraphAnswers.{GraphAnswer, ReadsGraph, graph_of_answer}
@@ -108,21 +109,21 @@ part_read {d} kind old bytes at x within h =
 record IsReadPart {d : Dialect} {G : Type 0} (kind : GraphKind d G) (old : Names_data) (bytes : List ℕ) (at : ℕ) (a : GraphAnswer G) : Type 0 where
   part : PartAnswer
   read : ReadsAs d old bytes at (Ok part)
-  is : answer part.names (kind.made part.names part.spelling) part.until ≡ a
+  answer_is : answer part.names (kind.made part.names part.spelling) part.until ≡ a
 
 read_part : {d : Dialect} {G : Type 0} (kind : GraphKind d G) (old : Names_data) (bytes : List ℕ) (at : ℕ) (a : GraphAnswer G) → at ≤ length bytes → ReadsGraph kind old bytes at (Ok a)
     → IsReadPart kind old bytes at a
 read_part {d} kind old bytes at a within h =
     let p = part_read kind old bytes at (Ok a) within h in
     let b = of_ok kind p.0 a p.2 in
-    record { part = b.0; read = subst (λ (z : Result PartAnswer TextFault). ReadsAs d old bytes at z) b.1 p.1; is = b.2 }
+    record { part = b.0; read = subst (λ (z : Result PartAnswer TextFault). ReadsAs d old bytes at z) b.1 p.1; answer_is = b.2 }
 
 -- a text that is read as a graph spells it
 pub sound : {d : Dialect} {G : Type 0} (kind : GraphKind d G) → IsMade kind → (old : Names_data) (bytes : List ℕ) (at : ℕ) (a : GraphAnswer G) → at ≤ length bytes → ReadsGraph kind old bytes at (Ok a)
     → SpellsOf kind bytes at old a.names a.graph a.until
 sound {d} {G} kind made old bytes at a within h =
     let p = read_part kind old bytes at a within h in
-    subst (λ (z : GraphAnswer G). SpellsOf kind bytes at old z.names z.graph z.until) p.is
+    subst (λ (z : GraphAnswer G). SpellsOf kind bytes at old z.names z.graph z.until) p.answer_is
     (graph_spelt kind made bytes at old p.part.names p.part.spelling p.part.until (runs.sound d old bytes at p.part within p.read))
 
 -- a text that spells a graph is read as it
@@ -137,7 +138,7 @@ pub is_sound : {d : Dialect} {G : Type 0} (kind : GraphKind d G) (old : Names_da
     → ReadsGraph kind old bytes at (Ok a) → IsSound a.names
 is_sound {d} {G} kind old bytes at a first before within h =
     let p = read_part kind old bytes at a within h in
-    subst (λ (z : GraphAnswer G). IsSound z.names) p.is (sounding.is_sound d old bytes at p.part first before within p.read)
+    subst (λ (z : GraphAnswer G). IsSound z.names) p.answer_is (sounding.is_sound d old bytes at p.part first before within p.read)
 
 -- a text spells one graph at most
 pub one_spelling : {d : Dialect} {G : Type 0} (kind : GraphKind d G) → IsMade kind → (old : Names_data) (bytes : List ℕ) (at : ℕ) (names others : Names_data) (graph other : G) (until stop : ℕ)

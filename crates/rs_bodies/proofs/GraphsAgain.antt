@@ -24,7 +24,8 @@ use Rattle.rs_bodies.specs.Bodied.{SpellsPlaces, HasBody}
 use Rattle.rs_bodies.specs.Canonical.{IsSpelt, HaveNames}
 use Rattle.rs_bodies.specs.Data.{Spelling_data}
 use Rattle.rs_bodies.specs.Graph.{labels_of, has_end, heads_of, role_by_name, label_by_name, Numbering}
-use Rattle.rs_bodies.specs.GraphKinds.{GraphKind, SpellsOf}
+use Rattle.rs_bodies.specs.GraphKinds.{GraphKind}
+use Rattle.rs_bodies.proofs.GraphSpelling.{SpellsOf}
 use Rattle.rs_bodies.specs.CanonicalGraphs.{IsOpeningOf, IsCanonicalTree, IsCanonicalGraphText}
 use Rattle.rs_bodies.specs.Openings.{Opening, of_roles, of_role, roles_in}
 use Rattle.rs_bodies.specs.Places.{end_of, places_spelt}

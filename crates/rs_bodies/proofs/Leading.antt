@@ -13,7 +13,8 @@ use Rattle.rs_bodies.specs.Fits.{is_guarded, has_room_for, head_fits, body_fits,
 use Rattle.rs_bodies.specs.Graph.{acts_in, acts_in_arms, has_end, has_end_arms, Numbering, first_of, arm_spelt, arms_of}
 use Rattle.rs_bodies.specs.Leads.{KnowsRoles, LeadsInside, PointLeads, ends_in, places_in}
 use Rattle.rs_bodies.specs.Openings.{roles_in}
-use Rattle.rs_bodies.specs.Points.{head_of, point_of, points_of, points_of_arms}
+use Rattle.rs_bodies.specs.Points.{head_of, point_of, points_of}
+use Rattle.rs_bodies.proofs.ArmPoints.{points_of_arms}
 use Rattle.rs_bodies.proofs.Heads.{heads_length}
 use Rattle.rs_bodies.specs.Scenes.{Scene, with_label, in_act, in_braces, in_rec, behind, first_scene}
 use Rattle.rs_bodies.specs.Spells.{Fits, Tree, names_of, numbering}

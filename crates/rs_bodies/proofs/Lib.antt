@@ -1,3 +1,6 @@
+pub mod GraphSpelling
+pub mod ArmPoints
+pub mod BackAgain
 pub mod FaultRuns
 pub mod FaultPlaces
 pub mod SpeltSteps

@@ -20,7 +20,8 @@ use Rattle.rs_bodies.specs.declared.printing.PlaceToWrite.{PlaceToWrite}
 use Rattle.rs_bodies.specs.Canonical.{IsHeadOf, IsPointOf, IsArmOf, Draws, DrawsHead, DrawsArms}
 use Rattle.rs_bodies.specs.Dialects.{BehindRole, sends_to, with_mark}
 use Rattle.rs_bodies.specs.Places.{choice, name_of_place, IsGoneBackTo}
-use Rattle.rs_bodies.specs.Printing.{AreBack, head_text, label_text, lone_text_of, rec_text, PrintStep, step, braces_with, target, Brace_data, arms_step, whole_step, place_step, brace_step}
+use Rattle.rs_bodies.specs.Printing.{head_text, label_text, lone_text_of, rec_text, PrintStep, step, braces_with, target, Brace_data, arms_step, whole_step, place_step, brace_step}
+use Rattle.rs_bodies.proofs.BackAgain.{AreBack}
 use Rattle.rs_bodies.specs.Printing.{Printer_data, next_printer, printer_from, is_left, begins_with}
 use Rattle.rs_bodies.specs.Texts.{turn_text, lone_text, body_text, branches_text, mark_text}
 use Rattle.rs_bodies.specs.Trees.{Body, ends, again, binds, acts, offers, Branches, one, more}

@@ -17,7 +17,8 @@ use Rattle.rs_bodies.specs.Drafts.{names_read, spelling_read}
 use Rattle.rs_bodies.specs.Spellings.{Spells}
 use Rattle.rs_bodies.proofs.SpeltRuns.{sound}
 use Rattle.rs_bodies.specs.Feeding.{HasLabels, start_of_part, feeding, first_roles, Leaves, Reads, answer_of_reading}
-use Rattle.rs_text.specs.Readings.{fault_of_stop, StopsBy, RefusedBy}
+use Rattle.rs_text.specs.Readings.{fault_of_stop, StopsBy}
+use Rattle.rs_text.proofs.RefusedReadings.{RefusedBy}
 use Rattle.rs_bodies.proofs.OneFault.{leaves}
 use Rattle.rs_bodies.proofs.Taken.{Took, took_labels}
 use Rattle.rs_text.proofs.Keeping.{tokens}

@@ -432,7 +432,7 @@ role_numbered p n s few lt = ap (λ z. role_number (number_or z)) (plain_place 8
 record Headed (dia : Dialect) (p : Outline) (h : Head) : Type 0 where
   first : List ℕ
   turn : BehindRole dia
-  is : (n : ℕ) → head_of dia (numbers p n) first turn ≡ h
+  head_is : (n : ℕ) → head_of dia (numbers p n) first turn ≡ h
   fits : (bound : BoundNames) (d k : ℕ) (ls : List (List ℕ)) → k < most dia → head_fits dia first turn (scene (plain_names 82 p.roles) bound d k ls) ≡ true
   word : is_role_word first ≡ true
   turn_word : IsWordInTurn dia turn
@@ -448,7 +448,7 @@ headed Talks p (head.Talk s r) few known =
     record {
       first = plain_name 82 s.0;
       turn = sends_to (plain_name 82 r.0);
-      is = λ n. ap (λ z. head.Talk z (role_by_name (numbers p n) (plain_name 82 r.0))) (role_numbered p n s few sent) ∙ ap (λ z. head.Talk s z) (role_numbered p n r few received);
+      head_is = λ n. ap (λ z. head.Talk z (role_by_name (numbers p n) (plain_name 82 r.0))) (role_numbered p n s few sent) ∙ ap (λ z. head.Talk s z) (role_numbered p n r few received);
       fits = λ bound d k ls lt. two_true (is_among (plain_name 82 s.0) (plain_names 82 p.roles) && nat_lt k (most Talks)) (is_among (plain_name 82 r.0) (plain_names 82 p.roles))
           (two_true (is_among (plain_name 82 s.0) (plain_names 82 p.roles)) (nat_lt k (most Talks)) (role_among p s sent) (lt-ltb k (most Talks) lt)) (role_among p r received);
       word = plain_role s.0 (omega arith);
@@ -461,7 +461,7 @@ headed Acts p (head.Act x m) few known =
     record {
       first = plain_name 82 x.0;
       turn = with_mark m;
-      is = λ n. ap (λ z. head.Act z m) (role_numbered p n x few there);
+      head_is = λ n. ap (λ z. head.Act z m) (role_numbered p n x few there);
       fits = λ bound d k ls lt. two_true (is_among (plain_name 82 x.0) (plain_names 82 p.roles)) (nat_lt k (most Acts)) (role_among p x there) (lt-ltb k (most Acts) lt);
       word = plain_role x.0 (omega arith);
       turn_word = tt;
@@ -491,7 +491,7 @@ head_grown dia p bound depth h a arms w u small there known lt low free g =
           drop_at p.places n (choice h (a ∷ arms)) there ∙ ap (λ z. choice h (a ∷ arms) ∷ z) (g.parts k le small')
           ∙ ap (λ z. z ++ drop u.count p.places) (sym (wrapped_places (numbers p k) c n whole bound ∙ offered_places (numbers p k) x.first x.turn g.branches inner n
           ∙ ap (λ z. z ∷ places_in_arms (numbers p k) g.branches inner (suc n))
-          (ap (λ z. choice z (arms_of dia (numbers p k) g.branches inner (suc n))) (x.is k) ∙ ap (choice h) (g.are k le small'))));
+          (ap (λ z. choice z (arms_of dia (numbers p k) g.branches inner (suc n))) (x.head_is k) ∙ ap (choice h) (g.are k le small'))));
       counts = omega arith;
       labels = ap (λ z. names_with (plain_names 108 w.labels) z) (wrapped_labels c n whole ∙ offered_labels x.first x.turn g.branches) ∙ g.labels;
       ended = g.ended ∙ ap (λ z. w.ended || z) (sym (wrapped_end c n whole ∙ offered_end x.first x.turn g.branches));

@@ -23,7 +23,8 @@ use Rattle.rs_bodies.specs.Drafts.{point_of_draft, settled_arm, settled_target, 
 use Rattle.rs_bodies.specs.Openings.{Opening, of_roles, of_role, further_signs, line_signs, opening_signs, roles_in}
 use Rattle.rs_bodies.specs.Trees.{Body, ends, again, binds, acts, offers, Branches, one, more, body_signs, ends_by_name, ends_a_name}
 use Rattle.rs_bodies.specs.Graph.{labels_of, acts_in, has_end, Numbering, first_of, arm_spelt, arms_of}
-use Rattle.rs_bodies.specs.Points.{point_of, points_of, points_of_arms}
+use Rattle.rs_bodies.specs.Points.{point_of, points_of}
+use Rattle.rs_bodies.proofs.ArmPoints.{points_of_arms}
 use Rattle.rs_bodies.specs.Spells.{Tree, tree_signs, OpeningFits, Fits, names_of, numbering}
 use Rattle.rs_bodies.specs.Spellings.{own_role, spelling_of}
 use Rattle.rs_bodies.specs.Feeding.{start_of_part, new_role, role_by, is_read, feeding}

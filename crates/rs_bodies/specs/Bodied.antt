@@ -1,4 +1,4 @@
--- Believed: the graphs that bodies spell.
+-- Public: the graphs that bodies spell.
 use Rattle.std.specs.Prelude.{◌≡◌, ℕ, List, [], ◌++◌, length, map, true}
 use Rattle.rs_model.specs.Data.{Names_data}
 use Rattle.rs_text.specs.Names.{names_with}

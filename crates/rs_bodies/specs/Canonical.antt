@@ -1,4 +1,4 @@
--- Believed: the body of a canonical text, and which graphs have one.
+-- Public: the body of a canonical text, and which graphs have one.
 use Rattle.std.specs.Prelude.{◌≡◌, ℕ, ◌<◌, ◌≤◌, ◌+◌, List, [], ◌∷◌, length, Option, Some, slice_get}
 use Rattle.rs_model.specs.Data.{Names_data}
 use Rattle.rs_model.specs.declared.graph.Arm.{Arm}

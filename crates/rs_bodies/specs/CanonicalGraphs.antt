@@ -1,4 +1,4 @@
--- Believed: the canonical text of a graph.
+-- Public: the canonical text of a graph.
 use Rattle.std.specs.Prelude.{◌≡◌, ℕ, List, ◌∷◌, Some, slice_get}
 use Rattle.rs_model.specs.Data.{Names_data}
 use Rattle.rs_bodies.specs.declared.dialects.Dialect.{Dialect}

@@ -1,4 +1,4 @@
--- Believed: the places of the grammar, and what is wanted there.
+-- Public: the places of the grammar, and what is wanted there.
 use Rattle.std.specs.Prelude.{ℕ, List, [], ◌∷◌, ◌++◌, codes, Option}
 use Rattle.rs_model.specs.declared.values.Sort.{Sort}
 use Rattle.rs_text.specs.Signs.{Sign, rec_word, end_word, plain, arrow, dot, comma, open_brace, close_brace}

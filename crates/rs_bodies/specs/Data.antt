@@ -1,4 +1,4 @@
--- Believed: what contracts see of the types with vectors, and of the reader's own ones.
+-- Public: what contracts see of the types with vectors, and of the reader's own ones.
 use Rattle.std.specs.Prelude.{ℕ, List, Option, Bool}
 use Rattle.rs_model.specs.declared.graph.Arm.{Arm}
 use Rattle.rs_model.specs.declared.graph.Role.{Role}

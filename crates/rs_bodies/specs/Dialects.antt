@@ -1,4 +1,4 @@
--- Believed: the two dialects of bodies, and all that they differ in.
+-- Headline: the two dialects of bodies, and all that they differ in.
 use Rattle.std.specs.Prelude.{ℕ, List, [], ◌∷◌, Bool, true, false}
 use Rattle.rs_model.specs.declared.limits.TheConstants.{MOST_ACTS, MOST_TALKS}
 use Rattle.rs_text.specs.Signs.{Sign, plain, arrow, bang, question, colon}

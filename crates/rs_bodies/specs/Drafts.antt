@@ -1,4 +1,4 @@
--- Steps: heads that are still read, and what is made of them.
+-- Public: heads that are still read, and what is made of them.
 use Rattle.std.specs.Prelude.{ℕ, List, [], ◌∷◌, ◌++◌, length, map, Option, Some, None, slice_set}
 use Rattle.rs_model.specs.Data.{Names_data}
 use Rattle.rs_model.specs.declared.graph.Arm.{Arm}

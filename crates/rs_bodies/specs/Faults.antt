@@ -1,4 +1,4 @@
--- Believed: the first fault of a text, and the names that it leaves.
+-- Public: the first fault of a text, and the names that it leaves.
 use Rattle.std.specs.Prelude.{◌≡◌, ℕ, ◌⊎◌, List, [], ◌∷◌, ◌++◌, codes, Bool, true, false, Some}
 use Rattle.rs_model.specs.Data.{Names_data}
 use Rattle.rs_text.specs.Kept.{Keeps}

@@ -1,4 +1,4 @@
--- Steps: the reader, token by token.
+-- Public: the reader, token by token.
 use Rattle.std.specs.Prelude.{◌≡◌, ◌≤◌, ℕ, suc, ◌-◌, List, [], ◌∷◌, ◌++◌, codes, length, drop, slice_get, Option, Some, None, Result, Ok, Err, Bool, true, false, if◌then◌else◌, nat_lt, nat_le}
 use Rattle.rs_model.specs.declared.limits.TheConstants.{MOST_NESTING, MOST_ROLES}
 use Rattle.rs_model.specs.declared.graph.Role.{Role}

@@ -1,4 +1,4 @@
--- Believed: the names and limits of a body.
+-- Headline: the names and limits of a body.
 use Rattle.std.specs.Prelude.{ℕ, List, length, true, false, Bool, ◌&&◌, ◌||◌, nat_lt, Option, Some, None}
 use Rattle.rs_model.specs.declared.limits.TheConstants.{MOST_ACTS, MOST_LABELS, MOST_NESTING, MOST_TALKS}
 use Rattle.rs_text.specs.Names.{nearest_binding, is_among}

@@ -1,4 +1,4 @@
--- Believed: the names and the graph that a body spells.
+-- Headline: the names and the graph that a body spells.
 use Rattle.std.specs.Prelude.{ℕ, suc, ◌+◌, List, [], ◌∷◌, ◌++◌, Option, Bool, true, false, ◌||◌}
 use Rattle.rs_model.specs.Data.{Names_data}
 use Rattle.rs_model.specs.declared.graph.Arm.{Arm}

@@ -1,4 +1,4 @@
--- Believed: the graph that the tokens of a part are read as.
+-- Public: the graph that the tokens of a part are read as.
 use Rattle.std.specs.Prelude.{◌≡◌, ℕ, List, Result, Ok, Err}
 use Rattle.rs_model.specs.Data.{Names_data}
 use Rattle.rs_text.specs.declared.faults.TextFault.{TextFault}

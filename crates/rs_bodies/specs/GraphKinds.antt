@@ -1,10 +1,10 @@
--- Believed: the kinds of graphs that parts spell, protocols by the one dialect and machines by the other.
+-- Public: the kinds of graphs that parts spell, protocols by the one dialect and machines by the other.
 use Rattle.std.specs.Prelude.{ℕ, List}
 use Rattle.rs_model.specs.Data.{Names_data}
 use Rattle.rs_bodies.specs.declared.dialects.Dialect.{Dialect}
 use Rattle.rs_bodies.specs.declared.places.Place.{Place}
 use Rattle.rs_bodies.specs.Data.{Spelling_data}
-use Rattle.rs_bodies.specs.Spells.{Tree, SpellsBy}
+use Rattle.rs_bodies.specs.Spells.{Tree}
 
 -- a kind of graph: the graph that a tree spells, where these names were there; what the reader makes of what a part spells
 -- and of the names behind it; and of a graph its places, the number with which it begins, and what its opening says, how
@@ -15,7 +15,3 @@ pub record GraphKind (d : Dialect) (G : Type 0) : Type 0 where
   pub places : G → List Place
   pub root : G → ℕ
   pub own : G → ℕ
-
--- the bytes from `at` on spell this graph of the kind
-abbrev pub SpellsOf : {d : Dialect} {G : Type 0} → GraphKind d G → (bytes : List ℕ) → (at : ℕ) → (old new : Names_data) → (graph : G) → (until : ℕ) → Type 0
-SpellsOf {d} kind bytes at old new graph until = SpellsBy d kind.graph_of bytes at old new graph until

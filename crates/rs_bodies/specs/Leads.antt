@@ -1,4 +1,4 @@
--- Believed: bodies whose heads have known roles and some arms, and whose arms lead to their own places.
+-- Public: bodies whose heads have known roles and some arms, and whose arms lead to their own places.
 use Rattle.std.specs.Prelude.{◌≡◌, ◌≢◌, ℕ, ◌+◌, ◌<◌, [], length, slice_get, Bool, true, false, Some}
 use Rattle.rs_model.specs.declared.graph.Arm.{Arm}
 use Rattle.rs_bodies.specs.declared.dialects.Head.{Head}

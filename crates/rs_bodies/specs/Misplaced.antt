@@ -1,4 +1,4 @@
--- Believed: the faults of names and limits, by the place where a token stands.
+-- Public: the faults of names and limits, by the place where a token stands.
 use Rattle.std.specs.Prelude.{ℕ, List, [], ◌∷◌, codes, length, Option, Some, None, if◌then◌else◌, nat_lt, nat_le}
 use Rattle.rs_model.specs.declared.limits.TheConstants.{MOST_LABELS, MOST_NESTING, MOST_ROLES}
 use Rattle.rs_model.specs.Data.{Names_data}

@@ -1,4 +1,4 @@
--- Believed: what stands before a body: the roles line of a protocol, or the role of a machine.
+-- Headline: what stands before a body: the roles line of a protocol, or the role of a machine.
 use Rattle.std.specs.Prelude.{ℕ, List, [], ◌∷◌, ◌++◌, codes}
 use Rattle.std.specs.List.{flat_map}
 use Rattle.rs_model.specs.Data.{Names_data}

@@ -1,4 +1,4 @@
--- Believed: what stands at the numbers of a graph.
+-- Public: what stands at the numbers of a graph.
 use Rattle.std.specs.Prelude.{◌≡◌, ℕ, ◌≤◌, List, [], ◌∷◌, ◌++◌, codes, map, Bool, true, false, Some, slice_get}
 use Rattle.std.specs.Fmt.{decimal}
 use Rattle.rs_model.specs.Data.{Machine_data, Protocol_data}

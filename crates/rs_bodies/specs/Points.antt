@@ -1,4 +1,4 @@
--- Believed: the heads that a body spells.
+-- Public: the heads that a body spells.
 use Rattle.std.specs.Prelude.{ℕ, List}
 use Rattle.rs_model.specs.declared.graph.Arm.{Arm}
 use Rattle.rs_text.specs.Names.{BoundNames}
@@ -8,8 +8,8 @@ use Rattle.rs_bodies.specs.declared.dialects.Head.{Head}
 use Rattle.rs_bodies.specs.declared.dialects.Head.TheVariants as head
 use Rattle.rs_bodies.specs.Data.{Point_data}
 use Rattle.rs_bodies.specs.Dialects.{BehindRole, sends_to, with_mark}
-use Rattle.rs_bodies.specs.Graph.{heads_of, heads_in, Numbering, role_by_name}
-use Rattle.rs_bodies.specs.Trees.{Body, Branches}
+use Rattle.rs_bodies.specs.Graph.{heads_of, Numbering, role_by_name}
+use Rattle.rs_bodies.specs.Trees.{Body}
 
 -- the head that these words and this turn stand for
 abbrev pub head_of : (d : Dialect) → Numbering → List ℕ → BehindRole d → Head
@@ -23,7 +23,3 @@ point_of d n p t arms = record { head = head_of d n p t; arms = arms }
 -- the heads of a body, in order of text
 abbrev pub points_of : (d : Dialect) → Numbering → Body d → BoundNames → ℕ → List Point_data
 points_of d n b bound count = heads_of d (point_of d n) n b bound count
-
--- the heads of arms in braces, in order of text
-abbrev pub points_of_arms : (d : Dialect) → Numbering → Branches d → BoundNames → ℕ → List Point_data
-points_of_arms d n arms bound count = heads_in d (point_of d n) n arms bound count

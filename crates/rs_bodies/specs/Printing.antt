@@ -1,6 +1,6 @@
 -- Steps: how the body of a canonical text is written, step by step: braces that are open are kept on a stack.
-use Rattle.std.specs.Prelude.{◌≡◌, ℕ, ◌+◌, List, [], ◌∷◌, ◌++◌, codes, length, Option, Some, None, Bool, true, false, get_or, replicate, slice_get, slice_set, nat_lt, nat_le, ◌&&◌, ◌||◌, is_some}
-use Rattle.std.specs.Prelude.{if◌then◌else◌, ◌↔◌}
+use Rattle.std.specs.Prelude.{ℕ, ◌+◌, List, [], ◌∷◌, ◌++◌, codes, length, Option, Some, None, Bool, true, false, get_or, replicate, slice_get, slice_set, nat_lt, nat_le, ◌&&◌, ◌||◌, is_some}
+use Rattle.std.specs.Prelude.{if◌then◌else◌}
 use Rattle.rs_model.specs.Data.{Names_data}
 use Rattle.rs_model.specs.declared.graph.Arm.{Arm}
 use Rattle.rs_text.specs.Shown.{shown_sort, arm_text}
@@ -11,7 +11,7 @@ use Rattle.rs_bodies.specs.declared.dialects.Head.TheVariants as head
 use Rattle.rs_bodies.specs.declared.places.Place.{Place}
 use Rattle.rs_bodies.specs.declared.places.Place.TheVariants as place
 use Rattle.rs_bodies.specs.declared.printing.PlaceToWrite.{PlaceToWrite}
-use Rattle.rs_bodies.specs.Places.{name_of_place, IsGoneBackTo}
+use Rattle.rs_bodies.specs.Places.{name_of_place}
 use Rattle.rs_bodies.specs.Texts.{mark_text, lone_text}
 
 -- ---- which places are gone back to
@@ -39,10 +39,6 @@ flags_behind_places n (p ∷ places) flags = flags_behind_places (n + 1) places 
 -- for each place whether an arm of it or of a later one leads to it
 abbrev pub back_flags : List Place → List Bool
 back_flags places = flags_behind_places 0 places (replicate (length places) false)
-
--- the flags tell which places are gone back to
-abbrev pub AreBack : List Place → List Bool → Type 0
-AreBack places flags = (n : ℕ) → (get_or flags n false ≡ true) ↔ IsGoneBackTo places n
 
 -- ---- pieces of text
 

@@ -1,4 +1,4 @@
--- Believed: what the reader of a part gives.
+-- Public: what the reader of a part gives.
 use Rattle.std.specs.Prelude.{ℕ, ◌≤◌, List, length}
 use Rattle.rs_model.specs.Data.{Names_data}
 use Rattle.rs_bodies.specs.declared.dialects.Dialect.{Dialect}

@@ -1,4 +1,4 @@
--- Believed: what the faults of names and limits hang on.
+-- Headline: what the faults of names and limits hang on.
 use Rattle.std.specs.Prelude.{ℕ, suc, ◌+◌, List, [], ◌∷◌}
 use Rattle.rs_text.specs.Names.{BoundNames, names_with}
 use Rattle.rs_bodies.specs.declared.dialects.Dialect.{Dialect}

@@ -1,4 +1,4 @@
--- Believed: what a part spells, as its reader gives it.
+-- Public: what a part spells, as its reader gives it.
 use Rattle.std.specs.Prelude.{ℕ, List, []}
 use Rattle.rs_model.specs.Data.{Names_data}
 use Rattle.rs_model.specs.declared.graph.Role.{Role}

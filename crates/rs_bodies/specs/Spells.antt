@@ -1,4 +1,4 @@
--- Believed: what a text spells.
+-- Headline: what a text spells.
 use Rattle.std.specs.Prelude.{◌≡◌, ℕ, ◌≤◌, List, [], ◌∷◌, ◌++◌, length, true}
 use Rattle.rs_model.specs.declared.limits.TheConstants.{MOST_ROLES}
 use Rattle.rs_model.specs.Data.{Names_data}

@@ -1,4 +1,4 @@
--- Believed: the text of a part, with the spacing of canonical texts.
+-- Public: the text of a part, with the spacing of canonical texts.
 use Rattle.std.specs.Prelude.{ℕ, List, [], ◌∷◌, ◌++◌, codes}
 use Rattle.rs_text.specs.Shown.{arm_text}
 use Rattle.rs_bodies.specs.declared.dialects.Dialect.{Dialect}

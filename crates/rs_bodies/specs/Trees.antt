@@ -1,4 +1,4 @@
--- Believed: how texts of bodies are built.
+-- Headline: how texts of bodies are built.
 use Rattle.std.specs.Prelude.{ℕ, List, [], ◌∷◌, ◌++◌, Option, Bool, true, false, if◌then◌else◌}
 use Rattle.rs_model.specs.declared.values.Sort.{Sort}
 use Rattle.rs_text.specs.Signs.{Sign, broken, rec_word, end_word, plain, dot, comma, open_brace, close_brace}

@@ -1,4 +1,4 @@
--- Believed: trees whose names can be written.
+-- Public: trees whose names can be written.
 use Rattle.std.specs.Prelude.{◌≡◌, ◌∷◌, true}
 use Rattle.std.specs.List.{All}
 use Rattle.rs_text.specs.Words.{is_word, is_role_word}

@@ -1,3 +1,4 @@
+pub mod RunsSoFar
 pub mod Items
 pub mod Moves
 pub mod Stands
@@ -27,3 +28,4 @@ pub mod Shown
 pub mod Drawing
 pub mod Guards
 pub mod Alike
+pub mod StepFaults

@@ -12,8 +12,11 @@ use Rattle.rs_core.specs.Core.{Core_data, configuration_of}
 use Rattle.rs_core.specs.Histories.{Action, Sent, Got, History, entry_of, transcript_of}
 use Rattle.rs_core.specs.Plain.{Moment, offer_of, OthersStay, BySend, ByReceive, HasEnded, Waits, FindsFull, IsAtLimit, LimitedTurn, Turns}
 use Rattle.rs_core.specs.Queues.{AreTranscripts, KnownTranscripts, TurnIsNoted}
-use Rattle.rs_core.specs.Runs.{ArePlayers, Matches, acts_of, AreReady, SoFar, HasRound}
-use Rattle.rs_core.specs.Turns.{CanChoose, KeepsWell, HasMoved, HasSent, HasGot, TurnTells}
+use Rattle.rs_core.specs.Runs.{ArePlayers}
+use Rattle.rs_core.specs.Rounds.{Matches, acts_of, AreReady, HasRound}
+use Rattle.rs_core.proofs.RunsSoFar.{SoFar}
+use Rattle.rs_core.specs.Turns.{KeepsWell, HasMoved, HasSent, HasGot, TurnTells}
+use Rattle.rs_core.specs.Choosable.{CanChoose}
 use Rattle.rs_core.specs.declared.players.Player.{Player}
 use Rattle.rs_core.specs.declared.playing.Rounded.TheVariants as rounded
 use Rattle.rs_core.specs.declared.transcripts.Entry.{Entry}

@@ -3,7 +3,7 @@ use Rattle.std.proofs.Common.{◌≡◌, inl, inr, ℕ, zero, suc, ◌<◌, ◌�
 use Rattle.std.proofs.lemmas.Bool.Decides.{eqb_tells}
 use Rattle.rs_model.specs.declared.graph.Arm.{Arm}
 use Rattle.rs_model.specs.declared.graph.Label.{Label}
-use Rattle.rs_core.specs.Turns.{label_of}
+use Rattle.rs_core.specs.Choosable.{label_of}
 use Rattle.rs_core.proofs.Ends.{get_there}
 
 -- f without m and n: what f takes to n goes where m went

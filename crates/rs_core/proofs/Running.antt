@@ -13,7 +13,9 @@ use Rattle.rs_core.specs.Configurations.{Configuration, StartsAt, state_at}
 use Rattle.rs_core.specs.Core.{Core_data, configuration_of}
 use Rattle.rs_core.specs.Plain.{Moment, LimitedTurn, Turns, Ending, Ended, Stopped, Stuck, AllDone, Stops, NoneMoves, GoesOn, PlainFrom, IsPlain, FirstFull}
 use Rattle.rs_core.specs.Queues.{AreTranscripts, KnownTranscripts}
-use Rattle.rs_core.specs.Runs.{ArePlayers, Matches, acts_of, HasRound, NoneSends, IsFirstSender, EndTells, IsAmong, IsGiven, RoundTells, EndsAs, RunSoFar}
+use Rattle.rs_core.specs.Runs.{ArePlayers, IsAmong, IsGiven, EndsAs}
+use Rattle.rs_core.specs.Rounds.{Matches, acts_of, HasRound, NoneSends, IsFirstSender, EndTells, RoundTells}
+use Rattle.rs_core.proofs.RunsSoFar.{RunSoFar}
 use Rattle.rs_core.specs.Safety.{IsSafe}
 use Rattle.rs_core.specs.declared.players.Player.{Player}
 use Rattle.rs_core.specs.declared.playing.End.{End}

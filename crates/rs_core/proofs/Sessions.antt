@@ -17,7 +17,8 @@ use Rattle.rs_core.specs.Choices.{AreWellFormed}
 use Rattle.rs_core.specs.Configurations.{Message, Configuration, Event, Send, Receive, Step, Steps, Sends, StartsAt, IsReachable, state_at}
 use Rattle.rs_core.specs.Safety.{IsSafe}
 use Rattle.rs_core.specs.Queues.{IsStanding}
-use Rattle.rs_core.specs.Core.{Core_data, configuration_of, HasPlaces, IsReachedSession, HasReceived, way_of, way_by, way_in_front, front_by, next_by, arm_with, with_sent, with_got}
+use Rattle.rs_core.specs.Core.{Core_data, configuration_of, HasPlaces, IsReachedSession, HasReceived}
+use Rattle.rs_core.specs.Ways.{way_of, way_by, way_in_front, front_by, next_by, arm_with, with_sent, with_got}
 use Rattle.rs_core.specs.Core.{receive_fault}
 use Rattle.rs_core.specs.declared.cells.Way.{Way}
 use Rattle.rs_core.specs.declared.messages.StepFault.{StepFault}

@@ -12,7 +12,8 @@ use Rattle.rs_core.specs.Configurations.{Message, Sends, Receives, state_at}
 use Rattle.rs_core.specs.Choices.{AreWellFormed}
 use Rattle.rs_core.specs.Core.{Core_data, HasReceived, configuration_of}
 use Rattle.rs_core.specs.Plain.{HasRoom, offer_of}
-use Rattle.rs_core.specs.Turns.{CanChoose, KeepsWell, Offers, HasMoved, HasSent, HasGot, is_full}
+use Rattle.rs_core.specs.Turns.{KeepsWell, Offers, HasMoved, HasSent, HasGot, is_full}
+use Rattle.rs_core.specs.Choosable.{CanChoose}
 use Rattle.rs_core.specs.declared.players.Player.{Player}
 use Rattle.rs_core.specs.declared.transcripts.Entry.{Entry}
 use Rattle.rs_core.specs.declared.transcripts.Entry.TheVariants as entry

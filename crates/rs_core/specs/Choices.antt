@@ -1,4 +1,4 @@
--- Believed: what the laws ask of machines.
+-- Public: what the laws ask of machines.
 use Rattle.std.specs.Prelude.{◌≡◌, ℕ, List, [], Some, slice_get, length}
 use Rattle.rs_model.specs.Data.{Machine_data}
 use Rattle.rs_model.specs.WellFormed.{IsWellFormedMachine}

@@ -1,4 +1,4 @@
--- Believed: the law of the actor that draws: it chooses an arm that is there, and a value of its sort.
+-- Steps: the law of the actor that draws: it chooses an arm that is there, and a value of its sort.
 use Rattle.std.proofs.Common.{◌≡◌, ℕ, zero, suc, ◌+◌, ◌*◌, ◌<◌, ◌%◌, ◌^◌, List, [], ◌∷◌, Option, Some, slice_get, length, refl, sym, subst, arith}
 use Rattle.std.proofs.lemmas.Bool.{lt-ltb}
 use Rattle.std.proofs.lemmas.Nat.{mod_below}

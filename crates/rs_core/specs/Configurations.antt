@@ -1,4 +1,4 @@
--- Believed: machines that talk over queues, and the steps that they can make together: communicating finite state machines, with
+-- Headline: machines that talk over queues, and the steps that they can make together: communicating finite state machines, with
 -- one unbounded first-in-first-out queue for each ordered pair of roles. In a list of machines the machine at place p
 -- is that of role p.
 use Rattle.std.specs.Prelude.{◌≡◌, ◌≢◌, ◌⊎◌, ℕ, List, [], ◌∷◌, ◌++◌, Option, Some, None, slice_get}

@@ -1,4 +1,4 @@
--- Believed: the actor that chooses by draws of a linear congruential generator. Its meaning is its number.
+-- Public: the actor that chooses by draws of a linear congruential generator. Its meaning is its number.
 use Rattle.std.specs.Prelude.{ℕ, zero, suc, ◌+◌, ◌*◌, ◌/◌, ◌%◌, ◌^◌, ℤ, pos, ◌-ℤ◌, List, [], ◌∷◌, Option, Some, None, slice_get, length, ◌==◌}
 use Rattle.rs_model.specs.declared.graph.Arm.{Arm}
 use Rattle.rs_model.specs.declared.values.Sort.{Sort}

@@ -1,4 +1,4 @@
--- Believed: what each role does in a session: histories, transcripts, and which histories the machines can come to.
+-- Public: what each role does in a session: histories, transcripts, and which histories the machines can come to.
 use Rattle.std.specs.Prelude.{◌≡◌, ℕ, List, [], ◌∷◌, map, ◌==◌, if◌then◌else◌}
 use Rattle.rs_model.specs.Data.{Machine_data}
 use Rattle.rs_model.specs.declared.graph.Label.{Label}

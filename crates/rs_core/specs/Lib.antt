@@ -7,8 +7,12 @@ pub mod Actors
 pub mod Plain
 pub mod Determined
 pub mod Core
+pub mod StepFaults
 pub mod Turns
 pub mod Queues
 pub mod Runs
 pub mod Draws
 pub mod Choosing
+pub mod Ways
+pub mod Rounds
+pub mod Choosable

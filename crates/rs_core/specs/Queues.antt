@@ -1,4 +1,4 @@
--- Believed: what rounds are made over, a session whose roles are all in one hand, and what its acts tell.
+-- Public: what rounds are made over, a session whose roles are all in one hand, and what its acts tell.
 use Rattle.std.specs.Prelude.{◌≡◌, ◌≢◌, ℕ, ◌<◌, ◌^◌, List, [], ◌∷◌, ◌++◌, Option, Some, None, IsSome, length, slice_get}
 use Rattle.rs_model.specs.declared.graph.Role.{Role}
 use Rattle.rs_core.specs.Actors.{Choice}
@@ -7,7 +7,7 @@ use Rattle.rs_core.specs.Configurations.{Message, Sends, StartsAt, state_at}
 use Rattle.rs_core.specs.Core.{Core_data, HasReceived, configuration_of}
 use Rattle.rs_core.specs.Plain.{HasRoom, IsFull}
 use Rattle.rs_core.specs.Safety.{IsSafe}
-use Rattle.rs_core.specs.Turns.{CanChoose}
+use Rattle.rs_core.specs.Choosable.{CanChoose}
 use Rattle.rs_core.specs.declared.players.Player.{Player}
 use Rattle.rs_core.specs.declared.queues.Posted.{Posted}
 use Rattle.rs_core.specs.declared.queues.Posted.TheVariants as posted

@@ -1,21 +1,15 @@
--- Believed: what a session and its players say of a moment of the plain run, and what a run shows of its outcome.
-use Rattle.std.specs.Prelude.{◌≡◌, ℕ, ◌+◌, ◌<◌, ◌≤◌, Bool, true, false, List, [], ◌∷◌, Option, Some, None, slice_get, length, map, if◌then◌else◌, ◌==◌, suc}
+-- Public: what a session and its players say of a moment of the plain run, and what a run shows of its outcome.
+use Rattle.std.specs.Prelude.{◌≡◌, ℕ, ◌+◌, ◌<◌, List, [], ◌∷◌, Option, Some, None, slice_get, length, map, if◌then◌else◌, ◌==◌, suc}
 use Rattle.rs_model.specs.Data.{Machine_data}
 use Rattle.rs_model.specs.declared.graph.Role.{Role}
-use Rattle.rs_model.specs.declared.machines.State.TheVariants.{Puts}
-use Rattle.rs_model.specs.declared.graph.Arm.{Arm}
 use Rattle.rs_core.specs.Actors.{Choice, Behaviour}
-use Rattle.rs_core.specs.Configurations.{state_at}
 use Rattle.rs_core.specs.Core.{Core_data, configuration_of}
 use Rattle.rs_core.specs.Histories.{History, transcript_of}
 use Rattle.rs_core.specs.Plain as plain
-use Rattle.rs_core.specs.Plain.{Moment, IsAtLimit, LimitedTurn, Turns, FirstFull}
-use Rattle.rs_core.specs.Turns.{KeepsWell}
+use Rattle.rs_core.specs.Plain.{Moment, FirstFull}
 use Rattle.rs_core.specs.declared.players.Player.{Player}
 use Rattle.rs_core.specs.declared.playing.End.{End}
 use Rattle.rs_core.specs.declared.playing.End.TheVariants as end
-use Rattle.rs_core.specs.declared.playing.Rounded.{Rounded}
-use Rattle.rs_core.specs.declared.playing.Rounded.TheVariants as rounded
 use Rattle.rs_core.specs.declared.runs.Outcome.{Outcome}
 use Rattle.rs_core.specs.declared.runs.Outcome.TheVariants as outcome
 use Rattle.rs_core.specs.declared.runs.RunFault.{RunFault}
@@ -30,76 +24,9 @@ pub record ArePlayers {A : Type 0} (roles : ℕ) (h : ℕ → History) (f : ℕ 
   pub kept : (p : ℕ) (x : Player A) → slice_get xs p ≡ Some x → o p ≡ x.kept
   pub transcript : (p : ℕ) (x : Player A) → slice_get xs p ≡ Some x → transcript_of (h p) ≡ x.transcript
 
--- the moment is this one
-pub record Matches {A : Type 0} (ms : List Machine_data) (l : Moment A) (c : Core_data) (xs : List (Player A)) : Type 0 where
-  pub at : configuration_of c ≡ l.at
-  pub machines : c.machines ≡ ms
-  pub players : ArePlayers (length ms) l.history l.actor l.kept xs
-
--- how many acts the players have made
-abbrev pub acts_of : {A : Type 0} → List (Player A) → ℕ
-acts_of [] = 0
-acts_of {A} (x ∷ xs) = length x.transcript + acts_of xs
-
--- between turns: a player for each role, what each keeps it can choose now, and none has made more acts than the limit
-pub record AreReady {A : Type 0} (limit : ℕ) (c : Core_data) (xs : List (Player A)) : Type 0 where
-  pub many : length xs ≡ length c.machines
-  pub keeps : (p : ℕ) (x : Player A) → slice_get xs p ≡ Some x → KeepsWell c p x
-  pub bounded : (p : ℕ) (x : Player A) → slice_get xs p ≡ Some x → length x.transcript ≤ limit
-
--- what a round from moment l tells
-abbrev pub RoundTells : {A : Type 0} → List Machine_data → Behaviour A → ℕ → Option ℕ → Moment A → Core_data → List (Player A) → Rounded → Type 0
-RoundTells {A} machines b limit capacity l c xs rounded.Moved =
-    (k : Moment A) × Matches machines k c xs × Turns (LimitedTurn machines b limit capacity) (length machines) 0 l k true
-RoundTells {A} machines b limit capacity l c xs rounded.Idle =
-    (k : Moment A) × Matches machines k c xs × Turns (LimitedTurn machines b limit capacity) (length machines) 0 l k false
-RoundTells {A} machines b limit capacity l c xs (rounded.Stopped role) =
-    (k : Moment A) × (moved : Bool) × Matches machines k c xs × Turns (LimitedTurn machines b limit capacity) role.0 0 l k moved
-    × IsAtLimit machines limit role.0 k × (role.0 < length machines)
-
--- the first i turns of a round have been made, from the session c0 with its players to c with its players
-pub record SoFar {A : Type 0} (b : Behaviour A) (limit : ℕ) (capacity : Option ℕ) (c0 : Core_data) (xs0 : List (Player A)) (c : Core_data) (xs : List (Player A)) (i : ℕ) (moved : Bool) : Type 0 where
-  pub machines : c.machines ≡ c0.machines
-  pub ready : AreReady limit c xs
-  pub acts : acts_of xs0 ≤ acts_of xs
-  pub more : moved ≡ true → acts_of xs0 < acts_of xs
-  pub runs : (l : Moment A) → Matches c0.machines l c0 xs0
-      → (k : Moment A) × Matches c0.machines k c xs × Turns (LimitedTurn c0.machines b limit capacity) i 0 l k moved
-
--- a round from the session c0 with its players to c with its players
-pub record HasRound {A : Type 0} (b : Behaviour A) (limit : ℕ) (capacity : Option ℕ) (c0 : Core_data) (xs0 : List (Player A)) (c : Core_data) (xs : List (Player A)) (r : Rounded) : Type 0 where
-  pub machines : c.machines ≡ c0.machines
-  pub ready : AreReady limit c xs
-  pub more : r ≡ rounded.Moved → acts_of xs0 < acts_of xs
-  pub tells : (l : Moment A) → Matches c0.machines l c0 xs0 → RoundTells c0.machines b limit capacity l c xs r
-
--- none of the first n roles stands in a state that sends
-abbrev pub NoneSends : Core_data → ℕ → Type 0
-NoneSends c n = (r : ℕ) (peer : Role) (arms : List Arm) → r < n → state_at c.machines (configuration_of c) r ≡ Some (Puts peer arms) → ⊥
-
--- the first role in order that stands in a state that sends, and to whom
-pub record IsFirstSender (c : Core_data) (sender : ℕ) (receiver : Role) : Type 0 where
-  pub arms : List Arm
-  pub present : sender < length c.machines
-  pub puts : state_at c.machines (configuration_of c) sender ≡ Some (Puts receiver arms)
-  pub first : NoneSends c sender
-
--- how rounds end where no role moved in the last one
-abbrev pub EndTells : Core_data → End → Type 0
-EndTells c end.Ended = NoneSends c (length c.machines)
-EndTells c (end.Full sender receiver) = IsFirstSender c sender.0 receiver
-EndTells c (end.Stopped role) = ⊥
-
 -- the list has the actor that is given to each role
 abbrev pub IsGiven : {A : Type 0} → (ℕ → A) → List A → Type 0
 IsGiven {A} given xs = (p : ℕ) (x : A) → slice_get xs p ≡ Some x → given p ≡ x
-
--- the rounds so far have come to the session c with its players
-pub record RunSoFar {A : Type 0} (b : Behaviour A) (ms : List Machine_data) (limit : ℕ) (capacity : Option ℕ) (xs0 : List A) (c : Core_data) (xs : List (Player A)) : Type 0 where
-  pub machines : c.machines ≡ ms
-  pub ready : AreReady limit c xs
-  pub runs : (given : ℕ → A) → IsGiven given xs0
-      → (k : Moment A) × Matches ms k c xs × ((o : plain.Ending A) → plain.PlainFrom ms b limit capacity k o → plain.IsPlain ms b given limit capacity o)
 
 -- the players are those of the outcome, and the end is its end
 abbrev pub EndShows : {A : Type 0} → List Machine_data → Option ℕ → plain.Ending A → End → List (Player A) → Type 0

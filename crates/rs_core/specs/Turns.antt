@@ -1,10 +1,9 @@
 -- Steps: one turn of a role, as a run makes it.
-use Rattle.std.specs.Prelude.{◌≡◌, ◌≢◌, ℕ, ◌<◌, ◌≤◌, Bool, false, nat_le, List, [], ◌∷◌, ◌++◌, Option, Some, None, slice_get, length}
-use Rattle.rs_model.specs.Sorts.{HasSort}
+use Rattle.std.specs.Prelude.{◌≡◌, ◌≢◌, ℕ, ◌<◌, ◌≤◌, Bool, false, nat_le, List, [], ◌∷◌, ◌++◌, Option, Some, None, length}
 use Rattle.rs_model.specs.declared.graph.Arm.{Arm}
 use Rattle.rs_model.specs.declared.graph.Label.{Label}
 use Rattle.rs_model.specs.declared.graph.Role.{Role}
-use Rattle.rs_model.specs.declared.machines.State.TheVariants.{Done, Puts, Takes}
+use Rattle.rs_model.specs.declared.machines.State.TheVariants.{Done, Takes}
 use Rattle.rs_core.specs.Actors.{Choice, Behaviour}
 use Rattle.rs_core.specs.Configurations.{Sends, Receives, state_at}
 use Rattle.rs_core.specs.Core.{Core_data, configuration_of}
@@ -15,14 +14,7 @@ use Rattle.rs_core.specs.declared.turns.NextAct.{NextAct}
 use Rattle.rs_core.specs.declared.turns.NextAct.TheVariants as next
 use Rattle.rs_core.specs.declared.turns.Turned.{Turned}
 use Rattle.rs_core.specs.declared.turns.Turned.TheVariants as turned
-
--- role p stands in a state that sends to the peer, and the choice is one of its arms with a value of the arm's sort
-pub record CanChoose (c : Core_data) (p : ℕ) (choice : Choice) (peer : Role) : Type 0 where
-  pub arms : List Arm
-  pub arm : Arm
-  pub puts : state_at c.machines (configuration_of c) p ≡ Some (Puts peer arms)
-  pub picks : slice_get arms choice.0 ≡ Some arm
-  pub has_sort : HasSort choice.1 arm.sort
+use Rattle.rs_core.specs.Choosable.{CanChoose}
 
 -- what the player keeps is a choice that role p has now
 abbrev pub KeepsWell : {A : Type 0} → Core_data → ℕ → Player A → Type 0
@@ -91,8 +83,3 @@ TurnTells b limit capacity c x p d y turned.Moved = (length x.transcript < limit
 abbrev pub is_full : Option ℕ → ℕ → Bool
 is_full None many = false
 is_full (Some capacity) many = nat_le capacity many
-
--- the label of the arm at that place
-abbrev pub label_of : Option Arm → Option Label
-label_of None = None
-label_of (Some arm) = Some arm.label

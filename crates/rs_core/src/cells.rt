@@ -4,7 +4,8 @@ ghost use Rattle.rs_model.specs.declared.graph.Arm.{Arm};
 ghost use Rattle.rs_model.specs.declared.graph.Role.{Role};
 ghost use Rattle.rs_model.specs.declared.machines.State.TheVariants.{Takes};
 ghost use Rattle.rs_core.specs.Configurations.{state_at, state_of};
-ghost use Rattle.rs_core.specs.Core.{HasPlaces, arm_with, configuration_of, way_in_front, front_by, next_by, way_of, way_by, with_sent, with_got};
+ghost use Rattle.rs_core.specs.Core.{HasPlaces, configuration_of};
+ghost use Rattle.rs_core.specs.Ways.{arm_with, way_in_front, front_by, next_by, way_of, way_by, with_sent, with_got};
 
 use crate::rows::{Queue, SenderQueues};
 use crate::{Message, StepFault};

@@ -1,6 +1,6 @@
 //! Laws about the definitions: each function does nothing, and its contract is the law.
 
-ghost use Rattle.std.specs.Prelude.{◌≡◌, ◌≢◌, ◌<◌, ◌≤◌, ◌∷◌, ℕ, List, Option, Some, None, slice_get, length};
+ghost use Rattle.std.specs.Prelude.{◌≡◌, ◌≢◌, ◌↔◌, ◌<◌, ◌≤◌, ◌∷◌, ℕ, List, Option, Some, None, slice_get, length};
 ghost use Rattle.rs_model.specs.Sorts.{HasSort};
 ghost use Rattle.rs_model.specs.declared.graph.Arm.{Arm};
 ghost use Rattle.rs_model.specs.declared.values.Value.{Value};
@@ -9,11 +9,14 @@ ghost use Rattle.rs_model.specs.declared.graph.Role.{Role};
 ghost use Rattle.rs_model.specs.declared.machines.State.TheVariants.{Done, Puts, Takes};
 ghost use Rattle.rs_core.specs.Choices.{AreWellFormed, HaveArms, HaveLabelsOnce};
 ghost use Rattle.rs_core.specs.Configurations.{Message, Configuration, Event, Send, Receive, StartsAt, Step, IsReachable, IsSame, state_at};
+ghost use Rattle.rs_core.specs.Core.{step_fault};
 ghost use Rattle.rs_core.specs.Determined.{IsSafePlain, IsSafeRun, StandsAtLimit, EndsWith, WasStopped, PlainIs, SameOutcome};
 ghost use Rattle.rs_core.specs.Examples.{another_arm, another_label, another_sort, both_wait, left_behind, one_talk};
 ghost use Rattle.rs_core.specs.Histories.{History};
 ghost use Rattle.rs_core.specs.Plain.{Moment, Ending, Ended, Stopped, Stuck, IsPlain, IsAtLimit, IsStoppedEventually, Settles, StartsWith, FirstFull};
 ghost use Rattle.rs_core.specs.Safety.{CanStep, AllEnded, IsSafe};
+ghost use Rattle.rs_core.specs.StepFaults.{StepBlames};
+ghost use Rattle.rs_core.specs.declared.messages.StepFault.{StepFault};
 
 use crate::Actor;
 
@@ -49,6 +52,14 @@ pub fn an_event_leads_to_one_configuration()
 pub fn safe_machines_can_step()
     ensures { (machines : List Machine_data) → IsSafe machines → HaveArms machines → (c : Configuration) → IsReachable machines c → CanStep machines c
         → (e : Event) × (d : Configuration) × Step machines c e d }
+{}
+
+/// An event has no fault exactly where it is a step, wherever safe machines have come to. Where it has one, the fault says
+/// what is wrong.
+pub fn faults_of_steps()
+    ensures none { (machines : List Machine_data) (c : Configuration) (event : Event) → IsSafe machines → IsReachable machines c
+        → (step_fault machines c event ≡ None) ↔ ((d : Configuration) × Step machines c event d) }
+    ensures some { (machines : List Machine_data) (c : Configuration) (event : Event) (fault : StepFault) → step_fault machines c event ≡ Some fault → StepBlames machines c event fault }
 {}
 
 /// A label that the other doesn't take is a mismatch.

@@ -1,5 +1,5 @@
 //! What takes the turns of the roles.
-ghost use Rattle.std.specs.Prelude.{◌≡◌, ◌≢◌, [], map, IfOk, OnOk};
+ghost use Rattle.std.specs.Prelude.{◌≡◌, ◌≢◌, ◌≤◌, ◌^◌, [], map, IfOk, OnOk, length};
 ghost use Rattle.rs_core.specs.Plain.{offer_of};
 
 use crate::Actor;
@@ -19,7 +19,8 @@ pub struct Player<A: Drop> {
 impl<A: Actor> Player<A> {
     /// What the role offers to send: the choice that was kept, or else what the actor chooses.
     pub(crate) fn offer(&mut self, alloc: Global, arms: &[Arm]) -> Result<(u16, Value), NoMemory>
-        requires { arms.now ≢ [] }
+        requires some { arms.now ≢ [] }
+        requires bounded { length arms.now ≤ 2 ^ 16 }
         ensures offers { IfOk result (λ c. offer_of A.behaviour self.old.actor self.old.kept arms.now ≡ ((c.0, c.1), self.new.actor)) }
         ensures kept { OnOk result (self.new.kept ≡ None) }
         ensures transcript { OnOk result (self.new.transcript ≡ self.old.transcript) }

@@ -1,7 +1,8 @@
 //! Rounds, in which each role has a turn, until the end.
 ghost use Rattle.std.specs.Prelude.{◌≡◌, length, IfOk, OnOk, ℕ};
 ghost use Rattle.rs_core.specs.Queues.{AreTranscripts, IsFresh};
-ghost use Rattle.rs_core.specs.Runs.{AreReady, EndTells, HasPlayed, HasRound};
+ghost use Rattle.rs_core.specs.Runs.{HasPlayed};
+ghost use Rattle.rs_core.specs.Rounds.{AreReady, EndTells, HasRound};
 
 use crate::Actor;
 use crate::players::{Player, players_of};

@@ -3,7 +3,7 @@ ghost use Rattle.std.specs.Prelude.{◌≡◌, ◌<◌, ℕ, List, Option, Some,
 ghost use Rattle.rs_core.specs.Configurations.{state_at};
 ghost use Rattle.rs_core.specs.Core.{Core_data, configuration_of};
 ghost use Rattle.rs_core.specs.Queues.{FetchNotes, FetchTells, IsCounted, IsStanding, PostNotes, PostTells};
-ghost use Rattle.rs_core.specs.Turns.{CanChoose};
+ghost use Rattle.rs_core.specs.Choosable.{CanChoose};
 ghost use Rattle.rs_core.specs.declared.transcripts.Entry.{Entry};
 ghost use Rattle.rs_model.specs.declared.graph.Arm.{Arm};
 ghost use Rattle.rs_model.specs.declared.machines.State.TheVariants.{Takes};

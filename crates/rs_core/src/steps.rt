@@ -2,7 +2,7 @@
 ghost use Rattle.std.specs.Prelude.{◌≡◌, ◌<◌, ◌∷◌, [], map, replicate, length, slice_index_or, IfErr, OnErr, OnOk, IfOk, Some, slice_get};
 ghost use Rattle.rs_core.specs.Choices.{AreWellFormed};
 ghost use Rattle.rs_core.specs.Configurations.{role_of, Sends, StartsAt, state_at};
-ghost use Rattle.rs_core.specs.Core.{HasReceived, HasStepped, StepIsRefused, IsUnsent, configuration_of, receive_fault, send_fault};
+ghost use Rattle.rs_core.specs.Core.{HasReceived, HasStepped, IsReachedSession, StepIsRefused, IsUnsent, configuration_of, receive_fault, send_fault};
 ghost use Rattle.rs_core.specs.Queues.{IsStanding};
 ghost use Rattle.rs_core.specs.Safety.{IsSafe};
 ghost use Rattle.rs_core.specs.declared.messages.StepFault.TheVariants.{NoMemory};
@@ -56,6 +56,16 @@ impl Core {
                 rows,
             },
         })
+    }
+
+    /// The machines, in role order. They are safe and well formed, and the session has come to where it stands from their
+    /// start: all that `IsReachedSession` says.
+    pub fn machines(&self) -> &[Machine]
+        ensures machines { result.now ≡ self.now.machines }
+        ensures session { IsReachedSession self.now }
+        ensures safe { IsSafe result.now }
+    {
+        self.cells.machines.as_slice()
     }
 
     /// Makes the step of the event. There is no fault for a message that isn't taken, since the machines are safe.

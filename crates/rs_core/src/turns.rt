@@ -9,7 +9,7 @@ ghost use Rattle.rs_core.specs.Core.{configuration_of};
 ghost use Rattle.rs_core.specs.Queues.{TurnIsNoted};
 ghost use Rattle.rs_core.specs.Turns.{KeepsWell, NextTells, TurnTells};
 
-use crate::arm_places::place_by_label;
+use crate::arm_places::{arms_are_few, place_by_label};
 use crate::players::Player;
 use crate::queues::{Posted, Queues};
 use crate::{Actor, Entry, Message};
@@ -121,6 +121,7 @@ fn next_of<Q: Queues, A: Actor>(
                 return Ok(NextAct::Limit);
             }
             let arms = arms.as_slice();
+            arms_are_few(arms);
             let (arm, value) = player.offer(alloc, arms)?;
             Ok(NextAct::Sends {
                 peer: *peer,

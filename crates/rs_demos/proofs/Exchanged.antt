@@ -144,11 +144,11 @@ held_behind s b a i = if b i % 2 == 0 then in_64_bits (a i +ℤ a (partner s i))
 came : (n s : ℕ) (ss : List ℕ) (b : ℕ → ℕ) (a : ℕ → ℤ) (h : ℕ → History) (y : ℕ → DemoActor) (i : ℕ) → Queues n h → (lt : i < n)
     → (g : Good n s ss i) → (st : Stage n (s ∷ ss) b a h y) → (st i lt).trades.came ≡ value.Whole (a (partner s i))
 came n s ss b a h y i q lt g st =
-    let got = head_got (partner s i) i (h i) (st i lt).before (st i lt).later (st i lt).trades.later (a i) (st i lt).trades.came (st i lt).split (st i lt).silent.1 (st i lt).trades.is in
+    let got = head_got (partner s i) i (h i) (st i lt).before (st i lt).later (st i lt).trades.later (a i) (st i lt).trades.came (st i lt).split (st i lt).silent.1 (st i lt).trades.history_is in
     let b' : partner s (partner s i) ≡ i = g.back in
     let is : (st (partner s i) g.within).later ≡ Sent (role i) (record { 0 = 0 }) (value.Whole (a (partner s i))) ∷
     (script_got (pair_at (partner s i) s) (st (partner s i) g.within).trades.came ∷ (st (partner s i) g.within).trades.later) =
-    (st (partner s i) g.within).trades.is ∙ ap (λ (z : ℕ). Sent (role z) (record { 0 = 0 }) (value.Whole (a (partner s i))) ∷
+    (st (partner s i) g.within).trades.history_is ∙ ap (λ (z : ℕ). Sent (role z) (record { 0 = 0 }) (value.Whole (a (partner s i))) ∷
     (script_got (pair_at (partner s i) s) (st (partner s i) g.within).trades.came ∷ (st (partner s i) g.within).trades.later)) b' in
     let quiet : sents i (st (partner s i) g.within).before ≡ [] = ap (λ (z : ℕ). sents z (st (partner s i) g.within).before) (sym b') ∙ (st (partner s i) g.within).silent.0 in
     let sent = head_sent i (partner s i) (h (partner s i)) (st (partner s i) g.within).before (st (partner s i) g.within).later
@@ -169,7 +169,7 @@ round n s ss b a h y q g st i lt =
     record {
       before = (st i lt).before ++ acts_with (partner s i) (a i) (st i lt).trades.came;
       later = (st i lt).trades.later;
-      split = (st i lt).split ∙ ap (λ (z : History). (st i lt).before ++ z) (st i lt).trades.is
+      split = (st i lt).split ∙ ap (λ (z : History). (st i lt).before ++ z) (st i lt).trades.history_is
           ∙ sym (append_assoc (st i lt).before (acts_with (partner s i) (a i) (st i lt).trades.came) (st i lt).trades.later);
       trades = subst P told (st i lt).trades.rest;
       silent = still_silent ss s i (a i) (st i lt).trades.came (st i lt).before (g i lt).apart (st i lt).silent.2;

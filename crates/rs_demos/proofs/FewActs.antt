@@ -20,11 +20,11 @@ use Rattle.rs_bodies.specs.declared.dialects.Mark.TheVariants as mark
 use Rattle.rs_core.specs.Actors.{PlaysAction, PlaysSent, PlaysGot}
 use Rattle.rs_core.specs.declared.messages.Message.{Message}
 use Rattle.rs_core.specs.Histories.{Action, Sent, Got, History}
-use Rattle.rs_core.specs.Plain.{Moment, Ending, Ended, Stopped, Stuck, PlainFrom, AllDone, Stops, NoneMoves, GoesOn, IsPlain}
-use Rattle.rs_core.specs.Runs.{IsGiven}
-use Rattle.rs_core.proofs.Ends.{sound_round}
+use Rattle.rs_core.specs.Plain.{Moment, Ending, Stopped, IsPlain}
+use Rattle.rs_core.specs.Runs.{IsGiven, last_moment}
+use Rattle.rs_core.proofs.Alike.{end_holds, sound_plain}
 use Rattle.rs_core.proofs.Fifo.{sents, gots, fifo_start, fifo_story}
-use Rattle.rs_core.proofs.Rounds.{Sound, sound_start}
+use Rattle.rs_core.proofs.Rounds.{Sound}
 use Rattle.rs_core.proofs.Stories.{no_histories}
 use Rattle.rs_demos.specs.Acting.{by_demo, behind_piece}
 use Rattle.rs_demos.specs.Sessions.{Exchange, role, arm, machine, states_from, numbers_from, partner, demo_machines, ring_pairs, next_in_ring, previous_in_ring, butterfly_pair, butterfly_pairs}
@@ -37,25 +37,12 @@ use Rattle.rs_demos.proofs.Playing.{sent_at, got_at, no_got, no_sent, nowhere, o
 use Rattle.rs_demos.proofs.Ran.{there}
 use Rattle.rs_demos.proofs.Straight.{states_next}
 
--- the moment at which a role is stopped
+-- a moment of a run
 
 -- each actor has played its history, and what was taken is the first part of what was sent
 record Went (ms : List Machine_data) (given : ℕ → DemoActor) (end : Moment DemoActor) : Type 0 where
   plays : (p : ℕ) (m : Machine_data) → slice_get ms p ≡ Some m → (y : DemoActor) × Plays m m.start (given p) (end.history p) (end.at.at p) y
   fifo : (a b : ℕ) → a ≢ b → gots a (end.history b) ++ end.at.queue a b ≡ sents b (end.history a)
-
-abbrev StopsWell : List Machine_data → (ℕ → DemoActor) → ℕ → Ending DemoActor → Type 0
-StopsWell ms given limit (Ended k) = Unit {0}
-StopsWell ms given limit (Stopped p k) = Sound by_demo ms given limit k × (p < length ms) × (limit ≤ length (k.history p))
-StopsWell ms given limit (Stuck k) = Unit {0}
-
-stops_well : (ms : List Machine_data) (given : ℕ → DemoActor) (limit : ℕ) (room : Option ℕ) (l : Moment DemoActor) (o : Ending DemoActor)
-    → Sound by_demo ms given limit l → PlainFrom ms by_demo limit room l o → StopsWell ms given limit o
-stops_well ms given limit room _ _ s (AllDone l all) = tt
-stops_well ms given limit room _ _ s (Stops p l k moved there ts at) = (sound_round by_demo ms given limit room p l k moved s ts, there, at.acts)
-stops_well ms given limit room _ _ s (NoneMoves p l k there goes ts) = tt
-stops_well ms given limit room _ _ s (GoesOn l m o ts rest) =
-    stops_well ms given limit room m o (sound_round by_demo ms given limit room (length ms) l m true s ts) rest
 
 went : (ms : List Machine_data) (given : ℕ → DemoActor) (limit : ℕ) (end : Moment DemoActor) → Sound by_demo ms given limit end → Went ms given end
 went ms given limit end s = record {
@@ -394,7 +381,7 @@ ring_pairs_few n i few = let e = ring_many n i in omega (arith, e, few)
 given_at : (given : ℕ → DemoActor) (actors all : List DemoActor) (p : ℕ) (x : DemoActor) → actors ≡ all → IsGiven given actors → slice_get all p ≡ Some x → given p ≡ x
 given_at given actors all p x e g s = g p x (ap (λ (z : List DemoActor). slice_get z p) e ∙ s)
 
--- at a moment at which a role is stopped, a role's history is short
+-- at a moment a role's history is short
 abbrev IsShort : Moment DemoActor → ℕ → Type 0
 IsShort end p = length (end.history p) < 4096
 
@@ -476,12 +463,19 @@ short demo.Stream bytes actors given end p few s g w lt = streamed bytes actors 
 short demo.Ring bytes actors given end p few s g w lt = ring bytes actors given end p s w lt
 short demo.Butterfly bytes actors given end p few s g w lt = butterfly (length actors) given end p w lt
 
+-- wherever a plain run ends, no role has made many acts
+pub few_acts : (kind : Demo) (bytes : List ℕ) (actors : List DemoActor) (given : ℕ → DemoActor) (limit : ℕ) (capacity : Option ℕ) (end : Ending DemoActor) (role : ℕ) → length bytes ≤ MOST_BYTES
+    → StartsWithActors kind bytes actors → IsGiven given actors → IsPlain (demo_machines kind (length actors)) by_demo given limit capacity end
+    → role < length (demo_machines kind (length actors)) → length ((last_moment end).history role) < 4096
+few_acts kind bytes actors given limit capacity end role few s g is there =
+    let machines : List Machine_data = demo_machines kind (length actors) in
+    short kind bytes actors given (last_moment end) role few s g (went machines given limit (last_moment end) (sound_plain by_demo machines given limit capacity end is)) there
+
 -- a role is stopped at a low limit alone
 pub low_limit : (kind : Demo) (bytes : List ℕ) (actors : List DemoActor) (given : ℕ → DemoActor) (limit : ℕ) (capacity : Option ℕ) (role : ℕ) (end : Moment DemoActor) → length bytes ≤ MOST_BYTES
     → StartsWithActors kind bytes actors → IsGiven given actors → IsPlain (demo_machines kind (length actors)) by_demo given limit capacity (Stopped role end) → limit < 4096
 low_limit kind bytes actors given limit capacity role end few s g is =
-    let w = stops_well (demo_machines kind (length actors)) given limit capacity is.first (Stopped role end) (sound_start by_demo (demo_machines kind (length actors)) given limit is.first is.starts)
-    is.run in
-    let h = short kind bytes actors given end role few s g (went (demo_machines kind (length actors)) given limit end w.0) w.1 in
-    let at = w.2 in
-    omega (arith, h, at)
+    let stops = end_holds by_demo (demo_machines kind (length actors)) limit capacity is.first (Stopped role end) is.run in
+    let acts = stops.1.acts in
+    let fewer = few_acts kind bytes actors given limit capacity (Stopped role end) role few s g is stops.0 in
+    omega (arith, acts, fewer)

@@ -4,7 +4,7 @@ use Rattle.std.specs.List.{list_all, range_with_len}
 use Rattle.std.proofs.lemmas.Bool.{and_parts, false≢true, leb-true}
 use Rattle.std.proofs.lemmas.Bool.Decides.{eqb_tells}
 use Rattle.rs_documents.proofs.Parts.{none_there}
-use Rattle.rs_documents.specs.Reading.{AreShort, DocumentIsReady}
+use Rattle.rs_documents.specs.Ready.{AreShort, DocumentIsReady}
 use Rattle.rs_model.specs.Data.{Machine_data}
 use Rattle.rs_model.specs.declared.limits.TheConstants.{MOST_ACTS, MOST_ROLES, MOST_TALKS}
 use Rattle.rs_model.specs.declared.demos.Demo.{Demo}

@@ -57,9 +57,9 @@ traded (n ∷ xs) q r x y h t =
     record {
       values = t.came ∷ on.values;
       many = ap suc on.many;
-      sent = ap (λ (z : History). sents q z) t.is ∙ sents_cons q (role q) (record { 0 = 0 }) (value.Whole (held x)) (Got (role r) (record { 0 = 0 }) t.came ∷ t.later) refl
+      sent = ap (λ (z : History). sents q z) t.history_is ∙ sents_cons q (role q) (record { 0 = 0 }) (value.Whole (held x)) (Got (role r) (record { 0 = 0 }) t.came ∷ t.later) refl
           ∙ ap (λ (z : List Message). msg (value.Whole (held x)) ∷ z) on.sent;
-      got = ap (λ (z : History). gots r z) t.is ∙ gots_cons r (role r) (record { 0 = 0 }) t.came t.later refl ∙ ap (λ (z : List Message). msg t.came ∷ z) on.got;
+      got = ap (λ (z : History). gots r z) t.history_is ∙ gots_cons r (role r) (record { 0 = 0 }) t.came t.later refl ∙ ap (λ (z : List Message). msg t.came ∷ z) on.got;
       left = on.left;
     }
 

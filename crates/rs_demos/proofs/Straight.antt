@@ -33,7 +33,6 @@ use Rattle.rs_bodies.specs.declared.dialects.Mark.{Mark}
 use Rattle.rs_bodies.specs.declared.dialects.Dialect.TheVariants.{Talks, Acts}
 use Rattle.rs_bodies.specs.Dialects.{with_mark}
 use Rattle.rs_machines.specs.Canonical.{IsCanonicalMachineText}
-use Rattle.rs_machines.specs.Texts as machine_texts
 use Rattle.rs_bodies.specs.declared.dialects.Mark.TheVariants as mark
 use Rattle.rs_demos.specs.Sessions.{demo_names, Exchange, role, arm, machine, demo_role_name, numbers_from, nodes_from, states_from, protocol_of, has_session, ring_exchanges, ring_pairs}
 use Rattle.rs_demos.specs.Sessions.{butterfly_exchanges, butterfly_pairs, machine_with_line}

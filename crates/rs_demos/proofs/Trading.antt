@@ -66,7 +66,7 @@ script_got e v = Got (role e.1) (record { 0 = 0 }) v
 pub record Trade (e : Exchange) (Behind : DemoActor → History → Type 0) (x : DemoActor) (h : History) : Type 0 where
   pub came : Value
   pub later : History
-  pub is : h ≡ script_sent e x ∷ script_got e came ∷ later
+  pub history_is : h ≡ script_sent e x ∷ script_got e came ∷ later
   pub rest : Behind (actor_behind_value x came) later
 
 -- the history has these pairs of acts, one behind the other, and leads from actor x to y
@@ -132,6 +132,6 @@ trades (Sent r l v ∷ Got r' l' v' ∷ h) (e ∷ es) m s x t y mem st p d =
     record {
       came = v';
       later = h;
-      is = cc (one, other);
+      history_is = cc (one, other);
       rest = trades h es m (suc (suc s)) (actor_behind_value x v') t y (stays_member x v' mem) (next_states m s e es st) on d;
     }

@@ -1,4 +1,4 @@
--- Believed: what the actors of the demos choose, and what they become.
+-- Public: what the actors of the demos choose, and what they become.
 use Rattle.std.specs.Prelude.{ℕ, ◌/◌, ◌%◌, ℤ, ◌+ℤ◌, ◌-ℤ◌, List, [], ◌∷◌, ◌++◌, take, drop, ◌==◌, if◌then◌else◌, Option, Some, None}
 use Rattle.rs_model.specs.Values.{empty_value}
 use Rattle.rs_demos.specs.declared.parts.TheConstants.{PIECE_BYTES}

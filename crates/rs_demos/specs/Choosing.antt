@@ -1,4 +1,4 @@
--- Believed: the law of the actors of the demos: each chooses an arm that is there, and a value of its sort.
+-- Steps: the law of the actors of the demos: each chooses an arm that is there, and a value of its sort.
 use Rattle.std.proofs.Common.{◌≡◌, ◌≢◌, ℕ, List, [], ◌∷◌, Option, Some, None, slice_get, Bool, true, false, refl, subst, if◌then◌else◌}
 use Rattle.rs_model.specs.Sorts.{HasSort}
 use Rattle.rs_model.specs.Serving.{serves}

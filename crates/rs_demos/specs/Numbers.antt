@@ -1,4 +1,4 @@
--- Believed: the numbers that bytes spell, and how many of them a demo asks for.
+-- Public: the numbers that bytes spell, and how many of them a demo asks for.
 use Rattle.std.specs.Prelude.{◌≡◌, ℕ, ◌≤◌, ℤ, pos, neg_ℤ, FitsSigned, List, [], ◌∷◌, ◌++◌, length, codes, Bool, true, false, ◌&&◌, ◌||◌, ◌==◌, nat_le, if◌then◌else◌}
 use Rattle.std.specs.List.{list_all}
 use Rattle.std.specs.Str.Parse.{IsNumeral, digits_value}

@@ -1,4 +1,4 @@
--- Believed: what is printed of the actors of an ended run.
+-- Public: what is printed of the actors of an ended run.
 use Rattle.std.specs.Prelude.{ℕ, ℤ, pos, List, [], map, Option, Some, slice_get}
 use Rattle.rs_demos.specs.Results.{results_text}
 use Rattle.rs_demos.specs.declared.actors.DemoActor.{DemoActor}

@@ -1,4 +1,4 @@
--- Believed: what each demo computes of its input, said without any run.
+-- Public: what each demo computes of its input, said without any run.
 use Rattle.std.specs.Prelude.{◌≡◌, ℕ, ◌-◌, ◌%◌, ℤ, pos, ◌+ℤ◌, neg_ℤ, List, [], ◌∷◌, ◌++◌, map, ◌==◌, if◌then◌else◌, bit_and, count_ones}
 use Rattle.std.specs.List.{enumerate_from, join_with_byte}
 use Rattle.std.specs.Fmt.{signed_decimal}

@@ -1,4 +1,4 @@
--- Believed: the session of each demo, for every count of roles: its names, its protocol and its machines.
+-- Public: the session of each demo, for every count of roles: its names, its protocol and its machines.
 use Rattle.std.specs.Prelude.{ℕ, suc, ◌+◌, ◌-◌, ◌/◌, ◌%◌, List, [], ◌∷◌, ◌++◌, map, codes, Bool, true, not, ◌==◌, nat_lt, Option, Some, None, if◌then◌else◌}
 use Rattle.std.specs.List.{flat_map, range_with_len}
 use Rattle.std.specs.Fmt.{decimal}

@@ -1,4 +1,4 @@
--- Believed: with which actors a demo starts: each has the input's part of its role, and nothing else.
+-- Public: with which actors a demo starts: each has the input's part of its role, and nothing else.
 use Rattle.std.specs.Prelude.{◌≡◌, ℕ, ℤ, List, [], ◌∷◌, map, None}
 use Rattle.std.specs.List.{enumerate_from}
 use Rattle.rs_demos.specs.Numbers.{AreAsked}

@@ -1,4 +1,4 @@
--- Believed: the document of each demo, and its text: the canonical one, with a line for each machine that is written.
+-- Public: the document of each demo, and its text: the canonical one, with a line for each machine that is written.
 use Rattle.std.specs.Prelude.{ℕ, List}
 use Rattle.rs_documents.specs.Canonical.{IsCanonicalDocument}
 use Rattle.rs_documents.specs.Data.{Document_data}

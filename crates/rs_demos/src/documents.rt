@@ -22,7 +22,6 @@ const STREAM: &[u8] =
 ///
 /// A ring has 2 to 16 roles, and a butterfly 2, 4, 8 or 16; for the others the count means nothing. The one error is
 /// that memory was refused.
-
 pub fn demo_document(alloc: Global, kind: Demo, count: u8) -> Result<Text, NoMemory>
     requires { has_session kind count ≡ true }
     ensures { IfOk result (λ text. IsDemoText kind count text) }

@@ -5,8 +5,8 @@ ghost use Rattle.rs_model.specs.Data.{Machine_data};
 ghost use Rattle.rs_model.specs.declared.limits.TheConstants.{MOST_BYTES};
 ghost use Rattle.rs_model.specs.declared.demos.Demo.{Demo};
 ghost use Rattle.rs_project.specs.Numbered.{IsNumberedProjection};
-ghost use Rattle.rs_core.specs.Plain.{Ended, IsPlain, Moment, Stopped};
-ghost use Rattle.rs_core.specs.Runs.{HasActors, IsGiven};
+ghost use Rattle.rs_core.specs.Plain.{Ended, Ending, IsPlain, Moment, Stopped};
+ghost use Rattle.rs_core.specs.Runs.{HasActors, IsGiven, last_moment};
 ghost use Rattle.rs_documents.specs.Canonical.{CanBeShown};
 ghost use Rattle.rs_documents.specs.Data.{Document_data};
 ghost use Rattle.rs_documents.specs.Documents.{SpellsDocument};
@@ -47,10 +47,13 @@ pub fn ended_runs_compute()
         → Computes kind bytes (output_of kind after) }
 {}
 
-/// No role of a demo makes 4,096 acts: only at a lower limit is a role stopped in the plain run of a demo's machines with
-/// the actors of the bytes, over queues of any capacity or of none.
+/// No role of a demo makes 4,096 acts, wherever the plain run of a demo's machines with the actors of the bytes ends, over
+/// queues of any capacity or of none. So a role is stopped only at a lower limit.
 pub fn demos_are_stopped_at_low_limits_alone()
-    ensures { (kind : Demo) (bytes : List ℕ) (actors : List DemoActor) (given : ℕ → DemoActor) (limit : ℕ) (capacity : Option ℕ) (role : ℕ) (end : Moment DemoActor) → length bytes ≤ MOST_BYTES
+    ensures acts { (kind : Demo) (bytes : List ℕ) (actors : List DemoActor) (given : ℕ → DemoActor) (limit : ℕ) (capacity : Option ℕ) (end : Ending DemoActor) (role : ℕ) → length bytes ≤ MOST_BYTES
+        → StartsWithActors kind bytes actors → IsGiven given actors → IsPlain (demo_machines kind (length actors)) by_demo given limit capacity end
+        → role < length (demo_machines kind (length actors)) → length ((last_moment end).history role) < 4096 }
+    ensures limit { (kind : Demo) (bytes : List ℕ) (actors : List DemoActor) (given : ℕ → DemoActor) (limit : ℕ) (capacity : Option ℕ) (role : ℕ) (end : Moment DemoActor) → length bytes ≤ MOST_BYTES
         → StartsWithActors kind bytes actors → IsGiven given actors → IsPlain (demo_machines kind (length actors)) by_demo given limit capacity (Stopped role end) → limit < 4096 }
 {}
 

@@ -2,7 +2,7 @@
 
 ghost use Rattle.std.specs.Prelude.{◌≡◌, ◌+◌, ◌≤◌, ◌<◌, ◌++◌, ◌∷◌, [], length, map, true, IfOk, OnOk};
 ghost use Rattle.rs_documents.specs.Parts.{no_parts};
-ghost use Rattle.rs_documents.specs.Reading.{DocumentIsReady};
+ghost use Rattle.rs_documents.specs.Ready.{DocumentIsReady};
 ghost use Rattle.rs_model.specs.declared.limits.TheConstants.{MOST_ROLES};
 ghost use Rattle.rs_model.specs.declared.graph.Node.TheVariants as node;
 ghost use Rattle.rs_model.specs.declared.machines.State.TheVariants as state;

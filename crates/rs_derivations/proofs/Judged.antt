@@ -28,7 +28,8 @@ use Rattle.rs_derivations.specs.Data.{Reader_data}
 use Rattle.rs_derivations.specs.Derivations.{labels_of_acts, labels_of_nodes, derivation_of}
 use Rattle.rs_text.specs.Names.{names_with}
 use Rattle.rs_derivations.specs.Faults.{Begins, IsInDerivation, StandsAt, IsMisplaced, FaultAt, number_value, fault_of_role, fault_of_label, fault_of_node, fault_of, fault_in_node}
-use Rattle.rs_derivations.specs.Feeding.{Fed, start_of_derivation, feed_at, is_read, feeding, names_read, derivation_read}
+use Rattle.rs_derivations.specs.Feeding.{Fed, start_of_derivation, feed_at, is_read, feeding, names_read}
+use Rattle.rs_derivations.proofs.ReadDerivations.{derivation_read}
 use Rattle.rs_derivations.specs.Spells.{IsFormed, Fits, SpellsDerivation}
 use Rattle.rs_derivations.specs.Trees.{ActTree, NodeTree, DerivationTree}
 use Rattle.rs_derivations.proofs.Changes.{Change, change}
@@ -45,7 +46,7 @@ pub record Stood (old : Names_data) (xs : List Sign) (r : Reader_data) : Type 1 
   pub place : Cut
   pub right : IsPlace place
   pub signs : cut_signs place ≡ xs
-  pub is : r ≡ stand old place
+  pub reader_is : r ≡ stand old place
   pub fits : FitsSo old place
 
 abbrev pub At : Names_data → List Sign → Sign → Reader_data → Type 1
@@ -162,14 +163,14 @@ told_ok old (Some c) (Some k) w at d h = absurd (cc h)
 
 fed_is : (old : Names_data) (xs : List Sign) (t : Sign) (at : ℕ) (n : Lexeme) (r : Reader_data) (s : Stood old xs r) → IsWhole t
     → feed_sign feeding t at n r ≡ told old (grows s.place t) (fault_of old s.place t) (wanted_of s.place) at
-fed_is old xs t at n r s w = whole_fed t at n r w ∙ ap (λ (z : Reader_data). feed_at z.mode t at z) s.is ∙ says old s.place t at
+fed_is old xs t at n r s w = whole_fed t at n r w ∙ ap (λ (z : Reader_data). feed_at z.mode t at z) s.reader_is ∙ says old s.place t at
 
 stood_on : (old : Names_data) (xs : List Sign) (t : Sign) (r d : Reader_data) (s : Stood old xs r) → IsProper t → (c : Cut) → grows s.place t ≡ Some c → fault_of old s.place t ≡ None → d ≡ stand old c
     → Stood old (xs ++ t ∷ []) d
 stood_on old xs t r d s proper c g f e =
     let on : GoesOn s.place t c = if_some_at (GoesOn s.place t) (grows s.place t) c (goes_on s.place t s.right proper) g in
     let adds : Change old s.place t c = if_some_at (Change old s.place t) (grows s.place t) c (change old s.place t) g in
-    record { place = c; right = on.1; signs = on.0 ∙ ap (λ z. z ++ t ∷ []) s.signs; is = e; fits = fits_on old s.place t c adds f s.fits }
+    record { place = c; right = on.1; signs = on.0 ∙ ap (λ z. z ++ t ∷ []) s.signs; reader_is = e; fits = fits_on old s.place t c adds f s.fits }
 
 taken_by : (t : Sign) → Wholeness t → (old : Names_data) (xs : List Sign) (at : ℕ) (n : Lexeme) (r d : Reader_data) → Stood old xs r → IsProper t → feed_sign feeding t at n r ≡ Ok d
     → Stood old (xs ++ t ∷ []) d
@@ -295,12 +296,12 @@ read_within : (old : Names_data) (r : Reader_data) (c d : Cut) → r ≡ stand o
 read_within old r c d e h same w = absurd (cc (sym h ∙ ap is_read (e ∙ ap (stand old) (sym same)) ∙ unread old d w))
 
 behind_clear : (old : Names_data) (xs : List Sign) (t u : Sign) (r : Reader_data) (k : TextKind) → Stood old xs r → is_read r ≡ true → FaultAt old xs t u k → ⊥
-behind_clear old xs t u r k s h f = let c = there_of old xs t u k f in read_within old r s.place c.0 s.is h (same_place old xs r s c.0 c.1) c.1.within
+behind_clear old xs t u r k s h f = let c = there_of old xs t u k f in read_within old r s.place c.0 s.reader_is h (same_place old xs r s c.0 c.1) c.1.within
 
 beyond : (old : Names_data) (xs : List Sign) (t : Sign) (ys : List Sign) (v u : Sign) (r : Reader_data) (k : TextKind) → Stood old xs r → is_read r ≡ true → FaultAt old (xs ++ (t ∷ ys)) v u k → ⊥
 beyond old xs t ys v u r k s h f =
     let c = there_of old (xs ++ (t ∷ ys)) v u k f in
-    let e = end_of old s.place (ap is_read (sym s.is) ∙ h) in
+    let e = end_of old s.place (ap is_read (sym s.reader_is) ∙ h) in
     no_further e.0 t ys c.0 (subst IsPlace e.1 s.right) c.1.right (c.1.signs ∙ ap (λ z. z ++ (t ∷ ys)) (sym s.signs ∙ ap cut_signs e.1))
 
 pub judges : (old : Names_data) → Judges feeding (FaultAt old) (At old) LeavesAny
@@ -308,13 +309,13 @@ judges old = record {
   ends = at_end_stops;
   taken = λ xs t at n r d stands name unread e. taken_by t (wholeness t) old xs at n r d stands (proper_sign t name) e;
   left = λ xs t r stands. tt;
-  verdict = λ xs t at n r stands name unread. verdict_by t (wholeness t) old xs at n r stands (within old stands.place (ap is_read (sym stands.is) ∙ unread)) (proper_sign t name);
+  verdict = λ xs t at n r stands name unread. verdict_by t (wholeness t) old xs at n r stands (within old stands.place (ap is_read (sym stands.reader_is) ∙ unread)) (proper_sign t name);
   behind = λ xs t u r k stands h f. behind_clear old xs t u r k stands h f;
   beyond = λ xs t ys s u r k stands h whole f. beyond old xs t ys s u r k stands h f;
 }
 
 pub begins : (old : Names_data) → length old.labels ≤ MOST_LABELS → (t : Sign) → At old [] t (start_of_derivation old)
-begins old h t = record { place = at_begin; right = tt; signs = refl; is = refl; fits = fits_first old h }
+begins old h t = record { place = at_begin; right = tt; signs = refl; reader_is = refl; fits = fits_first old h }
 
 -- ---- what is read is spelt
 
@@ -329,8 +330,8 @@ spelt_by : (old : Names_data) (bytes : List ℕ) (at : ℕ) (ls : List Lexeme) (
     → SpellsDerivation bytes at old (names_read x.reader) (derivation_read x.reader) x.until
 spelt_by old bytes at ls x lexed h =
     let s : Stood old (signs_of h.xs) x.reader = h.stands in
-    let e = end_of old s.place (ap is_read (sym s.is) ∙ h.read) in
-    let reader : x.reader ≡ stand old (at_end e.0) = s.is ∙ ap (stand old) e.1 in
+    let e = end_of old s.place (ap is_read (sym s.reader_is) ∙ h.read) in
+    let reader : x.reader ≡ stand old (at_end e.0) = s.reader_is ∙ ap (stand old) e.1 in
     record {
       tree = e.0;
       lexemes = h.xs;

@@ -1,3 +1,4 @@
+pub mod ReadDerivations
 pub mod Joins
 pub mod Grows
 pub mod Paths

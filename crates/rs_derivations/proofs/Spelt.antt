@@ -17,7 +17,8 @@ use Rattle.rs_derivations.specs.Data.{Reader_data}
 use Rattle.rs_derivations.specs.Derivations.{derivation_of}
 use Rattle.rs_derivations.specs.Faults.{FaultAt, FirstFault}
 use Rattle.rs_text.specs.Kept.{Keeps}
-use Rattle.rs_derivations.specs.Feeding.{start_of_derivation, feeding, names_read, derivation_read}
+use Rattle.rs_derivations.specs.Feeding.{start_of_derivation, feeding, names_read}
+use Rattle.rs_derivations.proofs.ReadDerivations.{derivation_read}
 use Rattle.rs_derivations.specs.Printable.{IsPrintable}
 use Rattle.rs_derivations.specs.Spells.{SpellsDerivation}
 use Rattle.rs_derivations.proofs.Judged.{LeavesAny, judges, begins, sound, complete}

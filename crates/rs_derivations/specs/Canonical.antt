@@ -1,4 +1,4 @@
--- Believed: the canonical text of a derivation.
+-- Public: the canonical text of a derivation.
 use Rattle.std.specs.Prelude.{ℕ, List, map}
 use Rattle.rs_model.specs.Data.{Names_data}
 use Rattle.rs_model.specs.declared.graph.Label.{Label}

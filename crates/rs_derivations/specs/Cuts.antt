@@ -1,4 +1,4 @@
--- Believed: the places of the grammar, and what is wanted there.
+-- Public: the places of the grammar, and what is wanted there.
 use Rattle.std.specs.Prelude.{ℕ, List, [], ◌∷◌, ◌++◌, codes, length}
 use Rattle.rs_model.specs.declared.values.Sort.{Sort}
 use Rattle.rs_prefix.specs.declared.earliest.ActKind.{ActKind}

@@ -1,4 +1,4 @@
--- Believed: the names and the derivation that a tree spells.
+-- Public: the names and the derivation that a tree spells.
 use Rattle.std.specs.Prelude.{ℕ, List, map}
 use Rattle.std.specs.List.{flat_map}
 use Rattle.rs_model.specs.Data.{Names_data}

@@ -1,4 +1,4 @@
--- Believed: the first fault of a text.
+-- Public: the first fault of a text.
 use Rattle.std.specs.Prelude.{◌≡◌, ℕ, ◌⊎◌, List, [], ◌∷◌, ◌++◌, length, Option, Some, None, nat_le, ◌==◌, if◌then◌else◌}
 use Rattle.rs_model.specs.Data.{Names_data}
 use Rattle.rs_model.specs.declared.limits.TheConstants.{MOST_LABELS, MOST_CANDIDATES}

@@ -7,7 +7,7 @@ use Rattle.rs_model.specs.declared.limits.TheConstants.{MOST_BOUND, MOST_CANDIDA
 use Rattle.rs_model.specs.declared.values.Sort.{Sort}
 use Rattle.rs_prefix.specs.declared.earliest.ActKind.{ActKind}
 use Rattle.rs_prefix.specs.declared.earliest.ActKind.TheVariants as act
-use Rattle.rs_derive.specs.Data.{DNode_data, Derivation_data}
+use Rattle.rs_derive.specs.Data.{DNode_data}
 use Rattle.rs_text.specs.declared.faults.TextFault.{TextFault}
 use Rattle.rs_text.specs.declared.faults.TextKind.TheVariants as kind
 use Rattle.rs_text.specs.declared.faults.Wanted.{Wanted}
@@ -230,10 +230,6 @@ feeding = record { feed = λ t at next r. feed_of t at r; is_read = λ r. is_rea
 -- what was read
 abbrev pub names_read : Reader_data → Names_data
 names_read r = record { roles = r.roles; labels = r.labels }
-
--- what was read, as a derivation
-abbrev pub derivation_read : Reader_data → Derivation_data
-derivation_read r = record { role = r.role; bound = r.bound; nodes = r.nodes }
 
 -- a method takes one step of the reader; where it stops the names are as before
 abbrev pub Feeds : Result (Unit {0}) Stop → Fed → (old new : Reader_data) → Type 0

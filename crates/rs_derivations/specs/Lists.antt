@@ -1,4 +1,4 @@
--- Believed: lists as texts have them: one after another, with something between.
+-- Public: lists as texts have them: one after another, with something between.
 use Rattle.std.specs.Prelude.{List, [], ◌∷◌, ◌++◌}
 
 -- what stands for each of these, with the separator before it

@@ -1,4 +1,4 @@
--- Believed: derivations whose numbers a text can have.
+-- Public: derivations whose numbers a text can have.
 use Rattle.std.specs.Prelude.{◌≤◌}
 use Rattle.std.specs.List.{All}
 use Rattle.rs_model.specs.declared.limits.TheConstants.{MOST_NUMBER}

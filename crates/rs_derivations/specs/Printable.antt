@@ -1,4 +1,4 @@
--- Believed: which derivations have a text, with given names.
+-- Public: which derivations have a text, with given names.
 use Rattle.std.specs.Prelude.{ℕ, ◌<◌, ◌≤◌, List, length, map, eqb}
 use Rattle.std.specs.List.{All, flat_map}
 use Rattle.std.specs.Set.{distinct_count}

@@ -1,4 +1,4 @@
--- Believed: what the reader of derivations gives.
+-- Public: what the reader of derivations gives.
 use Rattle.std.specs.Prelude.{ℕ, ◌≤◌, List, length}
 use Rattle.rs_model.specs.Data.{Names_data}
 use Rattle.rs_derive.specs.Data.{Derivation_data}

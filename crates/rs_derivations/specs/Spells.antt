@@ -1,4 +1,4 @@
--- Believed: what a text spells.
+-- Public: what a text spells.
 use Rattle.std.specs.Prelude.{◌≡◌, ℕ, ◌≤◌, List, ◌∷◌, ◌++◌, length, true}
 use Rattle.std.specs.List.{list_all}
 use Rattle.rs_model.specs.Data.{Names_data}

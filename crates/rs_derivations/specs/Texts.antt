@@ -1,4 +1,4 @@
--- Believed: the text of a derivation tree, with the spacing of canonical texts: a line for the role and the bound, a line a node,
+-- Public: the text of a derivation tree, with the spacing of canonical texts: a line for the role and the bound, a line a node,
 -- and a line for the brace.
 use Rattle.std.specs.Prelude.{ℕ, suc, List, [], ◌∷◌, ◌++◌, codes}
 use Rattle.std.specs.Fmt.{decimal}

@@ -1,4 +1,4 @@
--- Believed: how texts of the derivation grammar are built, and their tokens.
+-- Public: how texts of the derivation grammar are built, and their tokens.
 use Rattle.std.specs.Prelude.{ℕ, suc, List, [], ◌∷◌, ◌++◌, codes, Option}
 use Rattle.rs_model.specs.declared.values.Sort.{Sort}
 use Rattle.rs_prefix.specs.declared.earliest.ActKind.{ActKind}

@@ -10,7 +10,7 @@ use Rattle.rs_model.specs.declared.machines.Act.TheVariants.{Puts, Takes}
 use Rattle.rs_model.specs.declared.values.Sort.{Sort}
 use Rattle.rs_model.specs.declared.values.Sort.TheVariants as sort
 use Rattle.rs_prefix.specs.Earliest.{without}
-use Rattle.rs_derive.specs.Checks.{same_act, same_acts}
+use Rattle.rs_derive.specs.Targets.{same_act, same_acts}
 
 sort_at : ℕ → Sort
 sort_at zero = sort.Unit

@@ -12,7 +12,8 @@ use Rattle.rs_derive.proofs.Order.{in_order}
 use Rattle.rs_derive.proofs.Rows.{Is, by_rule, complete, follow_picks, served, sound}
 use Rattle.rs_derive.proofs.Ruled.{fitting}
 use Rattle.rs_derive.proofs.Whole.{is_named, named_is, starts_right}
-use Rattle.rs_derive.specs.Checks.{edge_fault, fault_of_edge, length_fault, move_fault, names, node_fault, nodes_fault, nexts_fault, starts, state_fault}
+use Rattle.rs_derive.specs.Checks.{edge_fault, fault_of_edge, length_fault, move_fault, node_fault, nodes_fault, nexts_fault, state_fault}
+use Rattle.rs_derive.specs.Nodes.{names, starts}
 use Rattle.rs_derive.specs.Data.{DNode_data, Derivation_data}
 use Rattle.rs_derive.specs.Derivations.{spot_of}
 use Rattle.rs_derive.specs.Due.{Chosen, Due, both_at, due, nexts_by}
@@ -59,7 +60,7 @@ some_choice : (sub above : Machine_data) (p : Spot) (d : Due) → due sub above 
 some_choice sub above p d e =
     let t = slice_get above.states p.above in
     let b = by_rule p (slice_get sub.states p.state) t d e in
-    subst (λ (x : Due). Choice x.nexts) (sym b.is) (choice_by p (arms_at b.state) (arms_of t) b.rule (fitting p.pending b.state t b.rule b.row))
+    subst (λ (x : Due). Choice x.nexts) (sym b.due_is) (choice_by p (arms_at b.state) (arms_of t) b.rule (fitting p.pending b.state t b.rule b.row))
 
 -- the first next that is wrong
 
@@ -200,7 +201,7 @@ told_blames d sub above i n x f g e (inl t) =
       g,
       λ makes results move. (
           let c = complete sub above (spot_of n) makes results move in
-          let same : c.d ≡ x = same_Some c.d x (sym c.is' ∙ e) in
+          let same : c.d ≡ x = same_Some c.d x (sym c.due_is ∙ e) in
           misnames d.nodes x.nexts n.next t.0 results t.2 (subst (λ y. Chosen y.nexts results) same c.picks)),
     )
 told_blames d sub above i n x f g e (inr t) =
@@ -215,7 +216,7 @@ move_blames : (d : Derivation_data) (sub above : Machine_data) (i : ℕ) (n : DN
     → due sub above (spot_of n) ≡ o → move_fault d.nodes i n o ≡ Some f → Blames d sub above f
 move_blames d sub above i n None f g e h =
     subst (λ y. Blames d sub above y) (same_Some (NoMove i) f h)
-    (n, g, λ makes results move. (let c = complete sub above (spot_of n) makes results move in none-some c.d (sym e ∙ c.is')))
+    (n, g, λ makes results move. (let c = complete sub above (spot_of n) makes results move in none-some c.d (sym e ∙ c.due_is)))
 move_blames d sub above i n (Some x) f g e h =
     told_blames d sub above i n x f g e (nexts_some d.nodes x.keeps n.rank i x.nexts n.next 0 f h)
 

@@ -5,7 +5,8 @@ use Rattle.std.proofs.lemmas.Option.{slice_get_within}
 use Rattle.rs_model.specs.Data.{Machine_data}
 use Rattle.rs_model.specs.declared.machines.State.{State}
 use Rattle.rs_model.specs.FirstFailed.{Test, first_failed, or_later}
-use Rattle.rs_derive.specs.Checks.{derive_fault, edge_fault, move_fault, names, node_fault, nodes_fault, nexts_fault, starts}
+use Rattle.rs_derive.specs.Checks.{derive_fault, edge_fault, move_fault, node_fault, nodes_fault, nexts_fault}
+use Rattle.rs_derive.specs.Nodes.{names, starts}
 use Rattle.rs_derive.specs.Data.{DNode_data, Derivation_data}
 use Rattle.rs_derive.specs.Derivations.{spot_of}
 use Rattle.rs_derive.specs.Due.{Due, due, due_at}

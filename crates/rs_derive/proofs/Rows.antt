@@ -135,7 +135,7 @@ ruled sub above p makes rs (ReceivesAhead q r arms theirs st none ab mk re) =
 
 pub record Turned (p : Spot) (makes : Option ℕ) (rs : List Spot) (o : Option Due) : Type 0 where
   pub d : Due
-  pub is' : o ≡ Some d
+  pub due_is : o ≡ Some d
   pub agrees : Agrees p.pending makes d.keeps
   pub picks : Chosen d.nexts rs
 
@@ -149,7 +149,7 @@ complete sub above p makes rs m =
     let r = ruled sub above p makes rs m in
     record {
       d = due_by p (arms_at r.state) (arms_of t) r.rule;
-      is' = due_applies p (slice_get sub.states p.state) t r.state r.rule r.stands r.row;
+      due_is = due_applies p (slice_get sub.states p.state) t r.state r.rule r.stands r.row;
       agrees = r.agrees;
       picks = r.picks;
     }
@@ -162,7 +162,7 @@ pub record ByRule (p : Spot) (s t : Option State) (d : Due) : Type 0 where
   pub rule : Rule
   pub stands : s ≡ Some state
   pub row : Row p.pending state t rule
-  pub is : d ≡ due_by p (arms_at state) (arms_of t) rule
+  pub due_is : d ≡ due_by p (arms_at state) (arms_of t) rule
 
 pub by_rule : (p : Spot) (s t : Option State) (d : Due) → due_at p s t ≡ Some d → ByRule p s t d
 by_rule p None t d e = absurd (none-some d e)
@@ -171,7 +171,7 @@ by_rule p (Some s) t d e = some (rule_at p.pending s t) refl e
     some : (o : Option Rule) → rule_at p.pending s t ≡ o → due_of p (arms_at s) (arms_of t) o ≡ Some d → ByRule p (Some s) t d
     some None a h = absurd (none-some d h)
     some (Some rule) a h =
-        record { state = s; rule = rule; stands = refl; row = row_of p.pending s t rule a; is = sym (same_Some (due_by p (arms_at s) (arms_of t) rule) d h) }
+        record { state = s; rule = rule; stands = refl; row = row_of p.pending s t rule a; due_is = sym (same_Some (due_by p (arms_at s) (arms_of t) rule) d h) }
 
 pub record Sounds (sub above : Machine_data) (p : Spot) (keeps : Bool) (rs : List Spot) : Type 0 where
   pub makes : Option ℕ
@@ -217,7 +217,7 @@ both_of theirs pending (a ∷ later) (r ∷ rs) e h =
 pub record Guessed (p : Spot) (peer : Role) (theirs : List Arm) (rs : List Spot) : Type 0 where
   pub place : ℕ
   pub arm : Arm
-  pub is : slice_get theirs place ≡ Some arm
+  pub stands : slice_get theirs place ≡ Some arm
   pub results : rs ≡ owing_send p peer arm ∷ []
 
 pub guessed : (p : Spot) (peer : Role) (theirs : List Arm) (rs : List Spot) → Chosen (map (λ b. owing_send p peer b) theirs ∷ []) rs → Guessed p peer theirs rs
@@ -225,7 +225,7 @@ guessed p peer theirs [] h = absurd h
 guessed p peer theirs (r ∷ s ∷ rs) h = absurd h.1
 guessed p peer theirs (r ∷ []) h =
     let k = map_of (λ b. owing_send p peer b) theirs h.0.0 r h.0.1 in
-    record { place = h.0.0; arm = k.0; is = k.1; results = ap (λ (z : Spot). z ∷ []) (sym k.2) }
+    record { place = h.0.0; arm = k.0; stands = k.1; results = ap (λ (z : Spot). z ∷ []) (sym k.2) }
 
 sounds : (sub above : Machine_data) (p : Spot) (s : State) (t : Option State) (rule : Rule) (rs : List Spot) → Row p.pending s t rule → slice_get sub.states p.state ≡ Some s
     → slice_get above.states p.above ≡ t → Chosen (nexts_by p (arms_at s) (arms_of t) rule) rs → Sounds sub above p (keeps_head p.pending rule) rs
@@ -236,7 +236,7 @@ sounds sub above p _ _ _ rs (SendingBoth q arms theirs none all) gs gt h =
     record { makes = None; move = SendsBoth q arms theirs gs none gt refl (both_of theirs p.pending arms rs all h); agrees = none_agrees p.pending }
 sounds sub above p _ _ _ rs (Guessing q r arms theirs none ne) gs gt h =
     let k = guessed p r theirs rs h in
-    record { makes = None; move = Guesses q r arms theirs k.place k.arm gs none gt ne k.is refl k.results; agrees = none_agrees p.pending }
+    record { makes = None; move = Guesses q r arms theirs k.place k.arm gs none gt ne k.stands refl k.results; agrees = none_agrees p.pending }
 sounds sub above p _ _ _ rs (SendingAhead q r arms theirs none) gs gt h =
     record { makes = None; move = SendsAhead q r arms theirs gs none gt refl (follow_all p r theirs rs h); agrees = none_agrees p.pending }
 sounds sub above p _ _ _ rs (PayingReceive q arms place l so a t found at arm sv) gs gt h =
@@ -248,4 +248,4 @@ pub sound : (sub above : Machine_data) (p : Spot) (d : Due) (rs : List Spot) →
 sound sub above p d rs e h =
     let t = slice_get above.states p.above in
     let b = by_rule p (slice_get sub.states p.state) t d e in
-    subst (λ (x : Due). Sounds sub above p x.keeps rs) (sym b.is) (sounds sub above p b.state t b.rule rs b.row b.stands refl (subst (λ (x : Due). Chosen x.nexts rs) b.is h))
+    subst (λ (x : Due). Sounds sub above p x.keeps rs) (sym b.due_is) (sounds sub above p b.state t b.rule rs b.row b.stands refl (subst (λ (x : Due). Chosen x.nexts rs) b.due_is h))

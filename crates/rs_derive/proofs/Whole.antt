@@ -10,7 +10,9 @@ use Rattle.rs_model.proofs.FirstFailed.{or_none}
 use Rattle.rs_derive.proofs.Acts.{acts_are, acts_same}
 use Rattle.rs_derive.proofs.Order.{in_order}
 use Rattle.rs_derive.proofs.Rows.{Is, complete, sound}
-use Rattle.rs_derive.specs.Checks.{derive_fault, edge_fault, fault_of_edge, length_fault, move_fault, names, node_fault, nodes_fault, nexts_fault, same_acts, same_spot, starts, state_fault}
+use Rattle.rs_derive.specs.Checks.{derive_fault, edge_fault, fault_of_edge, length_fault, move_fault, node_fault, nodes_fault, nexts_fault, state_fault}
+use Rattle.rs_derive.specs.Nodes.{names, starts}
+use Rattle.rs_derive.specs.Targets.{same_acts, same_spot}
 use Rattle.rs_derive.specs.Data.{DNode_data, Derivation_data}
 use Rattle.rs_derive.specs.Derivations.{IsDerivation, NameResults, NodeFits, Remembers, spot_of}
 use Rattle.rs_derive.specs.Due.{Chosen, Due, due}
@@ -140,19 +142,19 @@ nexts_right nodes keeps rank i (d ∷ ds) (j ∷ js) k (r ∷ rs) p n f =
 
 record Moved (d : Derivation_data) (sub above : Machine_data) (n : DNode_data) : Type 0 where
   due' : Due
-  is : due sub above (spot_of n) ≡ Some due'
+  due_is : due sub above (spot_of n) ≡ Some due'
   named : Named d.nodes due'.keeps n.rank due'.nexts n.next
 
 move_none : (d : Derivation_data) (sub above : Machine_data) (i : ℕ) (n : DNode_data) (o : Option Due) → due sub above (spot_of n) ≡ o
     → move_fault d.nodes i n o ≡ None → Moved d sub above n
 move_none d sub above i n None g e = absurd (none-some (NoMove i) (sym e))
 move_none d sub above i n (Some x) g e =
-    record { due' = x; is = g; named = nexts_none d.nodes x.keeps n.rank i x.nexts n.next 0 e }
+    record { due' = x; due_is = g; named = nexts_none d.nodes x.keeps n.rank i x.nexts n.next 0 e }
 
 fits : (d : Derivation_data) (sub above : Machine_data) (n : DNode_data) → ltb n.state (length sub.states) ≡ true → ltb n.above (length above.states) ≡ true
     → leb (length n.pending) d.bound ≡ true → Moved d sub above n → NodeFits d.nodes d.bound sub above n
 fits d sub above n a b c m =
-    let s = sound sub above (spot_of n) m.due' m.named.results m.is m.named.picks in
+    let s = sound sub above (spot_of n) m.due' m.named.results m.due_is m.named.picks in
     record {
       state = ltb-true n.state (length sub.states) a;
       present = ltb-true n.above (length above.states) b;
@@ -187,7 +189,7 @@ nodes_none d sub above (x ∷ ns) i e (suc k) n g =
 
 record Begins (d : Derivation_data) (sub above : Machine_data) : Type 0 where
   first : DNode_data
-  is : slice_get d.nodes 0 ≡ Some first
+  stands : slice_get d.nodes 0 ≡ Some first
   starts' : spot_of first ≡ spot sub.start [] above.start
 
 nil_is : (pending : List Act) → length pending ≡ 0 → pending ≡ []
@@ -224,7 +226,7 @@ remembers d sub above e =
       falls = λ i n makes results g move keeps k j m gk gj. (
           let r = nodes_none d sub above d.nodes 0 p.1 i n g in
           let t = complete sub above (spot_of n) makes results move in
-          let same : t.d ≡ r.moved.due' = same_Some t.d r.moved.due' (sym t.is' ∙ r.moved.is) in
+          let same : t.d ≡ r.moved.due' = same_Some t.d r.moved.due' (sym t.due_is ∙ r.moved.due_is) in
           r.moved.named.falls (ap (λ x. x.keeps) (sym same) ∙ t.agrees.to keeps) k j m gk gj);
     }
 
@@ -243,7 +245,7 @@ node_right d sub above i k n g fit rem =
     let s : state_fault sub above i n ≡ None = rw (lt-ltb n.state (length sub.states) fit.state, lt-ltb n.above (length above.states) fit.present) refl in
     let l : length_fault d.bound i n ≡ None = rw (le-leb (length n.pending) d.bound fit.short) refl in
     let m : move_fault d.nodes i n (due sub above (spot_of n)) ≡ None =
-    ap (λ o. move_fault d.nodes i n o) t.is'
+    ap (λ o. move_fault d.nodes i n o) t.due_is
     ∙ nexts_right d.nodes t.d.keeps n.rank i t.d.nexts n.next 0 fit.results t.picks fit.named
     (λ h a j x gj gx. rem.falls k n fit.makes fit.results g fit.move (t.agrees.from h) a j x gj gx) in
     ap (λ o. or_later o (or_later (length_fault d.bound i n) (move_fault d.nodes i n (due sub above (spot_of n))))) s

@@ -1,60 +1,21 @@
 -- Steps: the first fault of a derivation, as the code finds it.
-use Rattle.std.specs.Prelude.{ℕ, ◌+◌, List, [], ◌∷◌, ◌++◌, length, slice_get, Bool, true, false, ◌==◌, ◌&&◌, nat_lt, nat_le, if◌then◌else◌, Option, Some, None}
-use Rattle.std.specs.List.{list_any}
+use Rattle.std.specs.Prelude.{ℕ, ◌+◌, List, [], ◌∷◌, length, slice_get, Bool, ◌==◌, ◌&&◌, nat_lt, nat_le, if◌then◌else◌, Option, Some, None}
 use Rattle.rs_model.specs.Data.{Machine_data}
 use Rattle.rs_model.specs.FirstFailed.{or_later}
-use Rattle.rs_model.specs.Serving.{sort_number}
 use Rattle.rs_model.specs.declared.graph.Arm.{Arm}
-use Rattle.rs_model.specs.declared.machines.Act.{Act}
-use Rattle.rs_model.specs.declared.machines.Act.TheVariants.{Puts, Takes}
-use Rattle.rs_prefix.specs.Earliest.{without}
 use Rattle.rs_derive.specs.Data.{DNode_data, Derivation_data}
 use Rattle.rs_derive.specs.Derivations.{spot_of}
 use Rattle.rs_derive.specs.Due.{Due, due}
-use Rattle.rs_derive.specs.Moves.{Spot, spot}
+use Rattle.rs_derive.specs.Moves.{Spot}
 use Rattle.rs_derive.specs.declared.faults.DeriveFault.{DeriveFault}
 use Rattle.rs_derive.specs.declared.faults.DeriveFault.TheVariants.{BadStart, BadState, TooLongPending, NoMove, WrongNext, Forgets}
-use Rattle.rs_derive.specs.declared.targets.Change.{Change}
-use Rattle.rs_derive.specs.declared.targets.Change.TheVariants.{Same, Without, With}
-use Rattle.rs_derive.specs.declared.targets.EdgeTarget.{EdgeTarget}
+use Rattle.rs_derive.specs.Nodes.{names, starts}
 
 -- tests of equality
 
--- two acts are the same
-abbrev pub same_act : Act → Act → Bool
-same_act (Puts p l s) (Puts q k t) = (p.0 == q.0) && ((l.0 == k.0) && (sort_number s == sort_number t))
-same_act (Takes p l s) (Takes q k t) = (p.0 == q.0) && ((l.0 == k.0) && (sort_number s == sort_number t))
-same_act (Puts p l s) (Takes q k t) = false
-same_act (Takes p l s) (Puts q k t) = false
-
--- whether two lists of acts are the same
-abbrev pub same_acts : List Act → List Act → Bool
-same_acts [] [] = true
-same_acts [] (b ∷ bs) = false
-same_acts (a ∷ as') [] = false
-same_acts (a ∷ as') (b ∷ bs) = same_act a b && same_acts as' bs
-
--- whether two spots are the same
-abbrev pub same_spot : Spot → Spot → Bool
-same_spot p q = (p.state == q.state) && ((p.above == q.above) && same_acts p.pending q.pending)
-
 -- the spot that a target of an edge stands for
 
--- what is owed behind the change, where these acts were owed
-abbrev pub owed_behind : List Act → Change → List Act
-owed_behind pending Same = pending
-owed_behind pending (Without place) = without pending place
-owed_behind pending (With x) = pending ++ x ∷ []
-
--- the spot of a target, where these acts were owed
-abbrev pub target_spot : List Act → EdgeTarget → Spot
-target_spot pending t = spot t.state (owed_behind pending t.change) t.above
-
 -- faults
-
--- the node is at one of the spots
-abbrev pub names : DNode_data → List Spot → Bool
-names m spots = list_any (λ r. same_spot (spot_of m) r) spots
 
 -- an edge leads to no spot that is due, or keeps its head and leads to no lower rank
 abbrev pub fault_of_edge : Bool → ℕ → ℕ → ℕ → Bool → ℕ → Option DeriveFault
@@ -112,11 +73,6 @@ node_fault d sub above i n =
 abbrev pub nodes_fault : Derivation_data → Machine_data → Machine_data → List DNode_data → ℕ → Option DeriveFault
 nodes_fault d sub above [] i = None
 nodes_fault d sub above (n ∷ later) i = or_later (node_fault d sub above i n) (nodes_fault d sub above later (i + 1))
-
--- the first node is the start of both machines, with nothing owed
-abbrev pub starts : Machine_data → Machine_data → List DNode_data → Bool
-starts sub above [] = false
-starts sub above (n ∷ later) = (n.state == sub.start) && ((n.above == above.start) && (length n.pending == 0))
 
 -- the first fault of a derivation
 abbrev pub derive_fault : Derivation_data → Machine_data → Machine_data → Option DeriveFault

@@ -1,4 +1,4 @@
--- Believed: a derivation of a machine from its projection, and that it forgets nothing owed.
+-- Public: a derivation of a machine from its projection, and that it forgets nothing owed.
 use Rattle.std.specs.Prelude.{◌≡◌, ◌≢◌, ℕ, ◌<◌, ◌≤◌, List, [], ◌∷◌, length, slice_get, Option, Some}
 use Rattle.rs_model.specs.Data.{Machine_data}
 use Rattle.rs_model.specs.WellFormed.{IsWellFormedMachine}

@@ -1,4 +1,4 @@
--- Steps: what is due of the nexts of a spot, by the rule that applies.
+-- Public: what is due of the nexts of a spot, by the rule that applies.
 use Rattle.std.specs.Prelude.{◌≡◌, ℕ, List, [], ◌∷◌, map, slice_get, Bool, Option, Some, None}
 use Rattle.rs_model.specs.Data.{Machine_data}
 use Rattle.rs_model.specs.declared.graph.Arm.{Arm}

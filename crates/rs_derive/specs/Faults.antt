@@ -1,8 +1,8 @@
--- Believed: the first fault of a derivation: all its tests in order, and the first that isn't passed.
+-- Public: the first fault of a derivation: all its tests in order, and the first that isn't passed.
 use Rattle.std.specs.Prelude.{◌≡◌, ◌≢◌, ◌⊎◌, ℕ, ◌+◌, ◌<◌, ◌≤◌, List, [], ◌∷◌, ◌++◌, length, slice_get, Bool, true, false, not, ◌&&◌, ◌||◌, nat_lt, nat_le, Option, Some, None}
 use Rattle.rs_model.specs.Data.{Machine_data}
 use Rattle.rs_model.specs.FirstFailed.{Test, first_failed}
-use Rattle.rs_derive.specs.Checks.{names, starts}
+use Rattle.rs_derive.specs.Nodes.{names, starts}
 use Rattle.rs_derive.specs.Data.{DNode_data, Derivation_data}
 use Rattle.rs_derive.specs.Derivations.{KeepsItsHead, spot_of}
 use Rattle.rs_derive.specs.Due.{Due, due}

@@ -1,4 +1,4 @@
--- Believed: the greatest values of a derivation.
+-- Public: the greatest values of a derivation.
 use Rattle.std.specs.Prelude.{◌≡◌, ◌⊎◌, ℕ, ◌≤◌, List, [], ◌∷◌, slice_get, Some, max}
 
 -- the number is the greatest of the list, and 0 for no numbers

@@ -7,3 +7,5 @@ pub mod Figures
 pub mod Moves
 pub mod Rules
 pub mod Within
+pub mod Targets
+pub mod Nodes

@@ -1,4 +1,4 @@
--- Believed: how a machine follows its projection, with what it still owes.
+-- Public: how a machine follows its projection, with what it still owes.
 use Rattle.std.specs.Prelude.{◌≡◌, ◌≢◌, ℕ, List, [], ◌∷◌, ◌++◌, map, slice_get, Option, Some, None, ◌==◌, if◌then◌else◌}
 use Rattle.rs_model.specs.Data.{Machine_data}
 use Rattle.rs_model.specs.Serving.{Serves}

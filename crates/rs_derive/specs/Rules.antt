@@ -1,4 +1,4 @@
--- Steps: the table of moves, row by row: the rule that applies where the machine stands at one state and the projection at another.
+-- Public: the table of moves, row by row: the rule that applies where the machine stands at one state and the projection at another.
 use Rattle.std.specs.Prelude.{ℕ, ◌<◌, ◌≡◌, List, [], ◌∷◌, length, slice_get, Bool, true, false, ◌==◌, ◌&&◌, nat_lt, if◌then◌else◌, Option, Some, None}
 use Rattle.std.specs.List.{list_all}
 use Rattle.rs_model.specs.Serving.{serves}

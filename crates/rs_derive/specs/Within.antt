@@ -1,4 +1,4 @@
--- Steps: what the code asks of places and of arms.
+-- Public: what the code asks of places and of arms.
 use Rattle.std.specs.Prelude.{◌≡◌, ℕ, ◌<◌, List, slice_get, Some}
 use Rattle.rs_model.specs.declared.graph.Arm.{Arm}
 use Rattle.rs_model.specs.declared.machines.State.{State}

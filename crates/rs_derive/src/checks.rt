@@ -1,7 +1,8 @@
 //! The checker: start, nodes, moves and ranks of a derivation, down to its first fault.
 ghost use Rattle.std.specs.Prelude.{◌≡◌, ◌<◌, ◌≤◌, ◌^◌, length, slice_get, None, Some, OnOk, IfErr};
 ghost use Rattle.rs_model.specs.declared.limits.TheConstants.{MOST_BOUND};
-ghost use Rattle.rs_derive.specs.Checks.{starts, derive_fault, node_fault, move_fault, state_fault, length_fault};
+ghost use Rattle.rs_derive.specs.Checks.{derive_fault, node_fault, move_fault, state_fault, length_fault};
+ghost use Rattle.rs_derive.specs.Nodes.{starts};
 ghost use Rattle.rs_derive.specs.Derivations.{IsProper, IsDerivation, Remembers, spot_of};
 ghost use Rattle.rs_derive.specs.Due.{due, due_at, due_by};
 ghost use Rattle.rs_derive.specs.Faults.{first_fault};

@@ -1,7 +1,8 @@
 //! The nexts of one node against the results of its move, arm by arm.
 ghost use Rattle.std.specs.Prelude.{◌≡◌, ◌<◌, ◌^◌, [], ◌∷◌, map, slice_get, length, Some};
 ghost use Rattle.rs_model.specs.declared.graph.Arm.{Arm};
-ghost use Rattle.rs_derive.specs.Checks.{fault_of_edge, fault_of_count, edge_at, edge_fault, spare, nexts_fault, target_spot};
+ghost use Rattle.rs_derive.specs.Checks.{fault_of_edge, fault_of_count, edge_at, edge_fault, spare, nexts_fault};
+ghost use Rattle.rs_derive.specs.Targets.{target_spot};
 ghost use Rattle.rs_derive.specs.Derivations.{spot_of};
 ghost use Rattle.rs_derive.specs.Due.{both_at};
 ghost use Rattle.rs_derive.specs.Moves.{arm_of, owing_send, owing_receive};

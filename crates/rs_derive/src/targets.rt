@@ -1,7 +1,8 @@
 //! Where an edge leads, told by what changes, so that no list is made to compare a node with it.
 ghost use Rattle.std.specs.Prelude.{◌≡◌, ◌↔◌, IsTrue, ◌<◌, ◌≤◌, ◌∷◌, ◌++◌, [], length, map};
 ghost use Rattle.rs_prefix.specs.Earliest.{without};
-ghost use Rattle.rs_derive.specs.Checks.{names, same_act, same_acts, same_spot, owed_behind, target_spot};
+ghost use Rattle.rs_derive.specs.Nodes.{names};
+ghost use Rattle.rs_derive.specs.Targets.{same_act, same_acts, same_spot, owed_behind, target_spot};
 ghost use Rattle.rs_derive.specs.Derivations.{spot_of};
 ghost use Rattle.rs_derive.specs.Moves.{owing_send};
 ghost use Rattle.rs_derive.specs.Within.{IsPlaceWithin};
@@ -28,7 +29,7 @@ pub struct EdgeTarget {
     pub above: u32,
 }
 
-// Whether the node is where the edge leads from one with these pending acts.
+/// Whether the node is where the edge leads from one with these pending acts.
 #[inline(always)]
 pub fn is_target(next: &DNode, pending: &[Act], target: EdgeTarget) -> bool
     requires { IsPlaceWithin (length pending.now) target.change }

@@ -245,7 +245,7 @@ by_parts d text r c number few machine_numbers derivation_numbers =
     let row1 : PartsRead Machine_data = row_of mid_names (map (option_map (machine_by number)) d.machines) at2 in
     let row2 : PartsRead Derivation_data = row_of (record { roles = names.roles; labels = names_with (names_with first lines) owns }) (map (option_map (derivation_by number)) d.derivations) at3 in
     let goes1 : GoesOn machine_parts text at1 first_names (no_parts names.roles) (good row1)
-    = all_go_again machine_parts of_machines machine_by names number d.machines back lines machines text at1 first_names tail begins2.own here1 begins2' (not_machine begins2.own begins2.is) refl
+    = all_go_again machine_parts of_machines machine_by names number d.machines back lines machines text at1 first_names tail begins2.own here1 begins2' (not_machine begins2.own begins2.word_is) refl
     (omega (arith, few, mid_few)) machine_numbers r.machines in
     let goes2 : GoesOn derivation_parts text at2 mid_names (no_parts names.roles) (good row2)
     = all_go_again derivation_parts of_derivations derivation_by names number d.derivations tail owns derivations text at2 mid_names [] finish here2' refl not_derivation refl few

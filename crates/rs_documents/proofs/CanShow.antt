@@ -9,7 +9,7 @@ use Rattle.rs_documents.specs.Canonical.{AreShown, ArePrintable, CanBeShown}
 use Rattle.rs_documents.specs.Data.{Document_data}
 use Rattle.rs_documents.specs.Documents.{SpellsDocument}
 use Rattle.rs_documents.specs.Parts.{PartKind, PartsRead, GoesOn, Stops, Repeats, Fails, Adds, parts_with, machine_parts, derivation_parts, no_parts}
-use Rattle.rs_documents.specs.Reading.{AllHave}
+use Rattle.rs_documents.specs.Ready.{AllHave}
 use Rattle.rs_documents.proofs.FewLabels.{protocol_few}
 use Rattle.rs_documents.proofs.PartKinds.{of_machines, of_derivations}
 use Rattle.rs_documents.proofs.Parts.{IsKind, good, keeps, keeps_few, none_there, row_of, set_all}

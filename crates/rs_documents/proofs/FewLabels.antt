@@ -2,12 +2,13 @@
 use Rattle.std.proofs.Common.{ℕ, ◌≤◌, List, [], ◌∷◌, ◌++◌, length, Bool, true, false, if◌then◌else◌, sym, subst, arith, length-append}
 use Rattle.rs_bodies.proofs.Fitting.{fits_labels}
 use Rattle.rs_global.specs.Spells.{SpellsProtocol}
-use Rattle.rs_global.specs.Trees.{roles_of}
+use Rattle.rs_global.specs.Graph.{no_names}
 use Rattle.rs_machines.specs.Spells.{SpellsMachine}
 use Rattle.rs_model.specs.Data.{Names_data, Protocol_data, Machine_data}
 use Rattle.rs_model.specs.declared.limits.TheConstants.{MOST_LABELS}
 use Rattle.rs_text.specs.Names.{names_with, is_among}
 use Rattle.rs_bodies.specs.declared.dialects.Dialect.TheVariants.{Talks, Acts}
+use Rattle.rs_bodies.specs.Openings.{roles_in}
 use Rattle.rs_bodies.specs.Scenes.{first_scene}
 
 longer_if : (b : Bool) (names : List (List ℕ)) (x : List ℕ) → length names ≤ length (if b then names else names ++ x ∷ [])
@@ -24,7 +25,7 @@ longer (x ∷ ls) names =
 -- a protocol's labels
 pub protocol_few : (bytes : List ℕ) (at : ℕ) (names : Names_data) (protocol : Protocol_data) (until : ℕ) → SpellsProtocol bytes at names protocol until → length names.labels ≤ MOST_LABELS
 protocol_few bytes at names protocol until s =
-    subst (λ (z : Names_data). length z.labels ≤ MOST_LABELS) (sym s.names_are) (fits_labels Talks s.tree.body (first_scene (roles_of s.tree) []) s.fits.body (omega arith))
+    subst (λ (z : Names_data). length z.labels ≤ MOST_LABELS) (sym s.names_are) (fits_labels Talks s.tree.body (first_scene (roles_in Talks no_names s.tree.opening) []) s.fits.body (omega arith))
 
 -- the labels behind a machine
 pub machine_few : (bytes : List ℕ) (at : ℕ) (old new : Names_data) (machine : Machine_data) (until : ℕ) → length old.labels ≤ MOST_LABELS → SpellsMachine bytes at old new machine until

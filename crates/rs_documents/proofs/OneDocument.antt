@@ -208,12 +208,12 @@ by_machines bytes names p until (Ok front) s g =
     let h : SpellsFront bytes p front = record { names = names; until = until; protocol_is = s; machines_are = g } in
     let rest = some_row derivation_parts of_derivations bytes front.until front.names (no_parts front.names.roles) (front_within bytes p front h) (size_of_none _ front.names.roles)
     (front_few bytes p front h) in
-    by_derivations bytes p front rest.row h rest.is
+    by_derivations bytes p front rest.row h rest.goes_on
 
 pub spelt_or_faulty : (bytes : List ℕ) → SpeltOrFaulty bytes
 spelt_or_faulty bytes = elim (graphs.spelt_or_faulty protocols is_kind.made no_names bytes 0 (omega arith)) [
   | inl h ↦
       let rest = some_row machine_parts of_machines bytes h.2 h.0 (no_parts h.0.roles) (protocol_within bytes h.0 h.1 h.2 h.3) (size_of_none _ h.0.roles) (protocol_few bytes 0 h.0 h.1 h.2 h.3) in
-      by_machines bytes h.0 h.1 h.2 rest.row h.3 rest.is
+      by_machines bytes h.0 h.1 h.2 rest.row h.3 rest.goes_on
   | inr f ↦ inr (f.0, f.1, InProtocol f.1 f.2)
 ]

@@ -20,7 +20,8 @@ use Rattle.rs_machines.specs.Trees.{MachineTree, machine_signs}
 use Rattle.rs_bodies.proofs.GraphLaws as graphs
 use Rattle.rs_machines.proofs.Places as machine_places
 use Rattle.rs_bodies.proofs.OneFault as faults
-use Rattle.rs_bodies.specs.GraphKinds.{GraphKind, SpellsOf}
+use Rattle.rs_bodies.specs.GraphKinds.{GraphKind}
+use Rattle.rs_bodies.proofs.GraphSpelling.{SpellsOf}
 use Rattle.rs_bodies.specs.Openings.{Opening, of_role}
 use Rattle.rs_bodies.specs.Spells.{OpeningFits}
 use Rattle.rs_bodies.specs.declared.dialects.Dialect.{Dialect}
@@ -72,10 +73,10 @@ pub record IsMachineLine (old : Names_data) (t : MachineTree) : Type 0 where
   pub role : List ℕ
   pub signs : machine_signs t ≡ plain (codes "machine") ∷ plain role ∷ colon ∷ body_signs Acts t.body
   pub known : is_among role old.roles ≡ true
-  pub is : (machine_of_tree old t).role.0 ≡ number_or (place_of role old.roles)
+  pub role_is : (machine_of_tree old t).role.0 ≡ number_or (place_of role old.roles)
 
 line_of : (old : Names_data) (o : Opening Acts) (b : Body Acts) → OpeningFits Acts old o → IsMachineLine old (record { opening = o; body = b })
-line_of old (of_role r) b fits = record { role = r; signs = refl; known = fits; is = refl }
+line_of old (of_role r) b fits = record { role = r; signs = refl; known = fits; role_is = refl }
 
 pub machine_line : (bytes : List ℕ) (at : ℕ) (old new : Names_data) (machine : Machine_data) (until : ℕ) (s : SpellsMachine bytes at old new machine until) → IsMachineLine old s.tree
 machine_line bytes at old new machine until s = line_of old s.tree.opening s.tree.body s.fits.opening
@@ -101,7 +102,7 @@ machine_role bytes at old new machine until s =
           (are_lexed bytes (p.lexemes ++ p.behind ∷ p.others) at p.tokens);
       known = k.1;
       bounded = omega (arith, lt);
-      is = ap (λ (m : Machine_data). m.role.0) (s.meaning_is) ∙ l.is ∙ ap number_or k.1;
+      place_is = ap (λ (m : Machine_data). m.role.0) (s.meaning_is) ∙ l.role_is ∙ ap number_or k.1;
     }
 
 machine_roles : (bytes : List ℕ) (at : ℕ) (old new : Names_data) (machine : Machine_data) (until : ℕ) → SpellsMachine bytes at old new machine until → new.roles ≡ old.roles
@@ -151,7 +152,7 @@ derivation_role bytes at old new derivation until s =
       word = second_sign bytes at s.lexemes (s.behind ∷ s.others) (plain (codes "derivation")) (plain s.tree.role) _ refl s.spelt (are_lexed bytes (s.lexemes ++ s.behind ∷ s.others) at s.tokens);
       known = p.1;
       bounded = omega (arith, lt);
-      is = ap (λ (d : Derivation_data). d.role.0) s.derivation_is ∙ ap (λ (z : Names_data). number_or (place_of s.tree.role z.roles)) s.names_are ∙ ap number_or p.1;
+      place_is = ap (λ (d : Derivation_data). d.role.0) s.derivation_is ∙ ap (λ (z : Names_data). number_or (place_of s.tree.role z.roles)) s.names_are ∙ ap number_or p.1;
     }
 
 derivation_roles : (bytes : List ℕ) (at : ℕ) (old new : Names_data) (derivation : Derivation_data) (until : ℕ) → SpellsDerivation bytes at old new derivation until → new.roles ≡ old.roles

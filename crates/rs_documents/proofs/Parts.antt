@@ -5,7 +5,8 @@ use Rattle.std.specs.Prelude.{◌||◌}
 use Rattle.std.specs.Str.{bytes_eq}
 use Rattle.std.proofs.lemmas.Slice.Eq.{bytes_eq-Decides}
 use Rattle.rs_documents.specs.Parts.{PartKind, NextTokenIs, no_parts, parts_with, IsTwice, PartsRead, GoesOn, Stops, Repeats, Fails, Adds}
-use Rattle.rs_documents.specs.Reading.{is_this_word, is_held, place_named, twice_by, twice_of, AllHave, StandInPlace, AreGood, AreHeld, free_in, LeadsBack, IsAdded}
+use Rattle.rs_documents.specs.Reading.{is_this_word, is_held, place_named, twice_by, twice_of, AreGood, free_in, LeadsBack, IsAdded}
+use Rattle.rs_documents.specs.Ready.{AllHave, StandInPlace, AreHeld}
 use Rattle.rs_model.specs.Data.{Names_data}
 use Rattle.rs_model.specs.declared.graph.Role.{Role}
 use Rattle.rs_model.specs.declared.limits.TheConstants.{MOST_LABELS}
@@ -148,7 +149,7 @@ pub record RoleStands (bytes : List ℕ) (at : ℕ) (names : Names_data) (role :
   pub word : NextTokenIs bytes (next_lexeme bytes at).until (plain name)
   pub known : place_of name names.roles ≡ Some place
   pub bounded : place < length names.roles
-  pub is : role.0 ≡ place
+  pub place_is : role.0 ≡ place
 
 abbrev IsFree : {A : Type 0} → List ℕ → Names_data → List (Option A) → ℕ → Type 0
 IsFree bytes names parts at = (second : ℕ) → IsTwice bytes names parts at second → ⊥
@@ -166,14 +167,14 @@ pub slot_free : {A : Type 0} (bytes : List ℕ) (at : ℕ) (names : Names_data) 
     → IsFree bytes names parts at → slice_get parts role.0 ≡ Some None
 slot_free bytes at names parts role r size never =
     let lt : r.place < length names.roles = r.bounded in
-    ap (slice_get parts) r.is ∙ free_by bytes names parts at r.place r.name (slice_get parts r.place) r.word r.known (omega (arith, size, lt)) refl never
+    ap (slice_get parts) r.place_is ∙ free_by bytes names parts at r.place r.name (slice_get parts r.place) r.word r.known (omega (arith, size, lt)) refl never
 
 -- a role that has a part has it where the second token says
 pub twice_of_role : {A : Type 0} (bytes : List ℕ) (at : ℕ) (names : Names_data) (parts : List (Option A)) (role : Role) (part : A) → RoleStands bytes at names role
     → slice_get parts role.0 ≡ Some (Some part)
     → IsTwice bytes names parts at (second_of bytes at).from
 twice_of_role bytes at names parts role part r h =
-    record { name = r.name; word = r.word; place = r.place; role = r.known; part = part; has = ap (slice_get parts) (sym r.is) ∙ h; stands = refl }
+    record { name = r.name; word = r.word; place = r.place; role = r.known; part = part; has = ap (slice_get parts) (sym r.place_is) ∙ h; stands = refl }
 
 -- a role that has a part has it only where the second token says
 pub role_of_twice : {A : Type 0} (bytes : List ℕ) (at second : ℕ) (names : Names_data) (parts : List (Option A)) (role : Role) → RoleStands bytes at names role → IsTwice bytes names parts at second
@@ -183,7 +184,7 @@ role_of_twice bytes at second names parts role r t =
     let name : r.name ≡ t.name = cc in
     let same : Some r.place ≡ Some t.place = sym r.known ∙ ap (λ z. place_of z names.roles) name ∙ t.role in
     let place : r.place ≡ t.place = cc in
-    (t.part, ap (slice_get parts) (r.is ∙ place) ∙ t.has)
+    (t.part, ap (slice_get parts) (r.place_is ∙ place) ∙ t.has)
 
 -- lists of parts
 pub free_less : {A : Type 0} (parts : List (Option A)) (k : ℕ) (m : A) → slice_get parts k ≡ Some None → free_in (slice_set parts k (Some m)) < free_in parts
@@ -293,7 +294,7 @@ one_row kind i bytes at names parts x y few (Adds a u n v m r w e z h j) (Adds b
 
 pub record SomeRow {A : Type 0} (kind : PartKind A) (bytes : List ℕ) (at : ℕ) (names : Names_data) (parts : List (Option A)) : Type 0 where
   pub row : Result (PartsRead A) TextFault
-  pub is : GoesOn kind bytes at names parts row
+  pub goes_on : GoesOn kind bytes at names parts row
 
 abbrev Again : {A : Type 0} → PartKind A → List ℕ → ℕ → Type 0
 Again {A} kind bytes n =
@@ -304,7 +305,7 @@ by_role : {A : Type 0} (kind : PartKind A) (i : IsKind kind) (n : ℕ) (bytes : 
     → at ≤ length bytes → length parts ≡ length names.roles → length names.labels ≤ MOST_LABELS
     → NextTokenIs bytes at (plain kind.word) → (o : Option ℕ) → twice_of names parts (second_of bytes at) ≡ o → SomeRow kind bytes at names parts
 by_role kind i n bytes at names parts again lt le size few word (Some second) e =
-    record { row = fault_of fault.NameTwice second; is = Repeats at second names parts word (twice_is bytes names parts at second e) }
+    record { row = fault_of fault.NameTwice second; goes_on = Repeats at second names parts word (twice_is bytes names parts at second e) }
 by_role {A} kind i n bytes at names parts again lt le size few word None e = elim (i.either bytes at names few le) [
   | inl h ↦
       let never = none_twice bytes names parts at e in
@@ -313,8 +314,8 @@ by_role {A} kind i n bytes at names parts again lt le size few word None e = eli
       let same : h.0.roles ≡ names.roles = i.roles bytes at names h.0 h.1 h.2 h.3 in
       let rest = again h.2 h.0 (parts_with kind parts h.1) (omega (arith, lt, less)) (i.within bytes at names h.0 h.1 h.2 le h.3)
       (set_size parts (kind.role_of h.1).0 (Some h.1) ∙ size ∙ ap length (sym same)) (i.bounded bytes at names h.0 h.1 h.2 few h.3) in
-      record { row = rest.row; is = Adds at h.2 names h.0 parts h.1 rest.row word never h.3 rest.is }
-  | inr f ↦ record { row = fault_of f.0 f.1; is = Fails at f.1 names parts f.0 word (none_twice bytes names parts at e) f.2 }
+      record { row = rest.row; goes_on = Adds at h.2 names h.0 parts h.1 rest.row word never h.3 rest.goes_on }
+  | inr f ↦ record { row = fault_of f.0 f.1; goes_on = Fails at f.1 names parts f.0 word (none_twice bytes names parts at e) f.2 }
 ]
 
 by_word : {A : Type 0} (kind : PartKind A) (i : IsKind kind) (n : ℕ) (bytes : List ℕ) (at : ℕ) (names : Names_data) (parts : List (Option A)) → Again kind bytes n → free_in parts < suc n
@@ -323,7 +324,7 @@ by_word : {A : Type 0} (kind : PartKind A) (i : IsKind kind) (n : ℕ) (bytes : 
 by_word kind i n bytes at names parts again lt le size few true e =
     by_role kind i n bytes at names parts again lt le size few (word_is kind.word (next_lexeme bytes at).sign e) (twice_of names parts (second_of bytes at)) refl
 by_word kind i n bytes at names parts again lt le size few false e =
-    record { row = Ok (record { names = names; parts = parts; until = at }); is = Stops at names parts (word_isnt kind.word (next_lexeme bytes at).sign e) }
+    record { row = Ok (record { names = names; parts = parts; until = at }); goes_on = Stops at names parts (word_isnt kind.word (next_lexeme bytes at).sign e) }
 
 some_row_by : {A : Type 0} (kind : PartKind A) (i : IsKind kind) (n : ℕ) (bytes : List ℕ) (at : ℕ) (names : Names_data) (parts : List (Option A)) → free_in parts < n → at ≤ length bytes
     → length parts ≡ length names.roles → length names.labels ≤ MOST_LABELS

@@ -75,19 +75,19 @@ printed_known kind by names (Some part ∷ parts) text labels h l a =
 -- what begins there: one of them, or what stands behind them
 pub record Beginning (word : List ℕ) (sign : Sign) (text : List ℕ) : Type 0 where
   pub own : Sign
-  pub is : (own ≡ plain word) ⊎ (own ≡ sign)
+  pub word_is : (own ≡ plain word) ⊎ (own ≡ sign)
   pub begins : Begins own text
 
 pub printed_begins : {A : Type 0} (kind : PartKind A) (by : (ℕ → ℕ) → A → A) (names : Names_data) (parts : List (Option A)) (text : List ℕ) (labels : List (List ℕ)) (behind : List ℕ) (sign : Sign)
     → ArePrinted kind by names parts text labels → Begins sign behind → Beginning kind.word sign (text ++ behind)
-printed_begins kind by names [] text labels behind sign h b = record { own = sign; is = inr refl; begins = subst (λ (z : List ℕ). Begins sign (z ++ behind)) (sym h.0) b }
+printed_begins kind by names [] text labels behind sign h b = record { own = sign; word_is = inr refl; begins = subst (λ (z : List ℕ). Begins sign (z ++ behind)) (sym h.0) b }
 printed_begins kind by names (None ∷ parts) text labels behind sign h b = printed_begins kind by names parts text labels behind sign h b
 printed_begins kind by names (Some part ∷ parts) text labels behind sign h b =
     let own = h.4.begins in
     let rest : List ℕ = own.0 in
     let all : (h.0 ++ h.1) ++ behind ≡ kind.word ++ (codes " " ++ (rest ++ (h.1 ++ behind)))
     = append_assoc h.0 h.1 behind ∙ ap (λ (z : List ℕ). z ++ (h.1 ++ behind)) own.2 ∙ append_assoc kind.word (codes " " ++ rest) (h.1 ++ behind) in
-    record { own = plain kind.word; is = inl refl; begins = (rest ++ (h.1 ++ behind), own.1, ap (λ (z : List ℕ). z ++ behind) h.6 ∙ all) }
+    record { own = plain kind.word; word_is = inl refl; begins = (rest ++ (h.1 ++ behind), own.1, ap (λ (z : List ℕ). z ++ behind) h.6 ∙ all) }
 
 -- ---- places
 

@@ -3,7 +3,8 @@ use Rattle.std.proofs.Common.{◌≡◌, ◌⊎◌, ℕ, ◌≤◌, ◌+◌, Lis
 use Rattle.rs_derive.specs.Data.{Derivation_data}
 use Rattle.rs_documents.specs.Documents.{SpellsFront, SpellsParts, SpellsDocument, fault_behind, wanted_behind, FirstFault, InProtocol, InMachines, InDerivations, BehindParts}
 use Rattle.rs_documents.specs.Parts.{GoesOn, machine_parts, derivation_parts, no_parts}
-use Rattle.rs_documents.specs.Reading.{AreGood, DerivationsAreHeld, DocumentIsReady, MachinesAreHeld}
+use Rattle.rs_documents.specs.Reading.{AreGood, MachinesAreHeld}
+use Rattle.rs_documents.specs.Ready.{DerivationsAreHeld, DocumentIsReady}
 use Rattle.rs_documents.proofs.OneDocument.{document_is, nothing_behind}
 use Rattle.rs_documents.proofs.Parts.{good, row_of}
 use Rattle.rs_global.specs.Faults as of_protocols

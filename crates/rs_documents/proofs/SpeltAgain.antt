@@ -16,7 +16,7 @@ use Rattle.rs_documents.specs.Again.{CanBeReadAgain, StandInPlaces}
 use Rattle.rs_documents.specs.Data.{Document_data}
 use Rattle.rs_documents.specs.Documents.{SpellsDocument}
 use Rattle.rs_documents.specs.Parts.{PartKind, PartsRead, GoesOn, Stops, Repeats, Fails, Adds, parts_with, machine_parts, derivation_parts, no_parts}
-use Rattle.rs_documents.specs.Reading.{StandInPlace}
+use Rattle.rs_documents.specs.Ready.{StandInPlace}
 use Rattle.rs_documents.proofs.CanShow.{can_show, kept}
 use Rattle.rs_documents.proofs.OneDocument.{front_few}
 use Rattle.rs_documents.proofs.PartKinds.{machine_line, of_derivations, of_machines}

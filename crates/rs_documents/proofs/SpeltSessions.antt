@@ -4,7 +4,7 @@ use Rattle.rs_derive.specs.Data.{Derivation_data}
 use Rattle.rs_documents.specs.Data.{Document_data}
 use Rattle.rs_documents.specs.Documents.{SpellsDocument}
 use Rattle.rs_documents.specs.Parts.{machine_parts, derivation_parts, no_parts}
-use Rattle.rs_documents.specs.Reading.{AreInPlace, StandInPlace}
+use Rattle.rs_documents.specs.Ready.{AreInPlace, StandInPlace}
 use Rattle.rs_documents.proofs.CanShow.{showable}
 use Rattle.rs_documents.proofs.PartKinds.{of_machines, of_derivations}
 use Rattle.rs_documents.proofs.Parts.{good, keeps, none_there, row_of, size_of_none}

@@ -1,4 +1,4 @@
--- Believed: which documents are read again from their canonical text, and as what.
+-- Public: which documents are read again from their canonical text, and as what.
 use Rattle.std.specs.Prelude.{◌≡◌, ℕ, ◌<◌, ◌≤◌, List, [], ◌∷◌, ◌++◌, length, map, Option, Some, None, option_map, slice_get}
 use Rattle.std.specs.List.{flat_map}
 use Rattle.rs_derivations.specs.Canonical.{tree_of}

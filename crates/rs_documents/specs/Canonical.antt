@@ -1,4 +1,4 @@
--- Believed: the canonical text of a document.
+-- Public: the canonical text of a document.
 use Rattle.std.specs.Prelude.{◌≡◌, ℕ, List, [], ◌∷◌, ◌++◌, Option, Some, None, slice_get}
 use Rattle.std.specs.List.{flat_map}
 use Rattle.rs_derivations.specs.Canonical.{canonical_text}

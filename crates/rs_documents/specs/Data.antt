@@ -1,4 +1,4 @@
--- Believed: what contracts see of documents.
+-- Public: what contracts see of documents.
 use Rattle.std.specs.Prelude.{List, Option}
 use Rattle.rs_derive.specs.Data.{Derivation_data}
 use Rattle.rs_model.specs.Data.{Names_data, Protocol_data, Machine_data}

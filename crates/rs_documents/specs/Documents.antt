@@ -1,4 +1,4 @@
--- Believed: what a text spells as a document, and its first fault.
+-- Public: what a text spells as a document, and its first fault.
 use Rattle.std.specs.Prelude.{◌≡◌, ℕ, List, Option, Some, None, Ok, Err, ◌==◌, if◌then◌else◌}
 use Rattle.rs_documents.specs.Data.{Document_data}
 use Rattle.rs_documents.specs.Parts.{NextTokenIs, no_parts, PartsRead, GoesOn, machine_parts, derivation_parts}

@@ -5,3 +5,4 @@ pub mod Documents
 pub mod Parts
 pub mod Reading
 pub mod Spells
+pub mod Ready

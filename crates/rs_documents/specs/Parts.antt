@@ -1,4 +1,4 @@
--- Believed: parts of one kind, one behind the other, as many as stand there.
+-- Public: parts of one kind, one behind the other, as many as stand there.
 use Rattle.std.specs.Prelude.{◌≡◌, ℕ, List, codes, map, Option, Some, None, Result, Ok, Err, slice_get, slice_set}
 use Rattle.rs_derivations.specs.Faults as of_derivations
 use Rattle.rs_derivations.specs.Spells.{SpellsDerivation}

@@ -1,4 +1,4 @@
--- Believed: which protocol and machines a text spells.
+-- Headline: which protocol and machines a text spells.
 use Rattle.std.specs.Prelude.{◌≡◌, ◌⊎◌, ℕ, List, codes, map, Option, Some, None, slice_get, slice_set}
 use Rattle.rs_model.specs.Data.{Names_data, Protocol_data, Machine_data}
 use Rattle.rs_model.specs.declared.graph.Role.{Role}

@@ -3,7 +3,8 @@
 ghost use Rattle.rs_documents.specs.Documents.{FirstFault, SpellsDocument, fault_behind, wanted_behind};
 ghost use Rattle.rs_documents.specs.Parts.{GoesOn, PartsRead, NextTokenIs, derivation_parts, machine_parts, no_parts, parts_with};
 ghost use Rattle.rs_documents.specs.Reading as spec;
-ghost use Rattle.rs_documents.specs.Reading.{AreGood, DerivationsAreHeld, IsAdded, IsBounded, DocumentIsReady, IsShort, MachinesAreHeld, role_at};
+ghost use Rattle.rs_documents.specs.Reading.{AreGood, IsAdded, MachinesAreHeld, role_at};
+ghost use Rattle.rs_documents.specs.Ready.{DerivationsAreHeld, IsBounded, DocumentIsReady, IsShort};
 ghost use Rattle.rs_text.specs.Lexing.{next_lexeme};
 ghost use Rattle.rs_text.specs.Signs.{plain};
 ghost use Rattle.rs_text.specs.declared.faults.TextKind.TheVariants as kind;

@@ -15,7 +15,7 @@ use Rattle.rs_model.specs.declared.values.Value.{Value}
 use Rattle.rs_core.specs.Choices.{AreWellFormed}
 use Rattle.rs_core.specs.Configurations.{state_at, state_of}
 use Rattle.rs_core.specs.Core.{configuration_of}
-use Rattle.rs_core.specs.Turns.{CanChoose}
+use Rattle.rs_core.specs.Choosable.{CanChoose}
 use Rattle.rs_core.proofs.Ends.{get_there}
 use Rattle.rs_safety.specs.Accepting.{Accepted_data, IsAcceptedSession}
 use Rattle.rs_rings.proofs.Seats.{first_part_is, first_speaks}
@@ -134,7 +134,7 @@ module _ (session : Rings_data) where
     pub noted : StayNoted (notes_of v) (notes_of w)
 
   pub full_by : (r : ℕ) (v w : View) (peer : Role) (arms : List Arm) (sent taken : ℕ) (x back : Parcel) → AreWellFormed ms → ((y : ℕ) → y < length ms → SpeaksFor v y) → r < length ms
-      → state_of (slice_get ms r) (state_in v r) ≡ Some (Puts peer arms) → passes.RingIsFull session.capacity r peer.0 x sent taken back v w → FullBy r v w peer
+      → state_of (slice_get ms r) (state_in v r) ≡ Some (Puts peer arms) → passes.RingIsFull ms session.capacity r peer.0 x sent taken back v w → FullBy r v w peer
   full_by r v w peer arms sent taken x back wf speaks there stands full =
       let s : ℕ = state_in v r in
       let at = here_is (slice_get ms r) s (Puts peer arms) stands in
@@ -163,7 +163,7 @@ module _ (session : Rings_data) where
 
   pub got_by : (r : ℕ) (v w : View) (peer : Role) (arms : List Arm) (x : Parcel) → AreWellFormed ms → ((y : ℕ) → y < length ms → SpeaksFor v y) → r < length ms
       → state_of (slice_get ms r) (state_in v r) ≡ Some (Takes peer arms)
-      → ParcelIsTaken ms r peer.0 x v w → GotBy r v w peer x arms
+      → ParcelIsTaken ms session.capacity r peer.0 x v w → GotBy r v w peer x arms
   got_by r v w peer arms x wf speaks there stands take =
       let s : ℕ = state_in v r in
       let at = here_is (slice_get ms r) s (Takes peer arms) stands in
@@ -198,7 +198,7 @@ module _ (session : Rings_data) where
 
   pub none_by : (r : ℕ) (v w : View) (peer : Role) (arms : List Arm) (seen : ℕ) → AreWellFormed ms → ((y : ℕ) → y < length ms → SpeaksFor v y) → r < length ms
       → state_of (slice_get ms r) (state_in v r) ≡ Some (Takes peer arms)
-      → IsEmpty r peer.0 seen v w → NoneBy r v w peer
+      → IsEmpty ms r peer.0 seen v w → NoneBy r v w peer
   none_by r v w peer arms seen wf speaks there stands empty =
       let s : ℕ = state_in v r in
       let at = here_is (slice_get ms r) s (Takes peer arms) stands in

@@ -1,5 +1,6 @@
 -- Who plays the history of a task's role before a turn plays it after the turn.
 use Rattle.std.proofs.Common.{◌≡◌, ◌≢◌, ⊎_elim, ℕ, List, [], ◌∷◌, ◌++◌, Option, Some, None, slice_get, refl, sym, ap, ◌∙◌, subst}
+use Rattle.std.proofs.lemmas.Option.{same_Some}
 use Rattle.rs_model.specs.Data.{Machine_data}
 use Rattle.rs_model.specs.declared.graph.Arm.{Arm}
 use Rattle.rs_model.specs.declared.graph.Role.{Role}
@@ -14,7 +15,7 @@ use Rattle.rs_rings.specs.Views.{start_of}
 use Rattle.rs_session.specs.Data.{Stage_data}
 use Rattle.rs_session.specs.Stages.{first_stage, sight_of_stage, state_of_stage}
 use Rattle.rs_exec.specs.Data.{Task_data}
-use Rattle.rs_exec.specs.Tasks.{PlaysStage, PlaysTask, TaskReceives, TaskSends, TaskTurnTells, WaitsToReceive, WaitsToSend}
+use Rattle.rs_exec.specs.Tasks.{PlaysStage, PlaysTask, PlaysUpTo, RunsMachine, TaskReceives, TaskSends, TaskTurnTells, WaitsToReceive, WaitsToSend}
 use Rattle.rs_exec.specs.declared.tasks.Turn.{Turn}
 use Rattle.rs_exec.specs.declared.tasks.Turn.TheVariants as turn
 use Rattle.rs_exec.specs.declared.tasks.Why.TheVariants as why
@@ -142,16 +143,39 @@ module _ {A : Type 0} (b : Behaviour A) where
     plays_on old new turn.AtLimit ne tells so = same_task old new tells.0.same so
     plays_on old new turn.NoMemory ne tells so = absurd (ne refl)
 
+  pub plays_nothing_yet : (session : Rings_data) (machine : Machine_data) (task : Task_data A) → RunsMachine session (sight_of_stage task.stage) machine
+      → (sight_of_stage task.stage).part.history ≡ [] → (sight_of_stage task.stage).part.state ≡ machine.start → task.kept ≡ None → PlaysTask session b task.actor task
+  plays_nothing_yet session machine task runs none start kept = record {
+    machine = machine;
+    actor = task.actor;
+    runs = runs;
+    plays = subst (λ (k : History × ℕ). PlaysFrom b machine machine.start task.actor k.0 k.1 task.actor) (λ i. (sym none i, sym start i)) (refl, refl);
+    keeps = subst (λ (k : Option Choice). KeepsChoice b machine (sight_of_stage task.stage).part.state task.actor k task.actor) (sym kept) refl;
+  }
+
+  -- so it is of a first stage
   pub plays_nothing : (session : Rings_data) (r : ℕ) (machine : Machine_data) (task : Task_data A) → slice_get session.machines r ≡ Some machine → sight_of_stage task.stage ≡ first_stage session r
       → task.kept ≡ None → PlaysTask session b task.actor task
   plays_nothing session r machine task runs first kept =
-      subst (λ (k : Stage_data × Option Choice). PlaysStage session b task.actor k.0 k.1 task.actor) (λ i. (sym first i, sym kept i)) record {
-        machine = machine;
-        actor = task.actor;
-        runs = runs;
-        plays = (ap start_of (sym runs), refl);
-        keeps = refl;
-      }
+      plays_nothing_yet session machine task (ap (λ (k : Stage_data). slice_get session.machines k.role.0) first ∙ runs) (ap (λ (k : Stage_data). k.part.history) first)
+      (ap (λ (k : Stage_data). k.part.state) first ∙ ap start_of runs) kept
 
   pub plays_history : (session : Rings_data) (x : A) (task : Task_data A) → (so : PlaysTask session b x task) → Plays b so.machine x (sight_of_stage task.stage).part.history task.kept task.actor
   plays_history session x task so = record { state = (sight_of_stage task.stage).part.state; actor = so.actor; plays = so.plays; keeps = so.keeps }
+
+  -- who plays up to the stage, plays so after a turn
+  pub task_up_to : (session : Rings_data) (machine : Machine_data) (x : A) (task : Task_data A) → RunsMachine session (sight_of_stage task.stage) machine → PlaysUpTo b machine x task
+      → PlaysTask session b x task
+  task_up_to session machine x task runs so = record {
+    machine = machine;
+    actor = so.0.actor;
+    runs = runs;
+    plays = subst (λ (s : ℕ). PlaysFrom b machine machine.start x (sight_of_stage task.stage).part.history s so.0.actor) so.1 so.0.plays;
+    keeps = subst (λ (s : ℕ). KeepsChoice b machine s so.0.actor task.kept task.actor) so.1 so.0.keeps;
+  }
+
+  pub up_to_task : (session : Rings_data) (machine : Machine_data) (x : A) (task : Task_data A) → RunsMachine session (sight_of_stage task.stage) machine → PlaysTask session b x task
+      → PlaysUpTo b machine x task
+  up_to_task session machine x task runs so =
+      let here : PlaysUpTo b so.machine x task = (record { state = (sight_of_stage task.stage).part.state; actor = so.actor; plays = so.plays; keeps = so.keeps }, refl) in
+      subst (λ (m : Machine_data). PlaysUpTo b m x task) (same_Some so.machine machine (sym so.runs ∙ runs)) here

@@ -191,14 +191,15 @@ module _ {A : Type 0} (b : Behaviour A) (session : Rings_data) where
       → RunShows e xs out left
       → IsSessionOfRun ms b actors limit closed out left
   session_of_run limit actors view e xs closed out left some wf h noted em ev spent shows =
-      let is : closed ≡ record { machines = ms; last = view } = λ i. record { machines = em i; last = ev i } in
+      let is : closed ≡ record { machines = ms; capacity = closed.capacity; last = view } = λ i. record { machines = em i; capacity = closed.capacity; last = ev i } in
       subst (λ (z : Closed_data). IsSessionOfRun ms b actors limit z out left) (sym is) (by e (has_run limit actors view e xs some h noted) (subst (λ (z : Closed_data). IsSpent e z) is spent) shows)
     where
-      by : (e : End) → HasRun limit actors view e xs → IsSpent e (record { machines = ms; last = view }) → RunShows e xs out left
-          → IsSessionOfRun ms b actors limit record { machines = ms; last = view } out left
+      by : (e : End) → HasRun limit actors view e xs → IsSpent e (record { machines = ms; capacity = closed.capacity; last = view }) → RunShows e xs out left
+          → IsSessionOfRun ms b actors limit record { machines = ms; capacity = closed.capacity; last = view } out left
       by (end.Full sender receiver) r o shows = absurd (shows)
       by end.Ended r o shows =
-          let base : IsSessionOfRun ms b actors limit record { machines = ms; last = view } (outcome.Ended (map (λ (x : Player A). x.transcript) xs)) (map (λ (x : Player A). x.actor) xs) = record {
+          let base : IsSessionOfRun ms b actors limit record { machines = ms; capacity = closed.capacity; last = view } (outcome.Ended (map (λ (x : Player A). x.transcript) xs))
+          (map (λ (x : Player A). x.actor) xs) = record {
             same_machines = refl;
             end = o.end;
             legal = o.legal;
@@ -206,12 +207,12 @@ module _ {A : Type 0} (b : Behaviour A) (session : Rings_data) where
             played = have_played limit actors view end.Ended xs o.end wf r o.legal;
             comes_to = (o.ended, has_transcripts limit actors view end.Ended xs r);
           } in
-          subst (λ (z : Outcome × List A). IsSessionOfRun ms b actors limit record { machines = ms; last = view } z.0 z.1) (λ i. (sym shows.0 i, sym shows.1 i)) base
+          subst (λ (z : Outcome × List A). IsSessionOfRun ms b actors limit record { machines = ms; capacity = closed.capacity; last = view } z.0 z.1) (λ i. (sym shows.0 i, sym shows.1 i)) base
       by (end.Stopped role) r o shows =
           let halt = halted limit actors view role xs o.end wf r o.legal o.states in
           let least = halt.least in
           let most = few_acts limit actors view (end.Stopped role) xs o.end wf r o.legal role.0 halt.present in
-          let base : IsSessionOfRun ms b actors limit record { machines = ms; last = view } (outcome.Stopped role) (map (λ (x : Player A). x.actor) xs) = record {
+          let base : IsSessionOfRun ms b actors limit record { machines = ms; capacity = closed.capacity; last = view } (outcome.Stopped role) (map (λ (x : Player A). x.actor) xs) = record {
             same_machines = refl;
             end = o.end;
             legal = o.legal;
@@ -219,4 +220,4 @@ module _ {A : Type 0} (b : Behaviour A) (session : Rings_data) where
             played = have_played limit actors view (end.Stopped role) xs o.end wf r o.legal;
             comes_to = record { present = halt.present; acts = omega (arith, least, most); goes_on = halt.goes_on };
           } in
-          subst (λ (z : Outcome × List A). IsSessionOfRun ms b actors limit record { machines = ms; last = view } z.0 z.1) (λ i. (sym shows.0 i, sym shows.1 i)) base
+          subst (λ (z : Outcome × List A). IsSessionOfRun ms b actors limit record { machines = ms; capacity = closed.capacity; last = view } z.0 z.1) (λ i. (sym shows.0 i, sym shows.1 i)) base

@@ -1,4 +1,4 @@
--- Believed: what contracts see of a task.
+-- Public: what contracts see of a task.
 use Rattle.std.specs.Prelude.{ℕ, Bool, List, Option}
 use Rattle.rs_core.specs.Actors.{Choice}
 use Rattle.rs_core.specs.declared.transcripts.Entry.{Entry}

@@ -1,4 +1,4 @@
--- Believed: what a run hands out beside its outcome: the session over rings that it went through.
+-- Public: what a run hands out beside its outcome: the session over rings that it went through.
 use Rattle.std.specs.Prelude.{◌≡◌, ◌≢◌, ℕ, ◌<◌, ◌≤◌, List, length, Option, Some, slice_get}
 use Rattle.rs_model.specs.Data.{Machine_data}
 use Rattle.rs_model.specs.declared.machines.State.TheVariants.{Done}

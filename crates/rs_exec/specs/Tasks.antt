@@ -1,9 +1,9 @@
--- Believed: what contracts see of tasks, and what a turn of a task tells.
+-- Public: what contracts see of tasks, and what a turn of a task tells.
 use Rattle.std.specs.Prelude.{◌≡◌, ◌⊎◌, ℕ, ◌<◌, ◌≤◌, true, false, [], ◌∷◌, ◌++◌, length, Option, Some, None, IfSome, slice_get}
 use Rattle.rs_model.specs.Data.{Machine_data}
 use Rattle.rs_model.specs.declared.graph.Role.{Role}
 use Rattle.rs_model.specs.declared.values.Value.{Value}
-use Rattle.rs_core.specs.Actors.{Behaviour, Choice, KeepsChoice, PlaysFrom}
+use Rattle.rs_core.specs.Actors.{Behaviour, Choice, KeepsChoice, Plays, PlaysFrom}
 use Rattle.rs_core.specs.Plain.{offer_of}
 use Rattle.rs_core.specs.declared.transcripts.Entry.TheVariants as entry
 use Rattle.rs_rings.specs.Passes.{Rings_data}
@@ -133,3 +133,13 @@ pub record PlaysStage {A : Type 0} (session : Rings_data) (b : Behaviour A) (x :
 -- actor x plays the history of the task's role and has become the task's actor
 abbrev pub PlaysTask : {A : Type 0} → Rings_data → Behaviour A → A → Task_data A → Type 0
 PlaysTask session b x task = PlaysStage session b x (sight_of_stage task.stage) task.kept task.actor
+
+-- the stage's role has this machine
+abbrev pub RunsMachine : Rings_data → Stage_data → Machine_data → Type 0
+RunsMachine session stage machine = slice_get session.machines stage.role.0 ≡ Some machine
+
+-- actor x plays the history of the task's role with this machine, and has become the task's actor; it comes so to the state at
+-- which the stage stands
+abbrev pub PlaysUpTo : {A : Type 0} → Behaviour A → Machine_data → A → Task_data A → Type 0
+PlaysUpTo b machine x task =
+    (so : Plays b machine x (sight_of_stage task.stage).part.history task.kept task.actor) × (so.state ≡ (sight_of_stage task.stage).part.state)

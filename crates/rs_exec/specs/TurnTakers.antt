@@ -1,4 +1,4 @@
--- Steps: what a task keeps at run time.
+-- Public: what a task keeps at run time.
 use Rattle.std.specs.Prelude.{◌≡◌, ◌≤◌, [], length, Option, Some, None, IsSome, vec_capacity}
 use Rattle.rs_core.specs.Histories.{transcript_of}
 use Rattle.rs_rings.specs.Acts.{role_of_number}

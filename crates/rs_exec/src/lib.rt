@@ -10,6 +10,6 @@ mod runs;
 mod tasks;
 
 pub use inline::run_inline;
-pub use polling::{RoleFuture, SessionName, SessionTask};
+pub use polling::{RoleFuture, SessionTask, TaskName};
 pub use runs::Ran;
 pub use tasks::{RoleTask, Turn, Why};

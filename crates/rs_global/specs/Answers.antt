@@ -1,4 +1,4 @@
--- Steps: what the reader of bodies makes of a protocol's text.
+-- Public: what the reader of bodies makes of a protocol's text.
 use Rattle.std.specs.Prelude.{ℕ, List, Result}
 use Rattle.rs_model.specs.Data.{Protocol_data}
 use Rattle.rs_text.specs.declared.faults.TextFault.{TextFault}

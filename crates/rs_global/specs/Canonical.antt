@@ -1,4 +1,4 @@
--- Believed: the canonical text of a protocol, and which protocols have one.
+-- Public: the canonical text of a protocol, and which protocols have one.
 use Rattle.std.specs.Prelude.{ℕ, List, take}
 use Rattle.rs_model.specs.Data.{Protocol_data, Names_data}
 use Rattle.rs_bodies.specs.CanonicalGraphs.{IsCanonicalTree, IsCanonicalGraphText}

@@ -1,4 +1,4 @@
--- Believed: names that are enough for a protocol.
+-- Public: names that are enough for a protocol.
 use Rattle.std.specs.Prelude.{◌≡◌, ℕ, ◌<◌, List, length, Some, slice_get}
 use Rattle.rs_model.specs.Data.{Protocol_data, Names_data}
 use Rattle.rs_model.specs.declared.graph.Arm.{Arm}

@@ -1,4 +1,4 @@
--- Believed: the first fault of a text.
+-- Public: the first fault of a text.
 use Rattle.std.specs.Prelude.{ℕ, List}
 use Rattle.rs_text.specs.declared.faults.TextKind.{TextKind}
 use Rattle.rs_text.specs.FirstFaults.{FirstFaultBy}

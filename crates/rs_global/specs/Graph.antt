@@ -1,4 +1,4 @@
--- Believed: the protocol that a tree spells.
+-- Headline: the protocol that a tree spells.
 use Rattle.std.specs.Prelude.{ℕ, List, [], ◌∷◌, ◌++◌, length, Bool, true, false}
 use Rattle.rs_model.specs.Data.{Protocol_data, Names_data}
 use Rattle.rs_model.specs.declared.graph.Arm.{Arm}

@@ -1,4 +1,4 @@
--- Believed: protocols as the graphs that parts spell.
+-- Public: protocols as the graphs that parts spell.
 use Rattle.rs_model.specs.Data.{Protocol_data, Names_data}
 use Rattle.rs_bodies.specs.declared.dialects.Dialect.TheVariants.{Talks}
 use Rattle.rs_bodies.specs.GraphKinds as bodies

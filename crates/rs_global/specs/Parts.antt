@@ -1,4 +1,4 @@
--- Believed: the protocol that the reader makes of what a part spells.
+-- Public: the protocol that the reader makes of what a part spells.
 use Rattle.std.specs.Prelude.{ℕ, List, ◌++◌, length, map}
 use Rattle.rs_model.specs.Data.{Protocol_data, Names_data}
 use Rattle.rs_model.specs.declared.graph.Arm.{Arm}

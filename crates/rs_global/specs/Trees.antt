@@ -1,8 +1,7 @@
--- Believed: how texts of the protocol grammar are built.
-use Rattle.std.specs.Prelude.{ℕ, List}
+-- Public: how texts of the protocol grammar are built.
+use Rattle.std.specs.Prelude.{List}
 use Rattle.rs_text.specs.Signs.{Sign}
 use Rattle.rs_bodies.specs.declared.dialects.Dialect.TheVariants.{Talks}
-use Rattle.rs_bodies.specs.Openings.{roles_in}
 use Rattle.rs_bodies.specs.Spells as parts
 use Rattle.rs_bodies.specs.Spells.{Tree, tree_signs}
 use Rattle.rs_global.specs.Graph.{no_names}
@@ -14,10 +13,6 @@ ProtocolTree = Tree Talks
 -- the tokens of a protocol
 abbrev pub protocol_signs : ProtocolTree → List Sign
 protocol_signs t = tree_signs Talks t
-
--- the names of the roles, in order of the roles line
-abbrev pub roles_of : ProtocolTree → List (List ℕ)
-roles_of t = roles_in Talks no_names t.opening
 
 -- names and limits
 abbrev pub Fits : ProtocolTree → Type 0

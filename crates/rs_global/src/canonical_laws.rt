@@ -22,7 +22,8 @@ pub fn canonical_is_there()
 
 /// A protocol that some text spells has one canonical tree at most.
 pub fn canonical_tree_is_one()
-    ensures { (names : Names_data) (protocol : Protocol_data) (x y : ProtocolTree) → IsTextShaped protocol → IsCanonicalProtocolTree names protocol x → IsCanonicalProtocolTree names protocol y → x ≡ y }
+    ensures { (names : Names_data) (protocol : Protocol_data) (x y : ProtocolTree) → IsTextShaped protocol → IsCanonicalProtocolTree names protocol x
+        → IsCanonicalProtocolTree names protocol y → x ≡ y }
 {}
 
 /// A protocol that some text spells has one canonical text at most.
@@ -39,7 +40,8 @@ pub fn canonical_names_are_words()
 
 /// The canonical tree is within the limits of texts.
 pub fn canonical_tree_fits()
-    ensures { (names : Names_data) (protocol : Protocol_data) (tree : ProtocolTree) → IsTextShaped protocol → IsSound names → AreEnough names protocol → IsCanonicalProtocolTree names protocol tree → Fits tree }
+    ensures { (names : Names_data) (protocol : Protocol_data) (tree : ProtocolTree) → IsTextShaped protocol → IsSound names → AreEnough names protocol
+        → IsCanonicalProtocolTree names protocol tree → Fits tree }
 {}
 
 /// The canonical tree spells the protocol again.

@@ -3,7 +3,8 @@ use Rattle.std.proofs.Common.{◌≡◌, ◌≢◌, ◌⊎◌, inl, inr, ℕ, �
 use Rattle.std.proofs.Common.{length-append, take, map}
 use Rattle.std.proofs.lemmas.Bool.Decides.{eqb_tells}
 use Rattle.std.proofs.lemmas.List.{get_or-set_same, get_or-set_other, length-set}
-use Rattle.rs_graph.specs.Built.{IsBuilt, IsFilled}
+use Rattle.rs_graph.specs.Built.{IsBuilt}
+use Rattle.rs_graph.specs.Filling.{IsFilled}
 use Rattle.rs_graph.specs.Graphs.{Graph_data, with_end, with_move, with_result}
 use Rattle.rs_graph.specs.Lists.{Among, ArePlacesOf}
 use Rattle.std.specs.List.{sum_by}

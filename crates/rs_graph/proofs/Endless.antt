@@ -6,7 +6,8 @@ use Rattle.rs_graph.specs.Built.{IsBuilt}
 use Rattle.rs_graph.specs.Graphs.{Graph_data}
 use Rattle.rs_graph.specs.Lists.{Among}
 use Rattle.rs_graph.specs.Order.{Once}
-use Rattle.rs_graph.specs.Ranks.{Edge, IsOrdered, Ranked}
+use Rattle.rs_graph.specs.Ranks.{Edge, IsOrdered}
+use Rattle.rs_graph.specs.RanksSoFar.{Ranked}
 use Rattle.rs_graph.specs.Removal.{IsRemoval, at, moves_at}
 use Rattle.rs_graph.specs.Graphs.{moves_of}
 use Rattle.rs_graph.specs.Walks.{Walk, Here, Further, IsOnCycle, IsRank}

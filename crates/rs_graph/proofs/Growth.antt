@@ -5,7 +5,8 @@ use Rattle.std.specs.List.{list_any}
 use Rattle.std.proofs.lemmas.Option.{none-some, same_Some}
 use Rattle.rs_graph.specs.Lists.{Among, ArePlacesOf}
 use Rattle.rs_graph.specs.Order.{Once, Numbered, NoMore, Known, New, Worked, AllDone, Next}
-use Rattle.rs_graph.specs.Discovery.{Reached, Begin, Step, IsDiscovery, MoreThan, Adds, AreNamed, Grown, Growing, IsNamed}
+use Rattle.rs_graph.specs.Discovery.{Reached, Begin, Step, IsDiscovery}
+use Rattle.rs_graph.specs.Naming.{MoreThan, Adds, AreNamed, Grown, Growing, IsNamed}
 
 pub drop_here : {A : Type 0} (xs : List A) (k : ℕ) (x : A) → slice_get xs k ≡ Some x → drop k xs ≡ x ∷ drop (k + 1) xs
 drop_here [] k x g = absurd (none-some x g)

@@ -1,7 +1,7 @@
 -- One node more is worked on: what it leads to is named.
 use Rattle.std.proofs.Common.{◌≡◌, inl, inr, ℕ, ◌<◌, ◌+◌, ◌-◌, ◌++◌, ◌∷◌, [], List, Option, length, take, Some, slice_get, slice_index_or, sym, ap, ◌∙◌, arith, length-append}
 use Rattle.std.specs.List.{sum_by}
-use Rattle.rs_graph.specs.Discovery.{AreNamed, Growing}
+use Rattle.rs_graph.specs.Naming.{AreNamed, Growing}
 use Rattle.rs_graph.specs.Places.{IsPlaced, next_of}
 use Rattle.rs_graph.specs.Removal.{AreLeft, at, moves_at}
 use Rattle.rs_graph.proofs.Growth.{growing_on, reads_at}

@@ -3,7 +3,8 @@ use Rattle.std.proofs.Common.{◌≡◌, ◌≢◌, ◌⊎◌, inl, inr, ℕ, �
 use Rattle.std.proofs.lemmas.Bool.{cases_lt}
 use Rattle.std.proofs.lemmas.List.{get_or-set_same, get_or-set_other, length-set, get_or_past}
 use Rattle.rs_graph.specs.Lists.{Among}
-use Rattle.rs_graph.specs.Ranks.{Edge, RankFits, IsOrdered, Ranked}
+use Rattle.rs_graph.specs.Ranks.{Edge, IsOrdered}
+use Rattle.rs_graph.specs.RanksSoFar.{RankFits, Ranked}
 use Rattle.rs_graph.specs.Walks.{Walk, Here, Further, IsRank, IsOnCycle}
 use Rattle.rs_graph.proofs.Buckets.{got, place_in}
 use Rattle.rs_graph.proofs.Growth.{at_in, at_short}

@@ -6,7 +6,8 @@ use Rattle.std.proofs.lemmas.Bool.{cases_lt}
 use Rattle.std.proofs.lemmas.List.{get_or-set_same, get_or-set_other, length-set, get_or_default, get_or_past, length-replicate, get_or-replicate, drop_all}
 use Rattle.rs_graph.specs.Lists.{Among}
 use Rattle.rs_graph.specs.Order.{Once}
-use Rattle.rs_graph.specs.Removal.{moves_at, Leads, IsInto, at, Behind, IsRemoval, is_lost, Going, From, Rest, IsNextMove, lowered_flags, moveless}
+use Rattle.rs_graph.specs.Removal.{moves_at, Leads, IsInto, at, Behind, IsRemoval}
+use Rattle.rs_graph.specs.Removing.{is_lost, Going, From, Rest, IsNextMove, lowered_flags, moveless}
 use Rattle.rs_graph.specs.declared.graph.Move.{Move}
 use Rattle.std.specs.List.{sum_by}
 use Rattle.std.proofs.lemmas.List.Sums.{sum_by-append}

@@ -1,5 +1,5 @@
--- Believed: the graph of numbered items: of each the moves, and the numbers of their results.
-use Rattle.std.specs.Prelude.{◌≡◌, ◌≢◌, ℕ, ◌<◌, ◌≤◌, Bool, false, List, [], length, slice_index_or}
+-- Public: the graph of numbered items: of each the moves, and the numbers of their results.
+use Rattle.std.specs.Prelude.{◌≡◌, ℕ, ◌<◌, ◌≤◌, Bool, false, List, [], length, slice_index_or}
 use Rattle.rs_graph.specs.Graphs.{Graph_data}
 use Rattle.rs_graph.specs.Removal.{IsInto}
 use Rattle.rs_graph.specs.Graphs.{moves_of}
@@ -10,10 +10,3 @@ pub record IsBuilt (anys : List Bool) (rows : List (List ℕ)) (count : ℕ) (g 
   pub done : (i : ℕ) → i < count → slice_index_or g.outs i [] ≡ moves_of (slice_index_or anys i false) (slice_index_or rows i [])
   pub free : (i : ℕ) → count ≤ i → slice_index_or g.outs i [] ≡ []
   pub into : IsInto g.outs g.intos
-
--- node n has these moves, all others have what they had
-pub record IsFilled (old new : Graph_data) (n : ℕ) (moves : List (List ℕ)) : Type 0 where
-  pub size : length new.outs ≡ length old.outs
-  pub here : slice_index_or new.outs n [] ≡ moves
-  pub others : (i : ℕ) → i ≢ n → slice_index_or new.outs i [] ≡ slice_index_or old.outs i []
-  pub into : IsInto new.outs new.intos

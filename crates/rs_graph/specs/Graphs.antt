@@ -1,4 +1,4 @@
--- Believed: what contracts see of a graph.
+-- Public: what contracts see of a graph.
 use Rattle.std.specs.Prelude.{ℕ, List, [], ◌∷◌, ◌++◌, map, slice_index_or, slice_set, Bool, if◌then◌else◌, Option, None, Some}
 use Rattle.rs_graph.specs.declared.graph.Move.{Move}
 

@@ -9,3 +9,7 @@ pub mod Ranks
 pub mod Removal
 pub mod Unranked
 pub mod Walks
+pub mod Removing
+pub mod Naming
+pub mod RanksSoFar
+pub mod Filling

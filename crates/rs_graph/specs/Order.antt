@@ -1,4 +1,4 @@
--- Believed: lists without repetition, and numbers in order of discovery.
+-- Headline: lists without repetition, and numbers in order of discovery.
 use Rattle.std.specs.Prelude.{◌≡◌, ℕ, suc, ◌<◌, List, [], ◌∷◌, Some, slice_get}
 
 -- no item stands twice

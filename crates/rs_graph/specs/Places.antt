@@ -1,4 +1,4 @@
--- Believed: numbers of nodes by first discovery.
+-- Public: numbers of nodes by first discovery.
 use Rattle.std.specs.Prelude.{◌≡◌, ℕ, List, [], slice_get, slice_index_or, Option, Some}
 use Rattle.rs_graph.specs.Removal.{at}
 

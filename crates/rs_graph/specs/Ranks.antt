@@ -1,5 +1,5 @@
--- Believed: ranks over the rows of a graph, along an order in which each number stands behind all that its row leads to.
-use Rattle.std.specs.Prelude.{◌≡◌, ◌⊎◌, ℕ, suc, ◌<◌, ◌≤◌, List, [], length, Some, slice_get, slice_index_or}
+-- Public: ranks over the rows of a graph, along an order in which each number stands behind all that its row leads to.
+use Rattle.std.specs.Prelude.{◌≡◌, ℕ, ◌<◌, List, [], length, Some, slice_get, slice_index_or}
 use Rattle.rs_graph.specs.Lists.{Among}
 use Rattle.rs_graph.specs.Order.{Once}
 
@@ -18,14 +18,3 @@ pub record IsOrdered (rows : List (List ℕ)) (order : List ℕ) : Type 0 where
   pub within : (i n : ℕ) → slice_get order i ≡ Some n → n < length rows
   pub ends : (i n j : ℕ) → slice_get order i ≡ Some n → Edge rows n j → Earlier order j i
   pub once : Once order
-
--- the rank is right, as those of the row are
-pub record RankFits (row : List ℕ) (ranks : List ℕ) (rank : ℕ) : Type 0 where
-  pub falls : (j : ℕ) → Among row j → slice_index_or ranks j 0 < rank
-  pub tight : (rank ≡ 0) ⊎ ((j : ℕ) × Among row j × (rank ≡ suc (slice_index_or ranks j 0)))
-
--- the first so many numbers of the order have their ranks
-pub record Ranked (rows : List (List ℕ)) (order ranks : List ℕ) (count : ℕ) : Type 0 where
-  pub size : length ranks ≡ length rows
-  pub fits : (i n : ℕ) → i < count → slice_get order i ≡ Some n → RankFits (slice_index_or rows n []) ranks (slice_index_or ranks n 0)
-  pub low : (i n : ℕ) → i < count → slice_get order i ≡ Some n → slice_index_or ranks n 0 ≤ i

@@ -1,4 +1,4 @@
--- Believed: why rows have no ranks.
+-- Public: why rows have no ranks.
 use Rattle.std.specs.Prelude.{ℕ, List}
 use Rattle.rs_graph.specs.Ranks.{Edge}
 use Rattle.rs_graph.specs.Walks.{IsLeastOnCycle}

@@ -2,7 +2,8 @@
 ghost use Rattle.std.specs.Prelude.{◌≡◌, ◌<◌, ◌≤◌, ◌+◌, ◌^◌, [], ◌∷◌, List, ℕ, IfOk, OnOk, length, map, slice_get, slice_index_or, take, Some, true, false, replicate};
 ghost use Rattle.rs_graph.specs.Lists.{Among};
 ghost use Rattle.rs_graph.specs.Removal.{IsInto};
-ghost use Rattle.rs_graph.specs.Built.{IsBuilt, IsFilled};
+ghost use Rattle.rs_graph.specs.Built.{IsBuilt};
+ghost use Rattle.rs_graph.specs.Filling.{IsFilled};
 ghost use Rattle.rs_graph.specs.Graphs.{moves_of};
 
 use crate::graph::{Graph, NodeRow};

@@ -88,7 +88,7 @@ impl NodeRow {
 }
 
 /// The moves of a node, each with its results. One move needs no allocation.
-#[derive(Drop, Debug)]
+#[derive(Drop)]
 pub struct MoveResults {
     rows: SmallVec<NodeRow, 1>,
 }
@@ -145,7 +145,7 @@ impl MoveResults {
 }
 
 /// The moves that lead to a node. A few of them need no allocation.
-#[derive(Drop, Debug)]
+#[derive(Drop)]
 pub struct IncomingMoves {
     moves: SmallVec<Move, 2>,
 }
@@ -190,7 +190,7 @@ impl IncomingMoves {
 }
 
 /// Nodes, the moves of each, and the results of each move, which only counted calls read.
-#[derive(Drop, Debug)]
+#[derive(Drop)]
 pub struct Graph {
     outs: Vec<MoveResults>,
     intos: Vec<IncomingMoves>,

@@ -1,6 +1,7 @@
 //! Numbers by first discovery: from a start by the moves at which the nodes stay.
 ghost use Rattle.std.specs.Prelude.{◌≡◌, ◌≢◌, ◌<◌, ◌≤◌, ◌+◌, ◌^◌, [], ◌∷◌, ◌++◌, List, ℕ, OnOk, OnErr, IfOk, length, slice_get, slice_index_or, slice_set, Some};
-ghost use Rattle.rs_graph.specs.Discovery.{AreNamed, IsDiscovery, IsNamed};
+ghost use Rattle.rs_graph.specs.Discovery.{IsDiscovery};
+ghost use Rattle.rs_graph.specs.Naming.{AreNamed, IsNamed};
 ghost use Rattle.rs_graph.specs.Lists.{Among};
 ghost use Rattle.rs_graph.specs.Places.{IsPlaced, next_of};
 ghost use Rattle.rs_graph.specs.Removal.{AreLeft, IsInto, at, moves_at};

@@ -1,7 +1,8 @@
 //! Ranks of nodes: the greatest lengths of walks.
 ghost use Rattle.std.specs.Prelude.{◌≡◌, ◌<◌, ◌≤◌, ◌+◌, ◌^◌, [], List, ℕ, IfOk, IfErr, OnOk, replicate, length, slice_get, slice_index_or, Some, true, false};
 ghost use Rattle.rs_graph.specs.Lists.{Among};
-ghost use Rattle.rs_graph.specs.Ranks.{Edge, RankFits, IsOrdered, Ranked};
+ghost use Rattle.rs_graph.specs.Ranks.{Edge, IsOrdered};
+ghost use Rattle.rs_graph.specs.RanksSoFar.{RankFits, Ranked};
 ghost use Rattle.rs_graph.specs.Walks.{IsRank};
 ghost use Rattle.rs_graph.specs.Unranked.{Unranks};
 

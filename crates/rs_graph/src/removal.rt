@@ -1,6 +1,7 @@
 //! The removal of nodes that have no move left.
 ghost use Rattle.std.specs.Prelude.{◌≡◌, ◌≢◌, ◌<◌, ◌≤◌, ◌+◌, ◌^◌, [], ◌∷◌, ◌++◌, List, ℕ, OnOk, OnErr, OnSome, IfOk, length, slice_get, slice_index_or, Some};
-ghost use Rattle.rs_graph.specs.Removal.{Going, IsInto, IsRemoval, Leads, IsNextMove, Rest, From, cost_of, whole, moves_at, lowered_flags, moveless};
+ghost use Rattle.rs_graph.specs.Removal.{IsInto, IsRemoval, Leads, cost_of, moves_at};
+ghost use Rattle.rs_graph.specs.Removing.{Going, IsNextMove, Rest, From, whole, lowered_flags, moveless};
 ghost use Rattle.std.specs.List.{sum_by};
 ghost use Rattle.rs_graph.specs.declared.graph.Move.{Move};
 

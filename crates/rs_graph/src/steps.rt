@@ -33,6 +33,7 @@ impl<L: Ledger> StepCount<L> {
         StepCount { book, share }
     }
 
+    /// Counts one step.
     pub fn tick(&mut self)
         ensures { self.new ≡ self.old + 1 }
     {

@@ -1,4 +1,4 @@
--- Believed: what a call changes in a source and a sink in memory.
+-- Public: what a call changes in a source and a sink in memory.
 use Rattle.std.specs.Prelude.{ℕ, List, Bool, if◌then◌else◌}
 use Rattle.rs_io.specs.Data.{MemSource_data, MemSink_data}
 use Rattle.rs_io.specs.Faults.{one_count_more}

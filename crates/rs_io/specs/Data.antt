@@ -1,4 +1,4 @@
--- Believed: what contracts see of sources and sinks.
+-- Public: what contracts see of sources and sinks.
 use Rattle.std.specs.Prelude.{ℕ, List}
 
 -- a source over bytes in memory

@@ -1,4 +1,4 @@
--- Believed: counts of faults.
+-- Public: counts of faults.
 use Rattle.std.specs.Prelude.{◌≡◌, ℕ, Bool, ◌+◌, ◌-◌, ◌^◌, ◌<◌, ◌≤◌, ◌==◌, min, List, ◌⊎◌}
 use Rattle.std.specs.List.{list_any}
 

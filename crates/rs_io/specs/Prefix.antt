@@ -1,4 +1,4 @@
--- Believed: bytes that were written in part.
+-- Public: bytes that were written in part.
 use Rattle.std.specs.Prelude.{ℕ, ◌≤◌, List, length, take, Option}
 use Rattle.std.specs.Io.KnownBytes.{Appends}
 

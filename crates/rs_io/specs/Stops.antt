@@ -1,4 +1,4 @@
--- Believed: how far reading came before it stopped.
+-- Public: how far reading came before it stopped.
 use Rattle.std.specs.Prelude.{◌≡◌, ℕ, ◌+◌, ◌≤◌}
 use Rattle.rs_io.specs.declared.reading.ReadStop.{ReadStop}
 use Rattle.rs_io.specs.declared.reading.ReadStop.TheVariants.{ReadFault, TooLong, NoMemory}

@@ -59,6 +59,7 @@ impl Source for NeverSource {
 pub struct NeverSink;
 
 impl NeverSink {
+    /// A sink that never fails, and to which nothing was written.
     pub fn new() -> NeverSink {
         NeverSink
     }

@@ -1,4 +1,4 @@
--- Believed: the canonical text of a machine, and which machines have one.
+-- Public: the canonical text of a machine, and which machines have one.
 use Rattle.std.specs.Prelude.{ℕ, ◌≤◌, List, length}
 use Rattle.rs_model.specs.Data.{Machine_data, Names_data}
 use Rattle.rs_model.specs.declared.limits.TheConstants.{MOST_LABELS, MOST_ROLES}

@@ -1,4 +1,4 @@
--- Believed: a text and its tree, to read the definitions by.
+-- Public: a text and its tree, to read the definitions by.
 use Rattle.std.specs.Prelude.{ℕ, List, [], ◌∷◌, codes, Some, None}
 use Rattle.rs_model.specs.Data.{Names_data}
 use Rattle.rs_model.specs.declared.values.Sort.TheVariants as sort

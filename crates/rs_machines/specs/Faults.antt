@@ -1,4 +1,4 @@
--- Believed: the first fault of a text, and the names that it leaves.
+-- Public: the first fault of a text, and the names that it leaves.
 pub use Rattle.rs_bodies.specs.Faults.{LeavesLabels, LeavesNames, LeavesSome, labels_among}
 pub use Rattle.rs_text.specs.Kept.{Keeps}
 use Rattle.std.specs.Prelude.{ℕ, List}

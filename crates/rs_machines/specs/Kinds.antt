@@ -1,4 +1,4 @@
--- Believed: machines as the graphs that parts spell.
+-- Public: machines as the graphs that parts spell.
 use Rattle.rs_model.specs.Data.{Machine_data, Names_data}
 use Rattle.rs_bodies.specs.declared.dialects.Dialect.TheVariants.{Acts}
 use Rattle.rs_bodies.specs.GraphKinds as bodies

@@ -1,4 +1,4 @@
--- Believed: the faults that the machine of a text may have.
+-- Public: the faults that the machine of a text may have.
 use Rattle.rs_model.specs.declared.checks.MachineFault.{MachineFault}
 use Rattle.rs_model.specs.declared.checks.MachineFault.TheVariants.{BadNext, NoArms, TwiceLabel, SelfPeer, UnknownPeer}
 

@@ -1,4 +1,4 @@
--- Believed: the machine that a tree spells.
+-- Headline: the machine that a tree spells.
 use Rattle.std.specs.Prelude.{ℕ, List, [], ◌∷◌, ◌++◌, Bool, true, false}
 use Rattle.rs_model.specs.Data.{Machine_data, Names_data}
 use Rattle.rs_model.specs.declared.graph.Arm.{Arm}

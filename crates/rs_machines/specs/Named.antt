@@ -1,4 +1,4 @@
--- Believed: machines whose roles and labels have names.
+-- Public: machines whose roles and labels have names.
 use Rattle.std.specs.Prelude.{◌<◌, List, length}
 use Rattle.std.specs.List.{All}
 use Rattle.rs_model.specs.Data.{Machine_data, Names_data}

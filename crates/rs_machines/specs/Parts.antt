@@ -1,4 +1,4 @@
--- Believed: the machine that the reader makes of what a part spells.
+-- Public: the machine that the reader makes of what a part spells.
 use Rattle.std.specs.Prelude.{List, ◌++◌, map}
 use Rattle.rs_model.specs.Data.{Machine_data}
 use Rattle.rs_model.specs.declared.graph.Arm.{Arm}

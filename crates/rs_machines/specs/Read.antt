@@ -1,4 +1,4 @@
--- Believed: what the reader of machines gives.
+-- Public: what the reader of machines gives.
 use Rattle.std.specs.Prelude.{ℕ, ◌+◌, ◌≤◌, List, length}
 use Rattle.rs_model.specs.Data.{Machine_data, Names_data}
 use Rattle.rs_model.specs.declared.limits.TheConstants.{MOST_ACTS}

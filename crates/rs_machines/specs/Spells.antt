@@ -1,4 +1,4 @@
--- Believed: what a text spells.
+-- Headline: what a text spells.
 use Rattle.std.specs.Prelude.{ℕ, List}
 use Rattle.rs_model.specs.Data.{Machine_data, Names_data}
 use Rattle.rs_bodies.specs.declared.dialects.Dialect.TheVariants.{Acts}

@@ -1,4 +1,4 @@
--- Believed: the table that a machine is printed as.
+-- Public: the table that a machine is printed as.
 pub use Rattle.rs_text.specs.NamePlaces.{name_at}
 use Rattle.std.specs.Prelude.{ℕ, suc, List, [], ◌∷◌, ◌++◌, codes}
 use Rattle.std.specs.Fmt.{decimal}

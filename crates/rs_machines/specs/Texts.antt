@@ -1,4 +1,4 @@
--- Believed: the text of a machine tree, with the spacing of canonical texts.
+-- Public: the text of a machine tree, with the spacing of canonical texts.
 use Rattle.std.specs.Prelude.{ℕ, List}
 use Rattle.rs_bodies.specs.declared.dialects.Dialect.TheVariants.{Acts}
 use Rattle.rs_bodies.specs.Texts as bodies

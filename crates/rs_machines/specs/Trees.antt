@@ -1,4 +1,4 @@
--- Believed: how texts of the machine grammar are built.
+-- Public: how texts of the machine grammar are built.
 use Rattle.std.specs.Prelude.{List}
 use Rattle.rs_model.specs.Data.{Names_data}
 use Rattle.rs_text.specs.Signs.{Sign}

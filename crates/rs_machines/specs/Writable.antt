@@ -1,4 +1,4 @@
--- Believed: trees whose names can be written.
+-- Public: trees whose names can be written.
 use Rattle.rs_bodies.specs.declared.dialects.Dialect.TheVariants.{Acts}
 use Rattle.rs_bodies.specs.Writable as bodies
 use Rattle.rs_machines.specs.Trees.{MachineTree}

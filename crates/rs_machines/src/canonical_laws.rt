@@ -21,7 +21,8 @@ pub fn canonical_machine_is_there()
 
 /// A machine that some text spells has one canonical tree at most.
 pub fn canonical_tree_is_one()
-    ensures { (names : Names_data) (machine : Machine_data) (x y : MachineTree) → IsMachineTextShaped machine → IsCanonicalMachineTree names machine x → IsCanonicalMachineTree names machine y → x ≡ y }
+    ensures { (names : Names_data) (machine : Machine_data) (x y : MachineTree) → IsMachineTextShaped machine → IsCanonicalMachineTree names machine x
+        → IsCanonicalMachineTree names machine y → x ≡ y }
 {}
 
 /// A machine that some text spells has one canonical text at most.

@@ -8,7 +8,8 @@ use Rattle.rs_model.proofs.FirstFailed.{or_some, or_none, cond_is, label_is, lab
 use Rattle.rs_model.specs.FirstFailed.{or_later, label_fault}
 use Rattle.rs_model.proofs.Order.{in_order}
 use Rattle.rs_model.specs.Data.{Machine_data}
-use Rattle.rs_model.specs.Checks.{first_repeat, nexts_fault, peer_fault, arms_fault, choice_fault, state_fault, states_fault, start_fault, machine_fault}
+use Rattle.rs_model.specs.Checks.{nexts_fault, peer_fault, arms_fault, choice_fault, state_fault, states_fault, start_fault, machine_fault}
+use Rattle.rs_model.specs.Repeats.{first_repeat}
 use Rattle.rs_model.specs.Faults.{Chooses, LeadsOut, Blames, first_fault}
 use Rattle.rs_model.specs.WellFormed.{StateFits, IsWellFormedMachine}
 use Rattle.rs_model.specs.declared.checks.MachineFault.{MachineFault}

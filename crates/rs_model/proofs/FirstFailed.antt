@@ -4,7 +4,7 @@ use Rattle.std.proofs.Common.{sym, refl, ap, subst, ◌∙◌, arith, append_ass
 use Rattle.std.proofs.lemmas.Bool.{cases_order, cases_lt, lt-ltb, le-ltb, le-leb, lt-leb, eq-eqb, ne_eqb, eqb-true, eqb-false, or_cases, or_parts, false≢true}
 use Rattle.std.proofs.lemmas.Option.{none-some, same_Some, slice_get_within}
 use Rattle.std.specs.List.{list_any}
-use Rattle.rs_model.specs.Checks.{first_repeat}
+use Rattle.rs_model.specs.Repeats.{first_repeat}
 use Rattle.rs_model.specs.Faults.{StandsTwice}
 use Rattle.rs_model.specs.FirstFailed.{Test, first_failed, or_later, label_fault, label_tests, next_tests}
 use Rattle.rs_model.specs.declared.graph.Arm.{Arm}

@@ -3,7 +3,8 @@ use Rattle.std.proofs.Common.{◌≡◌, ℕ, ◌+◌, List, [], ◌∷◌, ◌+
 use Rattle.rs_model.proofs.FirstFailed.{failed_append, labels_told, nexts_told, some_arms}
 use Rattle.rs_model.specs.FirstFailed.{first_failed, or_later, label_fault, label_tests, next_tests}
 use Rattle.rs_model.specs.Data.{Machine_data}
-use Rattle.rs_model.specs.Checks.{first_repeat, nexts_fault, choice_fault, state_fault, states_fault, machine_fault}
+use Rattle.rs_model.specs.Checks.{nexts_fault, choice_fault, state_fault, states_fault, machine_fault}
+use Rattle.rs_model.specs.Repeats.{first_repeat}
 use Rattle.rs_model.specs.Faults.{choice_tests, state_tests, states_tests, first_fault}
 use Rattle.rs_model.specs.declared.checks.MachineFault.{MachineFault}
 use Rattle.rs_model.specs.declared.checks.MachineFault.TheVariants.{BadNext, NoArms, TwiceLabel, SelfPeer, UnknownPeer}

@@ -3,7 +3,7 @@ use Rattle.std.proofs.Common.{◌≡◌, ℕ, ◌+◌, ◌<◌, List, length, ge
 use Rattle.std.proofs.lemmas.List.{take_more}
 use Rattle.std.proofs.lemmas.Bool.{cond-true, cond-false}
 use Rattle.std.specs.List.{list_any}
-use Rattle.rs_model.specs.Checks.{first_repeat}
+use Rattle.rs_model.specs.Repeats.{first_repeat}
 use Rattle.rs_model.specs.declared.graph.Arm.{Arm}
 
 pub repeat_step : (arms : List Arm) (i : ℕ) (d : Arm) → i < length arms

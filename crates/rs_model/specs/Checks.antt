@@ -1,21 +1,15 @@
 -- Steps: the first fault of a machine, as the code finds it.
-use Rattle.std.specs.Prelude.{ℕ, ◌+◌, List, [], ◌∷◌, ◌++◌, length, ◌==◌, ◌&&◌, nat_lt, nat_le, if◌then◌else◌, Option, Some, None}
+use Rattle.std.specs.Prelude.{ℕ, ◌+◌, List, [], ◌∷◌, length, ◌==◌, ◌&&◌, nat_lt, nat_le, if◌then◌else◌, Option, Some, None}
 use Rattle.std.specs.List.{list_any}
 use Rattle.rs_model.specs.FirstFailed.{or_later, label_fault}
 use Rattle.rs_model.specs.Data.{Machine_data}
 use Rattle.rs_model.specs.declared.checks.MachineFault.{MachineFault}
 use Rattle.rs_model.specs.declared.checks.MachineFault.TheVariants.{BadNext, NoArms, TwiceLabel, SelfPeer, UnknownPeer}
 use Rattle.rs_model.specs.declared.graph.Arm.{Arm}
-use Rattle.rs_model.specs.declared.graph.Label.{Label}
 use Rattle.rs_model.specs.declared.graph.Role.{Role}
 use Rattle.rs_model.specs.declared.machines.State.{State}
 use Rattle.rs_model.specs.declared.machines.State.TheVariants.{Done, Puts, Takes}
-
--- the first label of the arms that stands at an arm before it, earlier ones included
-abbrev pub first_repeat : List Arm → List Arm → Option Label
-first_repeat [] earlier = None
-first_repeat (a ∷ later) earlier =
-    if list_any (λ b. b.label.0 == a.label.0) earlier then Some a.label else first_repeat later (earlier ++ a ∷ [])
+use Rattle.rs_model.specs.Repeats.{first_repeat}
 
 -- an arm of state n leads to no state
 abbrev pub nexts_fault : ℕ → ℕ → List Arm → Option MachineFault

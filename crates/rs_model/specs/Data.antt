@@ -1,4 +1,4 @@
--- Believed: what contracts see of the types that hold vectors: the same fields, each vector as its list.
+-- Headline: what contracts see of the types that hold vectors: the same fields, each vector as its list.
 use Rattle.std.specs.Prelude.{ℕ, List}
 use Rattle.rs_model.specs.declared.graph.Node.{Node}
 use Rattle.rs_model.specs.declared.graph.Role.{Role}

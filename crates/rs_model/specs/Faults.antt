@@ -1,4 +1,4 @@
--- Believed: the first fault of a machine, and what each fault says.
+-- Public: the first fault of a machine, and what each fault says.
 use Rattle.std.specs.Prelude.{◌≡◌, ◌⊎◌, ℕ, ◌+◌, ◌<◌, ◌≤◌, List, [], ◌∷◌, ◌++◌, length, slice_get, not, ◌==◌, nat_lt, Option, Some}
 use Rattle.rs_model.specs.FirstFailed.{Test, first_failed, label_tests, next_tests}
 use Rattle.rs_model.specs.Data.{Machine_data}

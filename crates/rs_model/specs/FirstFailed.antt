@@ -1,4 +1,4 @@
--- Believed: the first failed test of a list, for faults of any kind.
+-- Public: the first failed test of a list, for faults of any kind.
 use Rattle.std.specs.Prelude.{ℕ, List, [], ◌∷◌, ◌++◌, map, Bool, not, ◌==◌, nat_lt, if◌then◌else◌, Option, Some, None}
 use Rattle.std.specs.List.{list_any}
 use Rattle.rs_model.specs.declared.graph.Arm.{Arm}

@@ -9,3 +9,4 @@ pub mod Talks
 pub mod Values
 pub mod WellFormed
 pub mod FirstFailed
+pub mod Repeats

@@ -1,4 +1,4 @@
--- Believed: which sort may stand where another is expected.
+-- Public: which sort may stand where another is expected.
 use Rattle.std.specs.Prelude.{◌≡◌, ℕ, Bool, ◌==◌}
 use Rattle.rs_model.specs.declared.values.Sort.{Sort}
 use Rattle.rs_model.specs.declared.values.Sort.TheVariants as sort

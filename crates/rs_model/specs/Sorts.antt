@@ -1,4 +1,4 @@
--- Believed: which values a sort has.
+-- Headline: which values a sort has.
 use Rattle.std.specs.Prelude.{ℕ, Bool, true, false, IsTrue, nat_lt, ◌^◌}
 use Rattle.rs_model.specs.declared.values.Sort.{Sort}
 use Rattle.rs_model.specs.declared.values.Sort.TheVariants as sort

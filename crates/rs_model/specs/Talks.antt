@@ -1,4 +1,4 @@
--- Believed: the talks of a protocol.
+-- Headline: the talks of a protocol.
 use Rattle.std.specs.Prelude.{◌≡◌, ℕ, List, Some, slice_get}
 use Rattle.rs_model.specs.Data.{Protocol_data}
 use Rattle.rs_model.specs.declared.graph.Arm.{Arm}

@@ -1,4 +1,4 @@
--- Believed: a value of each sort that says nothing.
+-- Public: a value of each sort that says nothing.
 use Rattle.std.specs.Prelude.{[], false, pos}
 use Rattle.rs_model.specs.declared.values.Sort.{Sort}
 use Rattle.rs_model.specs.declared.values.Sort.TheVariants as sort

@@ -1,4 +1,4 @@
--- Believed: what is asked of a machine of one of so many roles.
+-- Public: what is asked of a machine of one of so many roles.
 use Rattle.std.specs.Prelude.{◌≡◌, ◌≢◌, ℕ, ◌<◌, List, [], length, slice_get, Some}
 use Rattle.rs_model.specs.Data.{Machine_data}
 use Rattle.rs_model.specs.declared.graph.Arm.{Arm}

@@ -2,7 +2,8 @@
 
 ghost use Rattle.std.specs.Prelude.{◌≡◌, ◌==◌, ◌<◌, ◌^◌, [], length, nat_le, IfErr, OnOk, None, Some};
 ghost use Rattle.std.specs.List.{list_any};
-ghost use Rattle.rs_model.specs.Checks.{choice_fault, first_repeat, machine_fault, state_fault};
+ghost use Rattle.rs_model.specs.Checks.{choice_fault, machine_fault, state_fault};
+ghost use Rattle.rs_model.specs.Repeats.{first_repeat};
 ghost use Rattle.rs_model.specs.Faults.{first_fault};
 ghost use Rattle.rs_model.specs.WellFormed.{IsWellFormedMachine};
 

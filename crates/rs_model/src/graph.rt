@@ -80,6 +80,7 @@ impl Arms {
         Ok(())
     }
 
+    /// The arms, in order.
     pub fn as_slice(&self) -> &[Arm]
         ensures { result.now ≡ self.now }
     {

@@ -1,6 +1,6 @@
 //! Values that messages carry, and their sorts.
 
-ghost use Rattle.std.specs.Prelude.{◌≡◌, IfOk};
+ghost use Rattle.std.specs.Prelude.{◌≡◌, ◌↔◌, IfOk, IsTrue};
 
 use crate::NoMemory;
 use std::alloc::Global;
@@ -18,12 +18,13 @@ pub enum Sort {
 }
 
 impl Sort {
-    ghost use Rattle.rs_model.specs.Serving.{serves, sort_number};
+    ghost use Rattle.rs_model.specs.Serving.{Serves, serves, sort_number};
     ghost use Rattle.rs_model.specs.Values.{empty_value};
 
     /// Whether a value of this sort may stand where one of the wanted sort is expected.
     pub fn serves(self, wanted: Sort) -> bool
-        ensures { result ≡ serves self wanted }
+        ensures test { result ≡ serves self wanted }
+        ensures serves { IsTrue result ↔ Serves self wanted }
     {
         self == wanted
     }
@@ -82,6 +83,7 @@ impl Octets {
         })
     }
 
+    /// The bytes, in order.
     pub fn as_slice(&self) -> &[u8]
         ensures { result.now ≡ self.now }
     {
@@ -120,6 +122,7 @@ impl Numbers {
         })
     }
 
+    /// The numbers, in order.
     pub fn as_slice(&self) -> &[i64]
         ensures { result.now ≡ self.now }
     {

@@ -28,6 +28,7 @@ impl Name {
         })
     }
 
+    /// The bytes of the name.
     pub fn as_slice(&self) -> &[u8]
         ensures { result.now ≡ self.now }
     {

@@ -7,7 +7,7 @@ ghost use Rattle.rs_exec.specs.Runs.{IsSessionOfRun};
 ghost use Rattle.rs_pool.specs.Calls.{AreSeated, AreCollected};
 ghost use Rattle.rs_pool.specs.Jobs.{JobFits, Over, actors_of};
 ghost use Rattle.rs_pool.specs.Lists.{HaveRoom, LeaveRoom};
-ghost use Rattle.rs_pool.specs.Pool.{AgreesWithPlain};
+ghost use Rattle.rs_pool.specs.Pool.{AgreesWithPlain, AreNeverHeldUp};
 ghost use Rattle.rs_pool.specs.Rule.{view_at_start};
 ghost use Rattle.rs_rings.specs.Closed.{IsOver};
 ghost use Rattle.rs_safety.specs.Room.{room_of};
@@ -113,6 +113,7 @@ fn close(session: Session, ended: Vec<Ended>) -> Closed
     requires of { AreAll (IsEnded session) ended.items }
     requires present { AreAllThere (length session.machines) ended.items }
     ensures machines { result.machines ≡ session.machines }
+    ensures capacity { result.capacity ≡ session.capacity }
     ensures over { IsOver result }
     ensures knows { KnowsFrom ended.items result }
 {
@@ -135,6 +136,7 @@ fn finish<A: Actor, N: StartName<A>>(
     requires empty { (parts.stages.items ≡ []) × (parts.actors.items ≡ []) × (parts.transcripts.items ≡ []) × (ended.items ≡ []) }
     requires room { (length session.machines ≤ vec_capacity parts.stages) × (length session.machines ≤ vec_capacity parts.actors) × (length session.machines ≤ vec_capacity parts.transcripts)
         × (length session.machines ≤ vec_capacity ended) }
+    ensures rings { IfOk result (λ ran. ran.closed.capacity ≡ session.capacity) }
     ensures session { IfOk result (λ ran. IsSessionOfRun N.start.session.machines A.behaviour N.start.given N.start.limit ran.closed ran.run.outcome ran.run.actors.items) }
 {
     let refused = first_with(jobs.as_slice(), Progress::Refused);
@@ -202,12 +204,12 @@ fn run_as<R: Threads + Wait + Sync, A: Actor + Send, N: StartName<A> + Send + Sy
     gate: &G,
 ) -> Result<Ran<A>, NoMemory>
     requires start { N.start ≡ record { session = session; limit = made.limit; given = actors_of made.jobs.items } }
-    requires bounded { length session.machines ≤ MOST_ROLES }
     requires workers { 1 ≤ workers }
-    requires count { length made.jobs.items ≡ length session.machines }
+    requires count { (length made.jobs.items ≡ length session.machines) × (length session.machines ≤ MOST_ROLES) }
     requires begun { AreSeated (JobFits A.behaviour N.start) (length session.machines) (map Some made.jobs.items) }
     requires lists { HaveRoom (length session.machines) workers lists }
     requires made { LeaveRoom (length session.machines) made }
+    ensures rings { IfOk result (λ ran. ran.closed.capacity ≡ session.capacity) }
     ensures session { IfOk result (λ ran. IsSessionOfRun session.machines A.behaviour (actors_of made.jobs.items) made.limit ran.closed ran.run.outcome ran.run.actors.items) }
 {
     let Lists {
@@ -269,6 +271,7 @@ fn play<R: Threads + Wait + Sync, A: Actor + Send, G: Gate + Sync>(
     requires actors { length actors.items ≡ length session.machines }
     requires workers { 1 ≤ workers }
     requires lists { HaveRoom (length session.machines) workers lists }
+    ensures rings { IfOk result (λ ran. ran.closed.capacity ≡ session.capacity) }
     ensures session { IfOk result (λ ran. IsSessionOfRun session.machines A.behaviour actors.items limit ran.closed ran.run.outcome ran.run.actors.items) }
 {
     match jobs_of(alloc, stages, actors, limit) {
@@ -281,10 +284,12 @@ fn play<R: Threads + Wait + Sync, A: Actor + Send, G: Gate + Sync>(
     }
 }
 
-/// Runs the machines of an accepted session by so many workers, each a thread of its own, over rings of that capacity, until
-/// all roles have ended, or one has made `limit` acts and hasn't ended.
+/// Runs the machines of an accepted session by so many workers over rings of that capacity, until all roles have ended, or one
+/// has made `limit` acts and hasn't ended. At most so many threads are started, and any number of workers can finish, one
+/// alone too.
 ///
-/// There is one actor for each role, and the capacity is at least the room of the session. A worker takes the task of some
+/// There is one actor for each role, and the capacity is at least the room of the session: over such rings some role can go on,
+/// or all have ended, wherever the session comes to. A worker takes the task of some
 /// role, makes turns with it, each between the gate's two calls, and gives it back once it has to wait, is over, or has moved
 /// often enough. Who makes which turn isn't said, nor how long it takes: the call may wait for its workers. If it returns, the
 /// outcome is that of the plain run over unbounded queues: all have ended, with its transcripts and its actors; or the plain run
@@ -306,6 +311,8 @@ pub fn run_pool<R: Threads + Wait + Sync, A: Actor + Send, G: Gate + Sync>(
     requires room { room_of accepted.now.derivations ≤ capacity }
     requires workers { (1 ≤ workers) × (workers ≤ MOST_WORKERS) }
     ensures plain { IfOk result (λ ran. (given : ℕ → A) → IsGiven given actors.items → AgreesWithPlain accepted.now.machines A.behaviour given limit ran.run.outcome ran.run.actors.items) }
+    ensures rings { IfOk result (λ ran. ran.closed.capacity ≡ capacity) }
+    ensures enough { IfOk result (λ ran. AreNeverHeldUp accepted.now.machines ran.closed.capacity) }
     ensures session { IfOk result (λ ran. IsSessionOfRun accepted.now.machines A.behaviour actors.items limit ran.closed ran.run.outcome ran.run.actors.items) }
 {
     let roles = accepted.machines().len();

@@ -195,7 +195,7 @@ impl<A: Actor, N: StartName<A>> PoolTable<A, N> {
     }
 }
 
-/// All workers at work, each in a thread of its own.
+/// All workers at work, on at most so many threads.
 pub(crate) fn run_all<
     R: Threads + Wait + Sync,
     A: Actor + Send,

@@ -1,4 +1,4 @@
--- Believed: which pending act a next act makes, and what blocks it.
+-- Public: which pending act a next act makes, and what blocks it.
 use Rattle.std.specs.Prelude.{◌≡◌, ℕ, ◌<◌, ◌+◌, List, ◌++◌, take, drop, slice_get, Bool, true, false, not, ◌==◌, Some}
 use Rattle.rs_model.specs.declared.graph.Role.{Role}
 use Rattle.rs_model.specs.declared.machines.Act.{Act}

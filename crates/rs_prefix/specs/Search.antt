@@ -1,4 +1,4 @@
--- Steps: the earliest pending act, as the code looks for it.
+-- Public: the earliest pending act, as the code looks for it.
 use Rattle.std.specs.Prelude.{ℕ, ◌+◌, List, [], ◌∷◌, if◌then◌else◌}
 use Rattle.rs_model.specs.declared.graph.Role.{Role}
 use Rattle.rs_model.specs.declared.machines.Act.{Act}

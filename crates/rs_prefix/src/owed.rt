@@ -150,6 +150,7 @@ impl Pending {
         self.acts.remove(place)
     }
 
+    /// The acts, the oldest first.
     #[inline(always)]
     pub fn as_slice(&self) -> &[Act]
         ensures { result.now ≡ self.now }

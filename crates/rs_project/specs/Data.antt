@@ -1,4 +1,4 @@
--- Believed: what is seen of a projection.
+-- Headline: what is seen of a projection.
 use Rattle.std.specs.Prelude.{ℕ, Bool, List}
 use Rattle.rs_model.specs.Data.{Machine_data}
 

@@ -1,4 +1,4 @@
--- Believed: protocols as graphs: paths, and what a role first meets on them.
+-- Headline: protocols as graphs: paths, and what a role first meets on them.
 use Rattle.std.specs.Prelude.{◌≡◌, ◌≢◌, ◌⊎◌, ℕ, List, [], ◌∷◌, Some, slice_get}
 use Rattle.rs_model.specs.Data.{Protocol_data}
 use Rattle.rs_model.specs.declared.graph.Arm.{Arm}

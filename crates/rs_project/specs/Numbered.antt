@@ -1,4 +1,4 @@
--- Believed: the whole meaning of the projection of a protocol onto a role: also its numbers are fixed.
+-- Headline: the whole meaning of the projection of a protocol onto a role: also its numbers are fixed.
 use Rattle.std.specs.Prelude.{◌≡◌, ◌≤◌, ℕ, List, [], map, length, Some, slice_get}
 use Rattle.rs_model.specs.declared.limits.TheConstants.{MOST_STATES}
 use Rattle.rs_model.specs.Data.{Protocol_data}

@@ -1,4 +1,4 @@
--- Believed: the projection of a protocol onto a role, with full merging: what the role has to do, where it can't tell apart all
+-- Headline: the projection of a protocol onto a role, with full merging: what the role has to do, where it can't tell apart all
 -- the nodes at which the session may be. What is left open here is said at `IsProjection`.
 use Rattle.std.specs.Prelude.{◌≡◌, ◌≢◌, ◌↔◌, ℕ, ◌<◌, List, [], ◌∷◌, ◌++◌, map, length, Option, Some, None, slice_get, ◌==◌, if◌then◌else◌}
 use Rattle.std.specs.List.{AllPairs, Contains, flat_map, list_any}

@@ -1,4 +1,4 @@
--- Believed: what a role does on the way to a state of its projection. Labels are listed with the latest first.
+-- Public: what a role does on the way to a state of its projection. Labels are listed with the latest first.
 use Rattle.std.specs.Prelude.{◌≡◌, ℕ, List, [], ◌∷◌, Some, slice_get}
 use Rattle.rs_model.specs.Data.{Protocol_data}
 use Rattle.rs_model.specs.declared.graph.Arm.{Arm}

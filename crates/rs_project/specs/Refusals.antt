@@ -1,4 +1,4 @@
--- Believed: why a protocol has no projection onto a role: the first reason in the order of the work.
+-- Public: why a protocol has no projection onto a role: the first reason in the order of the work.
 use Rattle.std.specs.Prelude.{◌≡◌, ◌⊎◌, ◌↔◌, ℕ, ◌<◌, ◌≤◌, true, List, [], ◌∷◌, ◌++◌, length, Option, Some, None, slice_get}
 use Rattle.std.specs.List.{AllPairs, Contains}
 use Rattle.rs_model.specs.declared.limits.TheConstants.{MOST_STATES}

@@ -6,7 +6,7 @@ use Rattle.rs_model.specs.declared.graph.Arm.{Arm}
 use Rattle.rs_model.specs.declared.graph.Label.{Label}
 use Rattle.rs_model.specs.declared.machines.State.TheVariants.{Puts, Takes}
 use Rattle.rs_core.specs.Choices.{AreWellFormed}
-use Rattle.rs_core.specs.Core.{arm_with}
+use Rattle.rs_core.specs.Ways.{arm_with}
 use Rattle.rs_core.proofs.Stands.{here_is}
 use Rattle.rs_slots.specs.declared.parcels.Parcel.{Parcel}
 use Rattle.rs_rings.specs.Acts.{role_of_number, MayPut, MayTake}

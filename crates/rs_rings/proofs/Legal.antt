@@ -15,7 +15,7 @@ use Rattle.rs_core.specs.declared.messages.Event.{Event}
 use Rattle.rs_core.specs.declared.messages.Event.TheVariants.{Send, Receive}
 use Rattle.rs_core.specs.declared.messages.Message.{Message}
 use Rattle.rs_core.specs.Configurations.{Configuration, role_of, Step, Steps, Sends, Receives, IsReachable, state_at}
-use Rattle.rs_core.specs.Core.{arm_with}
+use Rattle.rs_core.specs.Ways.{arm_with}
 use Rattle.rs_core.specs.Histories.{Action, Sent, Got, History, action_of, history_of, IsLegal}
 use Rattle.rs_core.specs.Safety.{IsSafe}
 use Rattle.rs_core.proofs.Stories.{told_of_legal, legal_of_told, story_snoc}
@@ -55,6 +55,19 @@ pub legal_step : (ms : List Machine_data) (h k : ℕ → History) (c : Configura
 legal_step ms h k c e d legal step own others =
     let t = told_of_legal ms h c legal in
     legal_of_told ms k d record { first = t.first; starts = t.starts; events = t.events ++ (e ∷ []); story = story_snoc ms t.first (λ p. []) t.events c h e d k t.story (step, own, others) }
+
+-- an act that happened is one by which legal histories go on
+pub happened_on : (ms : List Machine_data) (p : ℕ) (h : History) (a : Action) → Happened ms p h a
+    → (histories : ℕ → History) × (after : Configuration) × IsLegal ms histories after × (histories p ≡ h ++ a ∷ [])
+happened_on ms p h a hd = let k : ℕ → History = at_put hd.histories p (h ++ a ∷ []) in (
+  k,
+  hd.after,
+  legal_step ms hd.histories k hd.before hd.event hd.after hd.legal hd.step
+      (put_case hd.histories p (h ++ a ∷ []) (role_of hd.event) (λ z. z ≡ hd.histories (role_of hd.event) ++ action_of ms hd.before hd.event hd.after hd.step ∷ [])
+      (λ _. λ i. (sym hd.own ∙ ap hd.histories (sym hd.whose)) i ++ sym hd.did i ∷ []) (λ no. absurd (no hd.whose)))
+      (λ r ne. put_case hd.histories p (h ++ a ∷ []) r (λ z. z ≡ hd.histories r) (λ is. absurd (ne (is ∙ sym hd.whose))) (λ _. refl)),
+  put_case hd.histories p (h ++ a ∷ []) p (λ z. z ≡ h ++ a ∷ []) (λ _. refl) (λ no. absurd (no refl)),
+)
 
 pub reached : (ms : List Machine_data) (h : ℕ → History) (c : Configuration) → IsLegal ms h c → IsReachable ms c
 reached ms h c l = record { first = l.first; events = l.events; starts = l.starts; steps = l.steps }

@@ -12,3 +12,5 @@ pub mod Over
 pub mod LeftOver
 pub mod Emptied
 pub mod Shown
+pub mod SixKinds
+pub mod OneCall

@@ -13,7 +13,7 @@ use Rattle.rs_slots.specs.Places.{IsPair}
 use Rattle.rs_rings.specs.Acts.{parcels_sent, parcels_got}
 use Rattle.rs_rings.specs.Places.{head_word_of, tail_of, slot_place}
 use Rattle.rs_rings.specs.Rule.{RingRule, ring_facts, AllRings}
-use Rattle.rs_rings.specs.Views.{last_found, is_putting, parcel_in_hand}
+use Rattle.rs_rings.specs.Views.{last_found, loads_with, stamps_with, is_putting, parcel_in_hand}
 use Rattle.rs_rings.proofs.Parts.{at_put, put_case}
 
 abbrev pub Homes : Type 0
@@ -25,9 +25,11 @@ St = State (Option Parcel) View
 -- what one part keeps toward y as a sender, and as a receiver
 abbrev pub SendsAs : ℕ → Part → Part → Type 0
 SendsAs y a a' = (parcels_sent y a'.history ≡ parcels_sent y a.history) × (last_found y a'.heads ≡ last_found y a.heads) × (is_putting y a'.middle ≡ is_putting y a.middle)
+    × (loads_with y a'.heads ≡ loads_with y a.heads) × (stamps_with y a'.put_stamps ≡ stamps_with y a.put_stamps)
 
 abbrev pub TakesAs : ℕ → Part → Part → Type 0
 TakesAs y a a' = (parcels_got y a'.history ≡ parcels_got y a.history) × (last_found y a'.tails ≡ last_found y a.tails) × (parcel_in_hand y a'.middle ≡ parcel_in_hand y a.middle)
+    × (loads_with y a'.tails ≡ loads_with y a.tails) × (stamps_with y a'.take_stamps ≡ stamps_with y a.take_stamps)
 
 module _ (key : Key) (p q : ℕ) (words words' : List ℕ) (homes homes' : Homes) where
   abbrev n : ℕ
@@ -52,6 +54,10 @@ module _ (key : Key) (p q : ℕ) (words words' : List ℕ) (homes homes' : Homes
     got = sym t.0 i;
     seen_head = sym s.1 i;
     seen_tail = sym t.1 i;
+    head_loads = sym s.3 i;
+    tail_loads = sym t.3 i;
+    put_stamps = sym s.4 i;
+    take_stamps = sym t.4 i;
     putting = sym s.2 i;
     taking = sym t.2 i;
   }
@@ -69,8 +75,8 @@ module _ (key : Key) (p q : ℕ) (words words' : List ℕ) (homes homes' : Homes
         go : (x y : ℕ) → x < n → y < n → x ≢ y → ((x ≡ p) × (y ≡ q) → ⊥) → (x ≡ r → r ≢ p ⊎ y ≢ q) → (y ≡ r → r ≢ q ⊎ x ≢ p)
             → RingRule cap (ring_facts n cap words' homes' x y (at_put known r a' x) (at_put known r a' y))
         go x y l m apart not s t = subst (RingRule cap) (other_facts x y (known x) (known y) (at_put known r a' x) (at_put known r a' y) record { sender = l; receiver = m; differ = apart } not else
-            (put_case known r a' x (λ z. SendsAs y (known x) z) (λ e. subst (λ (k : ℕ). SendsAs y (known k) a') (sym e) (sends y (s e))) (λ _. (refl, refl, refl)))
-            (put_case known r a' y (λ z. TakesAs x (known y) z) (λ e. subst (λ (k : ℕ). TakesAs x (known k) a') (sym e) (takes x (t e))) (λ _. (refl, refl, refl)))) (rings x y l m apart)
+            (put_case known r a' x (λ z. SendsAs y (known x) z) (λ e. subst (λ (k : ℕ). SendsAs y (known k) a') (sym e) (sends y (s e))) (λ _. (refl, refl, refl, refl, refl)))
+            (put_case known r a' y (λ z. TakesAs x (known y) z) (λ e. subst (λ (k : ℕ). TakesAs x (known k) a') (sym e) (takes x (t e))) (λ _. (refl, refl, refl, refl, refl)))) (rings x y l m apart)
 
     pub sender_moves : (a' : Part) → p ≢ q → ((y : ℕ) → y ≢ q → SendsAs y (known p) a') → ((x : ℕ) → TakesAs x (known p) a') → RingRule cap (ring_facts n cap words' homes' p q a' (known q))
         → AllRings n cap words' homes' (at_put known p a')

@@ -15,7 +15,7 @@ use Rattle.rs_model.specs.declared.machines.State.{State}
 use Rattle.rs_model.specs.declared.machines.State.TheVariants.{Puts, Takes}
 use Rattle.rs_core.specs.Choices.{AreWellFormed}
 use Rattle.rs_core.specs.Configurations.{state_of}
-use Rattle.rs_core.specs.Core.{arm_with}
+use Rattle.rs_core.specs.Ways.{arm_with}
 use Rattle.rs_core.specs.Histories.{Action, Sent, Got, History}
 use Rattle.rs_rings.proofs.Arms.{arm_at, arm_found}
 use Rattle.rs_core.proofs.Stands.{here_is}
@@ -82,9 +82,9 @@ kept_looked m m' items p y kept says a mid st hist = let t = kept.rows p says in
 one_more : (xs : List Parcel) (x : Parcel) → length (xs ++ x ∷ []) ≡ length xs + 1
 one_more xs x = length-append xs (x ∷ [])
 
-row_sent : (row : Row) (a : Part) (q : ℕ) (x : Parcel) (n next count : ℕ) → q < 16 → RowShows row a → count ≡ length (parcels_sent q a.history) + 1
-    → RowShows record { state = next; sent = slice_set row.sent q count; got = row.got } (sending q x next (gaining q n a))
-row_sent row a q x n next count l shows is = record {
+row_sent : (row : Row) (a : Part) (q : ℕ) (x : Parcel) (n next loads count : ℕ) → q < 16 → RowShows row a → count ≡ length (parcels_sent q a.history) + 1
+    → RowShows record { state = next; sent = slice_set row.sent q count; got = row.got } (sending q x next loads (gaining q n a))
+row_sent row a q x n next loads count l shows is = record {
   state = refl;
   sent = λ y ly. dite (ℕ_discrete y q)
       (λ e. ap (slice_get (slice_set row.sent q count)) e ∙ set_same row.sent q (length (parcels_sent q a.history)) count (shows.sent q l)
@@ -94,9 +94,9 @@ row_sent row a q x n next count l shows is = record {
   got = λ y ly. shows.got y ly ∙ ap (λ (l : List Parcel). Some (length l)) (sym (last_none (parcel_got y) a.history (sent_act q x) refl));
 }
 
-row_got : (row : Row) (b : Part) (p : ℕ) (x : Parcel) (n next count : ℕ) → p < 16 → RowShows row b → count ≡ length (parcels_got p b.history) + 1
-    → RowShows record { state = next; sent = row.sent; got = slice_set row.got p count } (getting p x next (taking p x n b))
-row_got row b p x n next count l shows is = record {
+row_got : (row : Row) (b : Part) (p : ℕ) (x : Parcel) (n next loads count : ℕ) → p < 16 → RowShows row b → count ≡ length (parcels_got p b.history) + 1
+    → RowShows record { state = next; sent = row.sent; got = slice_set row.got p count } (getting p x next loads (taking p x n b))
+row_got row b p x n next loads count l shows is = record {
   state = refl;
   sent = λ y ly. shows.sent y ly ∙ ap (λ (l : List Parcel). Some (length l)) (sym (last_none (parcel_sent y) b.history (got_act p x) refl));
   got = λ y ly. dite (ℕ_discrete y p)
@@ -112,23 +112,24 @@ at_here k p a b e = rw (eq-eqb k p e) refl
 at_else : {A : Type 0} (k p : ℕ) (a b : A) → k ≢ p → (if k == p then a else b) ≡ b
 at_else k p a b ne = rw (ne_eqb k p ne) refl
 
-pub kept_put : (m m' : M) (items items' : Items) (p q : ℕ) (x : Parcel) (n next count : ℕ) → q < 16 → IsBetweenCalls m items → speaks p m.0.parts ≡ true
-    → IsAfter p (sending q x next (gaining q n (the_part p m.0.parts))) m.0 m'
+pub kept_put : (m m' : M) (items items' : Items) (p q : ℕ) (x : Parcel) (n next loads count : ℕ) → q < 16 → IsBetweenCalls m items → speaks p m.0.parts ≡ true
+    → IsAfter p (sending q x next loads (gaining q n (the_part p m.0.parts))) m.0 m'
     → count ≡ length (parcels_sent q (the_part p m.0.parts).history) + 1 → ((k : ℕ) → row_at items' k ≡ (if k == p then with_sent_count q count next (row_at items k) else row_at items k))
     → IsBetweenCalls m' items'
-kept_put m m' items items' p q x n next count l kept says a is noted = let t = kept.rows p says in
-    kept_change m m' items items' p (sending q x next (gaining q n (the_part p m.0.parts))) kept says a refl record { state = next; sent = slice_set t.0.sent q count; got = t.0.got }
+kept_put m m' items items' p q x n next loads count l kept says a is noted = let t = kept.rows p says in
+    kept_change m m' items items' p (sending q x next loads (gaining q n (the_part p m.0.parts))) kept says a refl record { state = next; sent = slice_set t.0.sent q count; got = t.0.got }
     (noted p ∙ at_here p p (with_sent_count q count next (row_at items p)) (row_at items p) refl ∙ ap (with_sent_count q count next) t.1)
-    (row_sent t.0 (the_part p m.0.parts) q x n next count l t.2 is)
+    (row_sent t.0 (the_part p m.0.parts) q x n next loads count l t.2 is)
     (λ k ne. noted k ∙ at_else k p (with_sent_count q count next (row_at items k)) (row_at items k) ne)
 
-pub kept_got : (m m' : M) (items items' : Items) (q p : ℕ) (x : Parcel) (n next count : ℕ) → p < 16 → IsBetweenCalls m items → speaks q m.0.parts ≡ true
-    → IsAfter q (getting p x next (taking p x n (the_part q m.0.parts))) m.0 m'
+pub kept_got : (m m' : M) (items items' : Items) (q p : ℕ) (x : Parcel) (n next loads count : ℕ) → p < 16 → IsBetweenCalls m items → speaks q m.0.parts ≡ true
+    → IsAfter q (getting p x next loads (taking p x n (the_part q m.0.parts))) m.0 m'
     → count ≡ length (parcels_got p (the_part q m.0.parts).history) + 1 → ((k : ℕ) → row_at items' k ≡ (if k == q then with_got_count p count next (row_at items k) else row_at items k))
     → IsBetweenCalls m' items'
-kept_got m m' items items' q p x n next count l kept says a is noted = let t = kept.rows q says in
-    kept_change m m' items items' q (getting p x next (taking p x n (the_part q m.0.parts))) kept says a refl record { state = next; sent = t.0.sent; got = slice_set t.0.got p count }
-    (noted q ∙ at_here q q (with_got_count p count next (row_at items q)) (row_at items q) refl ∙ ap (with_got_count p count next) t.1) (row_got t.0 (the_part q m.0.parts) p x n next count l t.2 is)
+kept_got m m' items items' q p x n next loads count l kept says a is noted = let t = kept.rows q says in
+    kept_change m m' items items' q (getting p x next loads (taking p x n (the_part q m.0.parts))) kept says a refl record { state = next; sent = t.0.sent; got = slice_set t.0.got p count }
+    (noted q ∙ at_here q q (with_got_count p count next (row_at items q)) (row_at items q) refl ∙ ap (with_got_count p count next) t.1)
+    (row_got t.0 (the_part q m.0.parts) p x n next loads count l t.2 is)
     (λ k ne. noted k ∙ at_else k q (with_got_count p count next (row_at items k)) (row_at items k) ne)
 
 -- a cut

@@ -19,7 +19,7 @@ use Rattle.rs_core.specs.Histories.{History, IsLegal}
 use Rattle.rs_core.specs.Safety.{IsSafe, CanMove, MaySend, MayReceive, CanStep, AllEnded}
 use Rattle.rs_rings.specs.Acts.{message_of, parcels_sent, parcels_got}
 use Rattle.rs_rings.specs.Places.{head_word_of, tail_of, slot_place}
-use Rattle.rs_rings.specs.Rule.{Spoken, RingsShow, machines_in_key, configuration_by, histories_of, first_view}
+use Rattle.rs_rings.specs.Rule.{AreStamped, Spoken, RingsShow, machines_in_key, configuration_by, histories_of, first_view}
 use Rattle.rs_rings.specs.Told.{IsLegalEnd}
 use Rattle.rs_rings.specs.Views.{speaks, the_part, history_in, parcels_under_way, first_part, first_parts, start_of, parts_without, view_without_role, alone, joint_view, spent_view}
 use Rattle.rs_slots.specs.Places.{ring_count}
@@ -176,6 +176,10 @@ joins key id v other w s sh at apart at' = record {
   legal = sh.legal;
 }
 
+-- at the start nothing is stamped
+none_stamped : AreStamped [] 0 0 0
+none_stamped = record { each = refl; before = λ k n at. absurd (some-ne-none n (sym at)); uncounted = λ k n l at. absurd (some-ne-none n (sym at)) }
+
 -- the end
 the_blank : (y : ℕ) (xs : List Part) → speaks y xs ≡ false → (the_part y xs).history ≡ []
 the_blank y [] s = refl
@@ -280,9 +284,12 @@ begins key words count pos machine_count safe well_formed w c = let ms : List Ma
       differ = apart;
     }));
     takes = λ x e. cc;
+    finds = λ x e. cc;
     puts = λ e. absurd (true≢false (sym e));
     read_head = zero-le;
     read_tail = zero-le;
+    puts_stamped = none_stamped;
+    takes_stamped = none_stamped;
   };
   machine_count = machine_count;
   safe = safe;

@@ -1,5 +1,5 @@
 -- The rule says what a table shows, and how a step changes it.
-use Rattle.std.proofs.Common.{if◌then◌else◌, ◌==◌, ◌≡◌, ℕ, ◌+◌, ◌<◌, ◌≤◌, List, [], ◌∷◌, ◌++◌, length, drop, map, slice_index, Option, Some, slice_get, refl, sym, ap, ◌∙◌, subst, ⊎_elim}
+use Rattle.std.proofs.Common.{if◌then◌else◌, ◌==◌, ◌≡◌, ℕ, ◌+◌, ◌<◌, List, [], ◌∷◌, ◌++◌, length, drop, map, slice_index, Option, Some, slice_get, refl, sym, ap, ◌∙◌, subst, ⊎_elim}
 use mathlib.Core.Option.{some-injective}
 use lib.ListN.{get_elem?}
 use Rattle.atomic_table.specs.Table.{State}
@@ -10,8 +10,8 @@ use Rattle.rs_slots.specs.Places.{IsPair}
 use Rattle.rs_slots.specs.declared.parcels.Parcel.{Parcel}
 use Rattle.rs_rings.specs.Acts.{message_of, sent_act, got_act, parcels_sent, parcels_got, SendsParcel, ReceivesParcel}
 use Rattle.rs_rings.specs.Places.{head_word_of, tail_of}
-use Rattle.rs_rings.specs.Rule.{RingsShow, RingFacts, RingRule, ring_facts, Spoken, AreLegal, configuration_by, histories_of, machines_in_key}
-use Rattle.rs_rings.specs.Shown.{RingShown, Shown, IsSameAmong, Moves, LoadsHeadOf, StoresTailOf, LoadsTailOf, StoresHeadOf, SplitsOff, JoinsIn}
+use Rattle.rs_rings.specs.Rule.{RingsShow, RingRule, ring_facts, Spoken, AreLegal, configuration_by, histories_of, machines_in_key}
+use Rattle.rs_rings.specs.Shown.{Shown, IsSameAmong, Moves, LoadsHeadOf, StoresTailOf, LoadsTailOf, StoresHeadOf, SplitsOff, JoinsIn}
 use Rattle.rs_rings.specs.Views.{the_part, sending, getting, parcel_in_hand}
 use Rattle.rs_rings.specs.declared.views.Key.{Key}
 use Rattle.rs_rings.specs.declared.views.Part.{Part}
@@ -25,23 +25,6 @@ use Rattle.rs_rings.proofs.Seats.{spoken_split, spoken_join}
 abbrev St : Type 0
 St = State (Option Parcel) View
 
--- a ring shows what is known of its two roles
-ring_shown : (key : Key) (s : St) (sh : RingsShow key s) (p q : ℕ) → IsPair key.roles p q → RingShown key s p q (sh.known p) (sh.known q)
-ring_shown key s sh p q pair =
-    let f : RingFacts = ring_facts key.roles key.capacity s.words s.homes p q (sh.known p) (sh.known q) in
-    let r : RingRule key.capacity f = sh.rings p q pair.sender pair.receiver pair.differ in
-    record {
-      tail = r.tail_is;
-      head = r.head_is;
-      got = behind key.capacity f r;
-      room = r.room;
-      full = r.full;
-      takes = r.takes;
-      free = r.free;
-      read_head = subst (λ (z : ℕ). f.seen_head ≤ z) (sym r.head_is) r.read_head;
-      read_tail = subst (λ (z : ℕ). f.seen_tail ≤ z) (sym r.tail_is) r.read_tail;
-    }
-
 -- a table shows a configuration that has the states and the queues of what is known of the roles
 shown_by : (key : Key) (t : St) (sh : RingsShow key t) (known : ℕ → Part) (c : Configuration) → ((r : ℕ) → r < key.roles → sh.known r ≡ known r)
     → ((r : ℕ) → c.at r ≡ (known r).state)
@@ -52,7 +35,8 @@ shown_by key t sh known c same states queues legal = record {
   spoken = λ r l. let e = sh.spoken.each r l in (sh.owner r, e.0, e.1, e.2, e.3 ∙ same r l, λ i w at says. sym (sh.spoken.only i w r at says).0);
   states = states;
   queues = queues;
-  rings = λ p q pair. subst (λ (z : Part × Part). RingShown key t p q z.0 z.1) (λ i. (same p pair.sender i, same q pair.receiver i)) (ring_shown key t sh p q pair);
+  rings = λ p q pair. subst (λ (z : Part × Part). RingRule key.capacity (ring_facts key.roles key.capacity t.words t.homes p q z.0 z.1)) (λ i. (same p pair.sender i, same q pair.receiver i))
+      (sh.rings p q pair.sender pair.receiver pair.differ);
   legal = legal;
   reachable = reached (machines_in_key key) (histories_of known) c legal;
 }
@@ -169,7 +153,7 @@ module _ (key : Key) (s t : St) (c : Configuration) (sh : RingsShow key s) (th :
     pub stores_tail : (m : Parcel) → StoresTailOf key s t p q m → (d : Configuration) × Shown key t d × SendsParcel (machines_in_key key) c p q m d
     stores_tail m l =
         let ms : List Machine_data = machines_in_key key in
-        let b : Part = sending q m l.next l.knew in
+        let b : Part = sending q m l.next l.loads l.knew in
         let w : ℕ = tail_of key.roles p q in
         let new : ℕ = slice_index s.words w + 1 in
         let role : b.role ≡ p = ap (λ (z : Part). z.role) (sym l.moves.knew) ∙ the_role p l.moves.view.parts l.moves.speaks in
@@ -178,7 +162,7 @@ module _ (key : Key) (s t : St) (c : Configuration) (sh : RingsShow key s) (th :
         let picked : (place : ℕ) × (slice_get l.may.arms place ≡ Some l.may.arm) × (l.may.arm.label ≡ m.label) = (l.may.place, l.may.picks, l.may.same_label) in
         let puts = ap (λ (z : Part). state_of (slice_get ms p) z.state) (sym knew) ∙ l.may.puts in
         let history : b.history ≡ (x.known p).history ++ sent_act q m ∷ [] = ap (λ (z : Part). z.history ++ sent_act q m ∷ []) knew in
-        let behind' = (x.rings p q pair).got in
+        let behind' = behind key.capacity (ring_facts key.roles key.capacity s.words s.homes p q (x.known p) (x.known q)) (x.rings p q pair) in
         let told = sends ms x.known p q pair.differ m l.may.arms l.may.arm picked l.may.has_sort b puts l.may.goes history behind' in
         let lived = legal_sent ms x.known p q pair.differ m l.may.arms l.may.arm picked l.may.has_sort b legal_known puts l.may.goes history behind' in (
           configuration_by known,
@@ -189,7 +173,7 @@ module _ (key : Key) (s t : St) (c : Configuration) (sh : RingsShow key s) (th :
     pub stores_head : (m : Parcel) → StoresHeadOf key s t p q m → (d : Configuration) × Shown key t d × ReceivesParcel (machines_in_key key) c q p m d
     stores_head m l =
         let ms : List Machine_data = machines_in_key key in
-        let b : Part = getting p m l.next l.knew in
+        let b : Part = getting p m l.next l.loads l.knew in
         let w : ℕ = head_word_of key.roles p q in
         let new : ℕ = slice_index s.words w + 1 in
         let role : b.role ≡ q = ap (λ (z : Part). z.role) (sym l.moves.knew) ∙ the_role q l.moves.view.parts l.moves.speaks in

@@ -12,7 +12,7 @@ use Rattle.rs_model.specs.declared.machines.State.TheVariants.{Done, Puts, Takes
 use Rattle.rs_model.specs.declared.machines.State.{State}
 use Rattle.rs_model.specs.Data.{Machine_data}
 use Rattle.rs_core.specs.Configurations.{state_of}
-use Rattle.rs_core.specs.Core.{arm_with}
+use Rattle.rs_core.specs.Ways.{arm_with}
 use Rattle.rs_rings.specs.Acts.{role_of_number, sent_act, got_act, Happened, MayPut, MayTake, parcels_sent, parcels_got}
 use Rattle.rs_rings.specs.Asked.{IsCallOn}
 use Rattle.rs_rings.specs.Places.{head_word_of, tail_of, slot_place}
@@ -30,7 +30,7 @@ M = Me (Option Parcel) View
 abbrev pub named : ℕ → ℕ → ℕ → ℕ → ℕ → List Arm → List Machine_data → Call
 named n cap p q next arms ms = record { roles = n; capacity = cap; sender = p; receiver = q; next = next; arms = arms; machines = ms }
 
-is_named : (w : Call) (n cap p q : ℕ) (ms : List Machine_data) → IsCallOn w n cap p q ms → w ≡ named n cap p q w.next w.arms ms
+pub is_named : (w : Call) (n cap p q : ℕ) (ms : List Machine_data) → IsCallOn w n cap p q ms → w ≡ named n cap p q w.next w.arms ms
 is_named w n cap p q ms e i = record {
   roles = e.roles_are i;
   capacity = e.capacity_is i;
@@ -120,25 +120,32 @@ module _ (key : Key) (w : Call) (n cap p q : ℕ) (kn : key.roles ≡ n) (kc : k
 
   -- what a store of the tail did
   pub put_done : (v : View) (y : Part) (m m' : M) (k : ℕ) (x : Parcel) → speaks p v.parts ≡ true → y.role ≡ p → m ≡ (view_with_part p y v, (k, Some x) ∷ []) → GivesFilled w m m' m.1
-      → Happened (machines_in_key key) p y.history (sent_act q x) × IsAfter p (sending q x w.next y) v m'
+      → Happened (machines_in_key key) p y.history (sent_act q x) × ((n : ℕ) × IsAfter p (sending q x w.next n y) v m')
   put_done v y m m' k x says role is told = let here = the_put_here p y v.parts role says in
       let t : GivesFilled (named n cap p q w.next w.arms (machines_in_key key)) (view_with_part p y v, (k, Some x) ∷ []) m' ((k, Some x) ∷ []) =
       subst (λ (z : M × Call). GivesFilled z.1 z.0 m' z.0.1) (λ i. (is i, is_named w n cap p q (machines_in_key key) nm i)) told in (
-        subst (λ (z : Part). Happened (machines_in_key key) p z.history (sent_act q x)) here t.1,
-        after_after p y (sending q x w.next y) v m' says role role
-            (t.0 ∙ (λ i. (view_with_part p (sending q x w.next (here i)) (view_with_part p y v), []))),
+        subst (λ (z : Part). Happened (machines_in_key key) p z.history (sent_act q x)) here t.2,
+        (
+          t.0,
+          after_after p y (sending q x w.next t.0 y) v m' says role role
+              (t.1 ∙ (λ i. (view_with_part p (sending q x w.next t.0 (here i)) (view_with_part p y v), []))),
+        ),
       )
 
   -- what a store of the head did
   pub took_done : (m m' : M) (k : ℕ) (x : Parcel) → speaks q m.0.parts ≡ true → (the_part q m.0.parts).middle ≡ Taking p x → m.1 ≡ (k, None) ∷ [] → GivesEmptied w m m' (own w.receiver m).middle
-      → Happened (machines_in_key key) q (the_part q m.0.parts).history (got_act p x) × IsAfter q (getting p x w.next (the_part q m.0.parts)) m.0 m'
+      → Happened (machines_in_key key) q (the_part q m.0.parts).history (got_act p x)
+      × ((n : ℕ) × IsAfter q (getting p x w.next n (the_part q m.0.parts)) m.0 m')
   took_done m m' k x says busy cs told =
       let t : GivesEmptied (named n cap p q w.next w.arms (machines_in_key key)) m m' (the_part q m.0.parts).middle =
       subst (λ (u : Call). GivesEmptied u m m' (own u.receiver m).middle) (is_named w n cap p q (machines_in_key key) nm) told in
       let t' : GivesEmptied (named n cap p q w.next w.arms (machines_in_key key)) m m' (Taking p x) = subst (GivesEmptied (named n cap p q w.next w.arms (machines_in_key key)) m m') busy t in (
-        t'.1,
-        after q (getting p x w.next (the_part q m.0.parts)) m.0 m' says (the_role q m.0.parts says)
-            (t'.0 ∙ (λ i. (view_with_part q (getting p x w.next (the_part q m.0.parts)) m.0, rest (cs i)))),
+        t'.2,
+        (
+          t'.0,
+          after q (getting p x w.next t'.0 (the_part q m.0.parts)) m.0 m' says (the_role q m.0.parts says)
+              (t'.1 ∙ (λ i. (view_with_part q (getting p x w.next t'.0 (the_part q m.0.parts)) m.0, rest (cs i)))),
+        ),
       )
 
 abbrev pairing : ℕ → Option Parcel → ℕ × Option Parcel

@@ -1,5 +1,5 @@
--- Believed: what roles do, as rings tell it: parcels in histories, and acts that happened.
-use Rattle.std.specs.Prelude.{◌≡◌, ℕ, List, [], ◌∷◌, flat_map, if◌then◌else◌, ◌==◌, Some, slice_get}
+-- Public: what roles do, as rings tell it: parcels in histories, and acts that happened.
+use Rattle.std.specs.Prelude.{◌≡◌, ℕ, List, [], ◌∷◌, length, flat_map, if◌then◌else◌, ◌==◌, Some, slice_get}
 use Rattle.rs_model.specs.Data.{Machine_data}
 use Rattle.rs_model.specs.Sorts.{HasSort}
 use Rattle.rs_model.specs.declared.graph.Arm.{Arm}
@@ -91,3 +91,19 @@ pub record Happened (machines : List Machine_data) (p : ℕ) (h : History) (a : 
   pub whose : role_of event ≡ p
   pub step : Step machines before event after
   pub did : action_of machines before event after step ≡ a
+
+-- q had taken so many parcels from p at a moment at which p had the history h, and the histories of all roles were legal
+pub record HadTaken (machines : List Machine_data) (p : ℕ) (h : History) (q n : ℕ) : Type 0 where
+  pub histories : ℕ → History
+  pub moment : Configuration
+  pub legal : IsLegal machines histories moment
+  pub own : histories p ≡ h
+  pub taken : n ≡ length (parcels_got p (histories q))
+
+-- p had put so many parcels to q at a moment at which q had the history h, and the histories of all roles were legal
+pub record HadPut (machines : List Machine_data) (q : ℕ) (h : History) (p n : ℕ) : Type 0 where
+  pub histories : ℕ → History
+  pub moment : Configuration
+  pub legal : IsLegal machines histories moment
+  pub own : histories q ≡ h
+  pub put : n ≡ length (parcels_sent q (histories p))

@@ -1,14 +1,19 @@
--- Steps: what the calls on a seat ask of it.
+-- Public: what the calls on a seat ask of it.
 use Rattle.std.specs.Prelude.{◌≡◌, ℕ, ◌<◌, ◌^◌, true, List, [], ◌∷◌, length, Option, None}
+use mathlib.Core.Option.{some}
+use lib.ListN.{get_elem?}
 use Rattle.std.specs.Global.{Box}
-use Rattle.atomic_table.specs.Table.{Me}
+use Rattle.atomic_table.specs.Table.{State, Me, Act, Valid, stepped, carried_after}
 use Rattle.rs_model.specs.Data.{Machine_data}
 use Rattle.rs_model.specs.declared.graph.Arm.{Arm}
+use Rattle.rs_slots.specs.Places.{IsPair}
 use Rattle.rs_slots.specs.declared.parcels.Parcel.{Parcel}
 use Rattle.rs_rings.specs.Rows.{IsBetweenCalls}
+use Rattle.rs_rings.specs.Rule.{machines_in_key}
 use Rattle.rs_rings.specs.Steps.{Call}
 use Rattle.rs_rings.specs.Views.{speaks, the_part}
 use Rattle.rs_rings.specs.declared.rows.Row.{Row}
+use Rattle.rs_rings.specs.declared.views.Key.{Key}
 use Rattle.rs_rings.specs.declared.views.Middle.TheVariants.{Idle, Taking}
 use Rattle.rs_rings.specs.declared.views.View.{View}
 
@@ -52,3 +57,16 @@ pub record MayAct (r : ℕ) (m : Me (Option Parcel) View) (items : List (Option 
   pub between : IsBetweenCalls m items
   pub speaks_for : speaks r m.0.parts ≡ true
   pub acts : length (the_part r m.0.parts).history < 2 ^ 63
+
+-- in a call on the ring from p to q a seat that speaks for role r makes one step on the word, from s to t: it leaves the number
+-- `new` in the word, and the seat, which was m, is m' behind it
+pub record IsCallStep (key : Key) (s t : State (Option Parcel) View) (r p q word new : ℕ) (call : Call) (m m' : Me (Option Parcel) View) : Type 0 where
+  pub seat : ℕ
+  pub act : Act (Option Parcel)
+  pub pair : IsPair key.roles p q
+  pub on : IsCallOn call key.roles key.capacity p q (machines_in_key key)
+  pub speaks_for : speaks r m.0.parts ≡ true
+  pub present : get_elem? s.views seat ≡ some m.0
+  pub valid : Valid s.homes m.1 act
+  pub becomes : t ≡ stepped s word new seat m.1 m'.0 act
+  pub carries : m'.1 ≡ carried_after m.1 act

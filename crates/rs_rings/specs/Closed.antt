@@ -1,4 +1,4 @@
--- Believed: what is left of rings.
+-- Public: what is left of rings.
 use Rattle.std.specs.Prelude.{◌≡◌, ◌≢◌, ℕ, zero, suc, ◌+◌, ◌-◌, ◌/◌, ◌%◌, ◌<◌, nat_lt, if◌then◌else◌, List, [], ◌++◌, map, length}
 use Rattle.rs_model.specs.Data.{Machine_data}
 use Rattle.rs_core.specs.Configurations.{Configuration}
@@ -10,14 +10,17 @@ use Rattle.rs_rings.specs.Views.{state_in, history_in, parcels_under_way}
 use Rattle.rs_rings.specs.declared.loose.Loose.{Loose}
 use Rattle.rs_rings.specs.declared.views.View.{View}
 
--- what contracts see: the machines that the rings were made with, and what the last pass knew
+-- what contracts see: the machines that the rings were made with, how many parcels each ring held at most, and what the last
+-- pass knew
 pub record Closed_data : Type 0 where
   pub machines : List Machine_data
+  pub capacity : ℕ
   pub last : View
 
--- what was closed had these machines, and its last pass knew this
-pub record IsClosedAs (c : Closed_data) (machines : List Machine_data) (v : View) : Type 0 where
+-- what was closed had these machines and rings of this capacity, and its last pass knew this
+pub record IsClosedAs (c : Closed_data) (machines : List Machine_data) (capacity : ℕ) (v : View) : Type 0 where
   pub machines_are : c.machines ≡ machines
+  pub capacity_is : c.capacity ≡ capacity
   pub last_is : c.last ≡ v
 
 -- the histories are legal, and lead to a configuration in which each role stands in the state that the pass knew, and in

@@ -4,6 +4,7 @@ pub mod Views
 pub mod Places
 pub mod Rule
 pub mod Shown
+pub mod Looks
 pub mod Passes
 pub mod Closed
 pub mod Steps

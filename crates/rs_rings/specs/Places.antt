@@ -1,4 +1,4 @@
--- Believed: the words and slots of the ring from one role to another.
+-- Public: the words and slots of the ring from one role to another.
 use Rattle.std.specs.Prelude.{ℕ}
 use Rattle.rs_slots.specs.Places.{ring_of, head_word, tail_word, slot_of}
 

@@ -1,4 +1,4 @@
--- Steps: what a pass keeps at run time.
+-- Public: what a pass keeps at run time.
 use Rattle.std.specs.Prelude.{◌≡◌, ℕ, ◌<◌, true, List, [], length, Option, Some, None, slice_get, slice_index_or, slice_set, replicate}
 use Rattle.std.specs.Global.{Box}
 use Rattle.rs_model.specs.declared.limits.TheConstants.{MOST_ROLES}

@@ -1,4 +1,4 @@
--- Believed: the rule of the table, which holds between any two steps.
+-- Public: the rule of the table, which holds between any two steps.
 use Rattle.std.specs.Prelude.{◌≡◌, ◌≢◌, ◌⊎◌, ℕ, ◌+◌, ◌*◌, ◌<◌, ◌≤◌, Bool, true, false, List, ◌++◌, length, drop, slice_index, map, Option, Some, None}
 use mathlib.Core.Option.{some}
 use mathlib.Core.Option as maybe
@@ -13,14 +13,15 @@ use Rattle.rs_slots.specs.Places.{ring_count}
 use Rattle.rs_slots.specs.declared.parcels.Parcel.{Parcel}
 use Rattle.rs_rings.specs.Acts.{message_of, parcels_sent, parcels_got}
 use Rattle.rs_rings.specs.Places.{head_word_of, tail_of, slot_place}
-use Rattle.rs_rings.specs.Views.{last_found, is_putting, parcel_in_hand, speaks, the_part, first_parts}
+use Rattle.rs_rings.specs.Views.{last_found, loads_with, stamps_with, is_putting, parcel_in_hand, speaks, the_part, first_parts}
 use Rattle.rs_rings.specs.declared.views.Key.{Key}
 use Rattle.rs_rings.specs.declared.views.Part.{Part}
 use Rattle.rs_rings.specs.declared.views.View.{View}
 
 -- what is known of one ring: its tail word and its head word; what stands in the slot of each parcel number, where a slot
 -- is at home with a parcel or with none, or is out with a seat; what its sender has sent and its receiver has got; the
--- numbers that the two last read of each other's word; and whether either is in the middle of a call on this ring
+-- numbers that the two last read of each other's word, how many loads of it they made, and the stamps of what was put and
+-- taken; and whether either is in the middle of a call on this ring
 pub record RingFacts : Type 0 where
   pub tail : ℕ
   pub head : ℕ
@@ -29,8 +30,19 @@ pub record RingFacts : Type 0 where
   pub got : List Parcel
   pub seen_head : ℕ
   pub seen_tail : ℕ
+  pub head_loads : ℕ
+  pub tail_loads : ℕ
+  pub put_stamps : List ℕ
+  pub take_stamps : List ℕ
   pub putting : Bool
   pub taking : Option Parcel
+
+-- the stamps of so many parcels, where the peer has made so many loads and counted `found` of the parcels at its last one
+pub record AreStamped (stamps : List ℕ) (count loads found : ℕ) : Type 0 where
+  pub each : length stamps ≡ count
+  pub before : (k n : ℕ) → get_elem? stamps k ≡ some n → n ≤ loads
+  -- what the last load didn't count came behind all loads
+  pub uncounted : (k n : ℕ) → found ≤ k → get_elem? stamps k ≡ some n → n ≡ loads
 
 -- what holds of each ring
 pub record RingRule (capacity : ℕ) (f : RingFacts) : Type 0 where
@@ -44,12 +56,17 @@ pub record RingRule (capacity : ℕ) (f : RingFacts) : Type 0 where
   pub full : (k : ℕ) (x : Parcel) → length f.got ≤ k → get_elem? f.sent k ≡ some x → (f.taking ≡ None) ⊎ (k ≢ length f.got) → f.slot k ≡ some (some (Some x))
   -- the other slots are at home and empty, but for the next one's in the middle of a put
   pub free : (k : ℕ) → length f.sent ≤ k → k < length f.got + capacity → (f.putting ≡ false) ⊎ (k ≢ length f.sent) → f.slot k ≡ some (some None)
-  -- who is in the middle of a take takes the oldest parcel under way; who is in the middle of a put has room
+  -- who is in the middle of a take takes the oldest parcel under way, and the number that it read tells that one is there
   pub takes : (x : Parcel) → f.taking ≡ Some x → get_elem? f.sent (length f.got) ≡ some x
-  pub puts : f.putting ≡ true → length f.sent < length f.got + capacity
+  pub finds : (x : Parcel) → f.taking ≡ Some x → length f.got < f.seen_tail
+  -- who is in the middle of a put has room, by the number that it read
+  pub puts : f.putting ≡ true → length f.sent < f.seen_head + capacity
   -- what was last read of a word is at most that word
   pub read_head : f.seen_head ≤ length f.got
   pub read_tail : f.seen_tail ≤ length f.sent
+  -- each parcel that was put or taken is stamped
+  pub puts_stamped : AreStamped f.put_stamps (length f.sent) f.tail_loads f.seen_tail
+  pub takes_stamped : AreStamped f.take_stamps (length f.got) f.head_loads f.seen_head
 
 -- the facts of the ring from p to q, where a is known of p and b of q
 abbrev pub ring_facts : ℕ → ℕ → List ℕ → List (maybe.Option (Option Parcel)) → ℕ → ℕ → Part → Part → RingFacts
@@ -61,6 +78,10 @@ ring_facts roles capacity words homes p q a b = record {
   got = parcels_got p b.history;
   seen_head = last_found q a.heads;
   seen_tail = last_found p b.tails;
+  head_loads = loads_with q a.heads;
+  tail_loads = loads_with p b.tails;
+  put_stamps = stamps_with q a.put_stamps;
+  take_stamps = stamps_with p b.take_stamps;
   putting = is_putting q a.middle;
   taking = parcel_in_hand p b.middle;
 }

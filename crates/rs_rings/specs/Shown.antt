@@ -1,5 +1,5 @@
--- Believed: what the words, slots and views of a table show between any two steps, and what a step changes of it.
-use Rattle.std.specs.Prelude.{◌≡◌, ◌≢◌, ◌⊎◌, ℕ, ◌+◌, ◌<◌, ◌≤◌, true, false, [], ◌∷◌, ◌++◌, length, drop, map, slice_index, slice_set, Option, Some, None}
+-- Public: what the words, slots and views of a table show between any two steps, and what a step changes of it.
+use Rattle.std.specs.Prelude.{◌≡◌, ◌≢◌, ◌⊎◌, ℕ, ◌+◌, ◌<◌, true, [], ◌∷◌, ◌++◌, length, drop, map, slice_index, slice_set, Option}
 use mathlib.Core.Option.{some}
 use lib.ListN.{get_elem?}
 use Rattle.atomic_table.specs.Table.{State}
@@ -8,45 +8,24 @@ use Rattle.rs_core.specs.Histories.{IsLegal}
 use Rattle.rs_slots.specs.Places.{IsPair}
 use Rattle.rs_slots.specs.declared.parcels.Parcel.{Parcel}
 use Rattle.rs_rings.specs.Acts.{message_of, parcels_sent, parcels_got, MayPut, MayTake}
-use Rattle.rs_rings.specs.Places.{head_word_of, tail_of, slot_place}
-use Rattle.rs_rings.specs.Rule.{machines_in_key}
-use Rattle.rs_rings.specs.Views.{speaks, the_part, last_found, is_putting, parcel_in_hand, view_with_part, part_with_room, gaining}
+use Rattle.rs_rings.specs.Places.{head_word_of, tail_of}
+use Rattle.rs_rings.specs.Rule.{RingRule, ring_facts, machines_in_key}
+use Rattle.rs_rings.specs.Views.{speaks, the_part, view_with_part, part_with_room, gaining}
 use Rattle.rs_rings.specs.Views.{sending, part_with_parcel, taking, getting, view_without_role, alone, joint_view, spent_view}
 use Rattle.rs_rings.specs.declared.views.Key.{Key}
 use Rattle.rs_rings.specs.declared.views.Middle.TheVariants.{Putting, Taking}
 use Rattle.rs_rings.specs.declared.views.Part.{Part}
 use Rattle.rs_rings.specs.declared.views.View.{View}
 
--- the ring from p, of which a is known, to q, of which b is known
-pub record RingShown (key : Key) (s : State (Option Parcel) View) (p q : ℕ) (a b : Part) : Type 0 where
-  -- the words count what p has sent and what q has got
-  pub tail : slice_index s.words (tail_of key.roles p q) ≡ length (parcels_sent q a.history)
-  pub head : slice_index s.words (head_word_of key.roles p q) ≡ length (parcels_got p b.history)
-  pub got : length (parcels_got p b.history) ≤ length (parcels_sent q a.history)
-  pub room : length (parcels_sent q a.history) ≤ length (parcels_got p b.history) + key.capacity
-  -- the slots from head up to tail are at home and hold what was sent, but for that of the head in the middle of a take
-  pub full : (k : ℕ) (x : Parcel) → length (parcels_got p b.history) ≤ k → get_elem? (parcels_sent q a.history) k ≡ some x
-      → (parcel_in_hand p b.middle ≡ None) ⊎ (k ≢ length (parcels_got p b.history))
-      → get_elem? s.homes (slot_place key.roles key.capacity p q k) ≡ some (some (Some x))
-  -- who is in the middle of a take takes the oldest parcel under way
-  pub takes : (x : Parcel) → parcel_in_hand p b.middle ≡ Some x → get_elem? (parcels_sent q a.history) (length (parcels_got p b.history)) ≡ some x
-  -- the others are at home and empty, but for that of the tail in the middle of a put
-  pub free : (k : ℕ) → length (parcels_sent q a.history) ≤ k → k < length (parcels_got p b.history) + key.capacity
-      → (is_putting q a.middle ≡ false) ⊎ (k ≢ length (parcels_sent q a.history))
-      → get_elem? s.homes (slot_place key.roles key.capacity p q k) ≡ some (some None)
-  -- what was last read of a word is at most that word
-  pub read_head : last_found q a.heads ≤ slice_index s.words (head_word_of key.roles p q)
-  pub read_tail : last_found p b.tails ≤ slice_index s.words (tail_of key.roles p q)
-
 -- a table in the state s shows the configuration c: each role is spoken for by one view, its state in c is the one that the
--- view knows, in each queue is what was sent and not got, the rings show the same, and the histories are legal and lead to c
+-- view knows, in each queue is what was sent and not got, each ring is as its rule says, and the histories are legal and lead to c
 pub record Shown (key : Key) (s : State (Option Parcel) View) (c : Configuration) : Type 0 where
   pub known : ℕ → Part
   pub spoken : (r : ℕ) → r < key.roles → (j : ℕ) × (v : View) × (get_elem? s.views j ≡ some v) × (speaks r v.parts ≡ true) × (the_part r v.parts ≡ known r)
       × ((i : ℕ) (w : View) → get_elem? s.views i ≡ some w → speaks r w.parts ≡ true → i ≡ j)
   pub states : (r : ℕ) → c.at r ≡ (known r).state
   pub queues : (p q : ℕ) → c.queue p q ≡ map message_of (drop (length (parcels_got p (known q).history)) (parcels_sent q (known p).history))
-  pub rings : (p q : ℕ) → IsPair key.roles p q → RingShown key s p q (known p) (known q)
+  pub rings : (p q : ℕ) → IsPair key.roles p q → RingRule key.capacity (ring_facts key.roles key.capacity s.words s.homes p q (known p) (known q))
   pub legal : IsLegal (machines_in_key key) (λ r. (known r).history) c
   pub reachable : IsReachable (machines_in_key key) c
 
@@ -77,9 +56,10 @@ pub record LoadsHeadOf (key : Key) (s t : State (Option Parcel) View) (p q : ℕ
 pub record StoresTailOf (key : Key) (s t : State (Option Parcel) View) (p q : ℕ) (x : Parcel) : Type 0 where
   pub knew : Part
   pub next : ℕ
+  pub loads : ℕ
   pub middle : knew.middle ≡ Putting q
   pub may : MayPut (machines_in_key key) p q knew.state x next
-  pub moves : Moves s t p (tail_of key.roles p q) (slice_index s.words (tail_of key.roles p q) + 1) knew (sending q x next knew)
+  pub moves : Moves s t p (tail_of key.roles p q) (slice_index s.words (tail_of key.roles p q) + 1) knew (sending q x next loads knew)
 
 -- the receiver q loads the tail word of the ring from p, and finds the ring empty or gains the slot of the oldest parcel
 pub record LoadsTailOf (key : Key) (s t : State (Option Parcel) View) (p q : ℕ) : Type 0 where
@@ -92,9 +72,10 @@ pub record LoadsTailOf (key : Key) (s t : State (Option Parcel) View) (p q : ℕ
 pub record StoresHeadOf (key : Key) (s t : State (Option Parcel) View) (p q : ℕ) (x : Parcel) : Type 0 where
   pub knew : Part
   pub next : ℕ
+  pub loads : ℕ
   pub middle : knew.middle ≡ Taking p x
   pub may : MayTake (machines_in_key key) q p knew.state x next
-  pub moves : Moves s t q (head_word_of key.roles p q) (slice_index s.words (head_word_of key.roles p q) + 1) knew (getting p x next knew)
+  pub moves : Moves s t q (head_word_of key.roles p q) (slice_index s.words (head_word_of key.roles p q) + 1) knew (getting p x next loads knew)
 
 -- a view gives up role r to a new view; a view takes in another, which is spent. Words and slots stay.
 pub record SplitsOff (s t : State (Option Parcel) View) (r : ℕ) : Type 0 where

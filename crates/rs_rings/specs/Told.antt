@@ -9,7 +9,7 @@ use Rattle.rs_core.specs.Configurations.{Configuration, state_of}
 use Rattle.rs_core.specs.Histories.{IsLegal}
 use Rattle.rs_core.specs.Safety.{AllEnded}
 use Rattle.rs_slots.specs.declared.parcels.Parcel.{Parcel}
-use Rattle.rs_rings.specs.Acts.{message_of, sent_act, got_act, parcels_sent, parcels_got, MayTake, Happened}
+use Rattle.rs_rings.specs.Acts.{message_of, sent_act, got_act, parcels_sent, parcels_got, MayTake, Happened, HadTaken, HadPut}
 use Rattle.rs_rings.specs.Steps.{HasFittingArm}
 use Rattle.rs_rings.specs.Views.{the_part, speaks, last_found, view_with_part, part_with_room, gaining, sending}
 use Rattle.rs_rings.specs.Views.{part_with_parcel, taking, getting, history_in, parcels_under_way, KnowsGot, KnowsSent, KnowsOldest}
@@ -45,28 +45,34 @@ pub record IsAfter (p : ℕ) (y : Part) (v : View) (m : Me (Option Parcel) View)
 -- a put of x from p to q by a seat with the view v, of which p has sent so many before and stands in `next` behind it
 abbrev pub HasPut : List Machine_data → ℕ → ℕ → ℕ → ℕ → ℕ → Parcel → Part → View → Me (Option Parcel) View → Put → Type 0
 HasPut machines next p q capacity sent x a v m put.Done =
-    (n : ℕ) × (last_found q a.heads ≤ n) × (sent ≢ n + capacity) × Happened machines p a.history (sent_act q x) × IsAfter p (sending q x next (gaining q n a)) v m
-    × KnowsGot v p q n × (n ≤ sent) × (sent < n + capacity)
+    (n : ℕ) × (last_found q a.heads ≤ n) × (sent ≢ n + capacity) × Happened machines p a.history (sent_act q x) × ((l : ℕ) × IsAfter p (sending q x next l (gaining q n a)) v m)
+    × KnowsGot v p q n × (n ≤ sent) × (sent < n + capacity) × HadTaken machines p a.history q n
 HasPut machines next p q capacity sent x a v m (put.Full s n back) =
     (s ≡ sent) × (sent ≡ n + capacity) × (back ≡ x) × (last_found q a.heads ≤ n) × IsAfter p (part_with_room q n a) v m × KnowsGot v p q n
+    × HadTaken machines p a.history q n
 
 -- a look of q for a parcel from p, of which q has got so many before; where one is found, its slot k is still with the seat
-abbrev pub HasLooked : List Arm → ℕ → ℕ → ℕ → ℕ → Part → View → Me (Option Parcel) View → Looked → Type 0
-HasLooked arms p q k got a v m (Nothing n) = (n ≡ got) × (last_found p a.tails ≤ n) × IsAfter q (part_with_parcel p n a) v m × KnowsSent v p q n
-HasLooked arms p q k got a v m (Found n x) =
+abbrev pub HasLooked : List Machine_data → ℕ → List Arm → ℕ → ℕ → ℕ → ℕ → Part → View → Me (Option Parcel) View → Looked → Type 0
+HasLooked machines capacity arms p q k got a v m (Nothing n) =
+    (n ≡ got) × (last_found p a.tails ≤ n) × IsAfter q (part_with_parcel p n a) v m × KnowsSent v p q n × HadPut machines q a.history p n
+HasLooked machines capacity arms p q k got a v m (Found n x) =
     (got ≢ n) × (last_found p a.tails ≤ n) × HasFittingArm arms x × (m ≡ (view_with_part q (taking p x n a) v, (k, None) ∷ [])) × KnowsSent v p q n × KnowsOldest v p q x
+    × HadPut machines q a.history p n × (got < n) × (n ≤ got + capacity)
 
 -- the whole take
-abbrev pub HasTaken : List Machine_data → ℕ → ℕ → ℕ → Part → View → Me (Option Parcel) View → Took → Type 0
-HasTaken machines p q got a v m (took.Nothing n) = (n ≡ got) × (last_found p a.tails ≤ n) × IsAfter q (part_with_parcel p n a) v m × KnowsSent v p q n
-HasTaken machines p q got a v m (took.One x next) =
-    (n : ℕ) × (got ≢ n) × (last_found p a.tails ≤ n) × MayTake machines q p a.state x next × Happened machines q a.history (got_act p x) × IsAfter q (getting p x next (taking p x n a)) v m
-    × KnowsSent v p q n × KnowsOldest v p q x
+abbrev pub HasTaken : List Machine_data → ℕ → ℕ → ℕ → ℕ → Part → View → Me (Option Parcel) View → Took → Type 0
+HasTaken machines capacity p q got a v m (took.Nothing n) =
+    (n ≡ got) × (last_found p a.tails ≤ n) × IsAfter q (part_with_parcel p n a) v m × KnowsSent v p q n × HadPut machines q a.history p n
+HasTaken machines capacity p q got a v m (took.One x next) =
+    (n : ℕ) × (got ≢ n) × (last_found p a.tails ≤ n) × MayTake machines q p a.state x next × Happened machines q a.history (got_act p x)
+    × ((l : ℕ) × IsAfter q (getting p x next l (taking p x n a)) v m)
+    × KnowsSent v p q n × KnowsOldest v p q x × HadPut machines q a.history p n × (got < n) × (n ≤ got + capacity)
 
 -- q got the parcel from p, as the last step of a take, and the seat knows it
 pub record HasGiven (machines : List Machine_data) (q p : ℕ) (x : Parcel) (next : ℕ) (v : View) (m : Me (Option Parcel) View) : Type 0 where
   pub happened : Happened machines q (the_part q v.parts).history (got_act p x)
-  pub after : IsAfter q (getting p x next (the_part q v.parts)) v m
+  pub loads : ℕ
+  pub after : IsAfter q (getting p x next loads (the_part q v.parts)) v m
 
 -- at the end: the histories in the last seat's view are legal, and lead to a configuration with the states in it and with
 -- queues of what was sent and not got

@@ -1,5 +1,5 @@
--- Believed: what the views of a table know. A view has one part for each role that it speaks for.
-use Rattle.std.specs.Prelude.{◌≡◌, ℕ, zero, suc, ◌==◌, Bool, true, false, if◌then◌else◌, List, [], ◌∷◌, ◌++◌, length, drop, slice_get, Option, Some, None}
+-- Public: what the views of a table know. A view has one part for each role that it speaks for.
+use Rattle.std.specs.Prelude.{◌≡◌, ℕ, zero, suc, ◌==◌, Bool, true, false, if◌then◌else◌, List, [], ◌∷◌, ◌++◌, length, drop, slice_get, flat_map, Option, Some, None}
 use Rattle.rs_model.specs.Data.{Machine_data}
 use Rattle.rs_core.specs.Histories.{History}
 use Rattle.rs_slots.specs.declared.parcels.Parcel.{Parcel}
@@ -8,12 +8,26 @@ use Rattle.rs_rings.specs.declared.views.Load.{Load}
 use Rattle.rs_rings.specs.declared.views.Middle.{Middle}
 use Rattle.rs_rings.specs.declared.views.Middle.TheVariants.{Idle, Putting, Taking}
 use Rattle.rs_rings.specs.declared.views.Part.{Part}
+use Rattle.rs_rings.specs.declared.views.Stamp.{Stamp}
 use Rattle.rs_rings.specs.declared.views.View.{View}
 
 -- the number that was last read of the word of the ring with q, by loads with the newest first; 0 where none was
 abbrev pub last_found : ℕ → List Load → ℕ
 last_found q [] = 0
 last_found q (l ∷ ls) = if q == l.peer then l.found else last_found q ls
+
+-- how many of these loads are of the ring with q
+abbrev pub loads_with : ℕ → List Load → ℕ
+loads_with q [] = 0
+loads_with q (l ∷ ls) = if q == l.peer then suc (loads_with q ls) else loads_with q ls
+
+-- the number on a stamp of the ring with q
+abbrev pub stamp_with : ℕ → Stamp → List ℕ
+stamp_with q x = if q == x.peer then x.loads ∷ [] else []
+
+-- the numbers on the stamps of the ring with q, in order
+abbrev pub stamps_with : ℕ → List Stamp → List ℕ
+stamps_with q xs = flat_map (stamp_with q) xs
 
 -- whether the role is in the middle of a put to q
 abbrev pub is_putting : ℕ → Middle → Bool
@@ -34,7 +48,7 @@ speaks r (x ∷ xs) = if r == x.role then true else speaks r xs
 
 -- the part of a role of which nothing is known
 abbrev pub blank_part : ℕ → Part
-blank_part r = record { role = r; state = 0; history = []; heads = []; tails = []; middle = Idle }
+blank_part r = record { role = r; state = 0; history = []; heads = []; tails = []; put_stamps = []; take_stamps = []; middle = Idle }
 
 -- the first part that is that of role r, and else a blank one
 abbrev pub the_part : ℕ → List Part → Part
@@ -83,30 +97,30 @@ abbrev pub view_with_part : ℕ → Part → View → View
 view_with_part r y v = record { parts = put_part r y v.parts }
 
 -- the part of a sender that has read n in the head word of its ring to q and found the ring full; that has read it, found
--- room and gained a slot; and that has then sent the parcel and stands in the state `next`
+-- room and gained a slot; and that has then sent the parcel, before which q had made so many loads, and stands in `next`
 abbrev pub part_with_room : ℕ → ℕ → Part → Part
-part_with_room q n a = record { role = a.role; state = a.state; history = a.history; heads = record { peer = q; found = n } ∷ a.heads; tails = a.tails; middle = a.middle }
+part_with_room q n a = record a { heads = record { peer = q; found = n } ∷ a.heads }
 
 -- the part of a sender that has read n, found room and gained a slot
 abbrev pub gaining : ℕ → ℕ → Part → Part
-gaining q n a = record { role = a.role; state = a.state; history = a.history; heads = record { peer = q; found = n } ∷ a.heads; tails = a.tails; middle = Putting q }
+gaining q n a = record a { heads = record { peer = q; found = n } ∷ a.heads; middle = Putting q }
 
--- the part of a sender that has sent the parcel and stands in the state `next`
-abbrev pub sending : ℕ → Parcel → ℕ → Part → Part
-sending q x next a = record { role = a.role; state = next; history = a.history ++ sent_act q x ∷ []; heads = a.heads; tails = a.tails; middle = Idle }
+-- the part of a sender that has sent the parcel, before which q had made so many loads, and stands in the state `next`
+abbrev pub sending : ℕ → Parcel → ℕ → ℕ → Part → Part
+sending q x next loads a = record a { state = next; history = a.history ++ sent_act q x ∷ []; put_stamps = a.put_stamps ++ record { peer = q; loads = loads } ∷ []; middle = Idle }
 
 -- the part of a receiver that has read n in the tail word of the ring from p and found the ring empty; that has read it and
--- gained the slot with the parcel; and that has then got the parcel and stands in the state `next`
+-- gained the slot with the parcel; and that has then got the parcel, before which p had made so many loads, and stands in `next`
 abbrev pub part_with_parcel : ℕ → ℕ → Part → Part
-part_with_parcel p n a = record { role = a.role; state = a.state; history = a.history; heads = a.heads; tails = record { peer = p; found = n } ∷ a.tails; middle = a.middle }
+part_with_parcel p n a = record a { tails = record { peer = p; found = n } ∷ a.tails }
 
 -- the part of a receiver that has read n and gained the slot with the parcel
 abbrev pub taking : ℕ → Parcel → ℕ → Part → Part
-taking p x n a = record { role = a.role; state = a.state; history = a.history; heads = a.heads; tails = record { peer = p; found = n } ∷ a.tails; middle = Taking p x }
+taking p x n a = record a { tails = record { peer = p; found = n } ∷ a.tails; middle = Taking p x }
 
--- the part of a receiver that has got the parcel and stands in the state `next`
-abbrev pub getting : ℕ → Parcel → ℕ → Part → Part
-getting p x next a = record { role = a.role; state = next; history = a.history ++ got_act p x ∷ []; heads = a.heads; tails = a.tails; middle = Idle }
+-- the part of a receiver that has got the parcel, before which p had made so many loads, and stands in the state `next`
+abbrev pub getting : ℕ → Parcel → ℕ → ℕ → Part → Part
+getting p x next loads a = record a { state = next; history = a.history ++ got_act p x ∷ []; take_stamps = a.take_stamps ++ record { peer = p; loads = loads } ∷ []; middle = Idle }
 
 -- at the start the one view speaks for all roles; each stands in its machine's start state and has done nothing
 abbrev pub start_of : Option Machine_data → ℕ
@@ -115,7 +129,7 @@ start_of (Some m) = m.start
 
 -- the part of role r at the start
 abbrev pub first_part : List Machine_data → ℕ → Part
-first_part machines r = record { role = r; state = start_of (slice_get machines r); history = []; heads = []; tails = []; middle = Idle }
+first_part machines r = record { role = r; state = start_of (slice_get machines r); history = []; heads = []; tails = []; put_stamps = []; take_stamps = []; middle = Idle }
 
 -- the parts of the first so many roles at the start
 abbrev pub first_parts : List Machine_data → ℕ → List Part

@@ -60,7 +60,7 @@ impl RingTable {
         requires can { CanTake (machines_in_key self.now.board.shared.key) receiver.0 sender (the_part receiver.0 seat.old.me.0.parts).state }
         ensures table { seat.new.table_id ≡ seat.old.table_id }
         ensures kept { IsBetweenCalls seat.new.me rows.new.items }
-        ensures told { TakeTells (machines_in_key self.now.board.shared.key) receiver.0 sender.0 seat.old.me.0 seat.new.me.0 result }
+        ensures told { TakeTells (machines_in_key self.now.board.shared.key) self.now.layout.capacity receiver.0 sender.0 seat.old.me.0 seat.new.me.0 result }
     {
         let counts = rows.counts(receiver, sender);
         match self.look_take(seat, receiver, sender, counts.state, counts.got) {

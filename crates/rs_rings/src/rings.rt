@@ -124,7 +124,7 @@ impl Rings {
         requires can { CanTake self.now.machines receiver.0 sender (state_in pass.old.view receiver.0) }
         requires acts { length (history_in pass.old.view receiver.0) < 2 ^ 63 }
         ensures table { pass.new.table ≡ pass.old.table }
-        ensures told { TakeTells self.now.machines receiver.0 sender.0 pass.old.view pass.new.view result }
+        ensures told { TakeTells self.now.machines self.now.capacity receiver.0 sender.0 pass.old.view pass.new.view result }
     {
         self.inner
             .take(&mut pass.seat, &mut pass.rows, receiver, sender)
@@ -136,6 +136,7 @@ impl Rings {
         requires all { (r : ℕ) → r < self.roles → SpeaksFor pass.view r }
         requires ended { (r : ℕ) → r < self.roles → state_of (slice_get self.machines r) (state_in pass.view r) ≡ Some Done }
         ensures closed { (result.machines ≡ self.machines) × (result.last ≡ pass.view) }
+        ensures capacity { result.capacity ≡ self.capacity }
         ensures over { IsOver result }
     {
         let Pass { seat, rows: _ } = pass;
@@ -148,6 +149,7 @@ impl Rings {
         requires table { pass.table ≡ self.table }
         requires all { (r : ℕ) → r < self.roles → SpeaksFor pass.view r }
         ensures closed { (result.machines ≡ self.machines) × (result.last ≡ pass.view) }
+        ensures capacity { result.capacity ≡ self.capacity }
         ensures left { IsLeft result }
     {
         let Pass { seat, rows: _ } = pass;
@@ -170,6 +172,7 @@ impl Rings {
         requires none { loose.items ≡ [] }
         requires room { ring_count self.roles * self.capacity ≤ vec_capacity loose }
         ensures closed { (result.0.machines ≡ self.machines) × (result.0.last ≡ pass.view) }
+        ensures capacity { result.0.capacity ≡ self.capacity }
         ensures left { IsLeft result.0 }
         ensures loose { result.1.items ≡ loose_in pass.view self.roles (ring_count self.roles) }
     {

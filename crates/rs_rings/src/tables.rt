@@ -4,7 +4,7 @@ ghost use Rattle.rs_model.specs.declared.limits.TheConstants.{MOST_ROLES};
 ghost use Rattle.rs_model.specs.Limits.{IsCapacity};
 ghost use Rattle.rs_core.specs.Choices.{AreWellFormed};
 ghost use Rattle.rs_core.specs.Configurations.{state_of};
-ghost use Rattle.rs_core.specs.Core.{arm_with};
+ghost use Rattle.rs_core.specs.Ways.{arm_with};
 ghost use Rattle.rs_core.specs.Safety.{IsSafe};
 ghost use Rattle.rs_model.specs.declared.machines.State.TheVariants.{Takes};
 ghost use Rattle.rs_slots.specs.Places.{IsPair, ring_count};
@@ -177,7 +177,8 @@ impl RingTable {
         requires got { got ≡ length (parcels_got sender.0 (the_part receiver.0 seat.old.me.0.parts).history) }
         requires call { IsLookCall N.call self.now.layout.roles self.now.layout.capacity sender.0 receiver.0 (machines_in_key self.now.board.shared.key) arms.now }
         ensures table { seat.new.table_id ≡ seat.old.table_id }
-        ensures looked { HasLooked N.call.arms sender.0 receiver.0 (slot_place self.now.layout.roles self.now.layout.capacity sender.0 receiver.0 got) got
+        ensures looked { HasLooked (machines_in_key self.now.board.shared.key) self.now.layout.capacity N.call.arms sender.0 receiver.0
+            (slot_place self.now.layout.roles self.now.layout.capacity sender.0 receiver.0 got) got
             (the_part receiver.0 seat.old.me.0.parts) seat.old.me.0 seat.new.me result }
     {
         let seen = self
@@ -256,14 +257,14 @@ impl RingTable {
     pub fn close(self, seat: RingSeat) -> Closed
         requires table { seat.table_id ≡ self.board.shared.table_id }
         requires all { (r : ℕ) → r < self.layout.roles → speaks r seat.me.0.parts ≡ true }
-        ensures closed { IsClosedAs result (machines_in_key self.board.shared.key) seat.me.0 }
+        ensures closed { IsClosedAs result (machines_in_key self.board.shared.key) self.layout.capacity seat.me.0 }
         ensures ends { IsLegalEnd (machines_in_key self.board.shared.key) self.layout.roles seat.me.0 }
     {
         let last = Perch::new(&seat, 0);
         let RingTable {
             board,
             layout: _,
-            capacity: _,
+            capacity,
             machines,
         } = self;
         let mut closed = board.close_with(seat);
@@ -273,7 +274,11 @@ impl RingTable {
             i += 1;
         }
         closed.free();
-        Closed { machines, last }
+        Closed {
+            machines,
+            capacity,
+            last,
+        }
     }
 
     pub fn close_left(self, seat: RingSeat, rows: &Rows, loose: &mut Vec<Loose>) -> Closed
@@ -282,7 +287,7 @@ impl RingTable {
         requires kept { IsBetweenCalls seat.me rows.now.items }
         requires none { loose.old.items ≡ [] }
         requires room { vec_len loose.old + ring_count self.layout.roles * self.layout.capacity ≤ vec_capacity loose.old }
-        ensures closed { IsClosedAs result (machines_in_key self.board.shared.key) seat.me.0 }
+        ensures closed { IsClosedAs result (machines_in_key self.board.shared.key) self.layout.capacity seat.me.0 }
         ensures ends { IsLegalEnd (machines_in_key self.board.shared.key) self.layout.roles seat.me.0 }
         ensures loose { loose.new.items ≡ loose_in seat.me.0 self.layout.roles (ring_count self.layout.roles) }
     {
@@ -296,7 +301,11 @@ impl RingTable {
         let mut closed = board.close_with(seat);
         empty_all(&mut closed, machines.len(), capacity, &last, rows, loose);
         closed.free();
-        Closed { machines, last }
+        Closed {
+            machines,
+            capacity,
+            last,
+        }
     }
 
     #[inline(always)]
@@ -336,7 +345,8 @@ impl RingTable {
         requires stands { state_of (slice_get (machines_in_key self.now.board.shared.key) receiver.0) (the_part receiver.0 seat.old.me.0.parts).state ≡ Some (Takes sender arms.now) }
         requires got { got ≡ length (parcels_got sender.0 (the_part receiver.0 seat.old.me.0.parts).history) }
         ensures table { seat.new.table_id ≡ seat.old.table_id }
-        ensures looked { HasLooked arms.now sender.0 receiver.0 (slot_place self.now.layout.roles self.now.layout.capacity sender.0 receiver.0 got) got
+        ensures looked { HasLooked (machines_in_key self.now.board.shared.key) self.now.layout.capacity arms.now sender.0 receiver.0
+            (slot_place self.now.layout.roles self.now.layout.capacity sender.0 receiver.0 got) got
             (the_part receiver.0 seat.old.me.0.parts) seat.old.me.0 seat.new.me result }
     {
         self.look_as::<Brand>(seat, receiver, sender, got, arms)
@@ -378,7 +388,8 @@ impl RingTable {
         requires state { (state ≡ (the_part receiver.0 seat.old.me.0.parts).state) × TakesFrom (state_of (slice_get (machines_in_key self.now.board.shared.key) receiver.0) state) sender.0 }
         requires got { IsCountOf got (parcels_got sender.0 (the_part receiver.0 seat.old.me.0.parts).history) }
         ensures table { seat.new.table_id ≡ seat.old.table_id }
-        ensures taken { HasTaken (machines_in_key self.now.board.shared.key) sender.0 receiver.0 got (the_part receiver.0 seat.old.me.0.parts) seat.old.me.0 seat.new.me result }
+        ensures taken { HasTaken (machines_in_key self.now.board.shared.key) self.now.layout.capacity sender.0 receiver.0 got (the_part receiver.0 seat.old.me.0.parts)
+            seat.old.me.0 seat.new.me result }
     {
         let arms = self.arms_of(receiver, state);
         match self.look(seat, receiver, sender, got, arms) {

@@ -30,6 +30,14 @@ pub struct Load {
     pub found: u64,
 }
 
+/// A parcel that was put into the ring to a peer, or taken out of the ring from it, and how many loads the peer had made before
+/// of the word that counts it.
+#[derive(Drop)]
+pub struct Stamp {
+    pub peer: u8,
+    pub loads: u64,
+}
+
 /// Where a role is within a call: between calls it is `Idle`; between the load and the store of a put it holds the slot of
 /// its next parcel to that peer, and between those of a take the slot of the oldest parcel from that peer.
 #[derive(Drop)]
@@ -40,7 +48,8 @@ pub enum Middle {
 }
 
 /// What a view knows of one role: the state of its machine, its history, its loads of the head words of its rings to others
-/// and of the tail words of the rings to it, the newest first, and where it is within a call.
+/// and of the tail words of the rings to it, the newest first, the stamps of the parcels that it put and took, the oldest first,
+/// and where it is within a call.
 #[derive(Drop)]
 pub struct Part {
     pub role: u8,
@@ -48,6 +57,8 @@ pub struct Part {
     pub history: LinkedList<PastAction>,
     pub heads: LinkedList<Load>,
     pub tails: LinkedList<Load>,
+    pub put_stamps: LinkedList<Stamp>,
+    pub take_stamps: LinkedList<Stamp>,
     pub middle: Middle,
 }
 

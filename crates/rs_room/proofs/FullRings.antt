@@ -185,8 +185,8 @@ follow ms W done f n c nodes L B C long top s sc k none (suc bound) z hz hb hk u
     ring_falls nodes L (long z) (top z) (long u.0) (top u.0) (s.past z) (s.future z) (s.owed z) (s.past u.0) (s.future u.0) (s.owed u.0) (sc.here' z hz) (sc.here' u.0 hu) z u.0 fl.entries
     (recvs z (s.past u.0)) fl.sent fl.come long' (omega arith) in
     let pl = s.plays u.0 hu in
-    next (stance pl.machine (f u.0) n (c.at u.0) (s.future u.0) (s.owed u.0) pl.last pl.trace pl.lasts) pl.is hu falls fl.entries fl.come (omega arith)
-    (λ u' arms' st' a b. follow ms W done f n c nodes L B C long top s sc k none bound u.0 hu a b u' arms' pl.machine pl.is st')
+    next (stance pl.machine (f u.0) n (c.at u.0) (s.future u.0) (s.owed u.0) pl.last pl.trace pl.lasts) pl.stands hu falls fl.entries fl.come (omega arith)
+    (λ u' arms' st' a b. follow ms W done f n c nodes L B C long top s sc k none bound u.0 hu a b u' arms' pl.machine pl.stands st')
   where
     next : {pm : Machine_data} → Stance pm (c.at u.0) (s.future u.0) (s.owed u.0) → slice_get ms u.0 ≡ Some pm
         → (hu : u.0 < length ms) → (sc.here' u.0 hu).at < (sc.here' z hz).at → (fl : List Entry)
@@ -197,7 +197,7 @@ follow ms W done f n c nodes L B C long top s sc k none (suc bound) z hz hb hk u
     next (Putting u' arms' st') is' hu falls fl come some ih = ih u' arms' st' (omega arith) (omega arith)
     next {pm} (Taking j r l so tail arms' e st') is' hu falls fl come some ih =
         let passed : j < (sc.here' u.0 hu).at = wait_passed (long u.0) (top u.0) nodes (s.past u.0) (s.future u.0) (s.owed u.0) (sc.here' u.0 hu) j r l so tail e in
-        none u.0 j r (omega arith) record { here' = hu; label = l; sort = so; tail = tail; arms = arms'; machine = pm; is = is'; head = e; takes = st'; empty = sc.empty u.0 r arms' pm hu is' st' }
+        none u.0 j r (omega arith) record { here' = hu; label = l; sort = so; tail = tail; arms = arms'; machine = pm; stands = is'; head = e; takes = st'; empty = sc.empty u.0 r arms' pm hu is' st' }
 
 -- nobody waits: take the wait with the least place
 no_wait_at : (ms : List Machine_data) (W : Known) (done : ℕ → ℕ) (f : ℕ → ℕ → ℕ) (n : ℕ) (c : Configuration) (nodes L B C : ℕ) (long top : ℕ → ℕ) (s : Stands ms W done f (suc n) c)
@@ -207,7 +207,7 @@ unfolding NoWaitBelow
 no_wait_at ms W done f n c nodes L B C long top s sc m p q none w =
     let o = owes ms W done f (suc n) c s p m q sc.peered w in
     let pl = s.plays q.0 o.0 in
-    next (stance pl.machine (f q.0) n (c.at q.0) (s.future q.0) (s.owed q.0) pl.last pl.trace pl.lasts) pl.is o.0 o.1.0 o.1.1
+    next (stance pl.machine (f q.0) n (c.at q.0) (s.future q.0) (s.owed q.0) pl.last pl.trace pl.lasts) pl.stands o.0 o.1.0 o.1.1
   where
     next : {pm : Machine_data} → Stance pm (c.at q.0) (s.future q.0) (s.owed q.0) → slice_get ms q.0 ≡ Some pm
         → (hq : q.0 < length ms) → (more : List Entry) → sends p (s.future q.0 ++ s.owed q.0) ≡ entry m w.label w.sort ∷ more
@@ -221,7 +221,7 @@ no_wait_at ms W done f n c nodes L B C long top s sc m p q none w =
         let Q : List Item → Type 0 = λ x. sends p (x ++ s.owed q.0) ≡ entry m w.label w.sort ∷ more in
         let od = subst P ef (s.order q.0 hq) in
         let falls : j < m = sends_above p j (tail ++ s.owed q.0) (entry m w.label w.sort) more od.0 (subst Q ef e) in
-        none q.0 j r falls record { here' = hq; label = l; sort = so; tail = tail; arms = arms; machine = pm; is = is; head = ef; takes = st; empty = sc.empty q.0 r arms pm hq is st }
+        none q.0 j r falls record { here' = hq; label = l; sort = so; tail = tail; arms = arms; machine = pm; stands = is; head = ef; takes = st; empty = sc.empty q.0 r arms pm hq is st }
     next {pm} (Putting z arms st) is hq more e =
         let peer = sc.peered.puts q.0 pm (c.at q.0) z arms is st in
         let fl = flight ms W done f (suc n) c s q.0 z.0 hq peer.0 (λ h. peer.1 (sym h)) in
@@ -236,7 +236,7 @@ no_wait_at ms W done f n c nodes L B C long top s sc m p q none w =
         (sc.here' z.0 peer.0) q.0 z.0 m fl.entries (recvs q.0 (s.past z.0)) fl.sent fl.come
         (sc.bounds.long' z.0 peer.0) (omega arith) (omega arith) in
         let plz = s.plays z.0 peer.0 in
-        after (stance plz.machine (f z.0) n (c.at z.0) (s.future z.0) (s.owed z.0) plz.last plz.trace plz.lasts) plz.is peer.0 blocked fl.entries fl.come (omega arith)
+        after (stance plz.machine (f z.0) n (c.at z.0) (s.future z.0) (s.owed z.0) plz.last plz.trace plz.lasts) plz.stands peer.0 blocked fl.entries fl.come (omega arith)
       where
         after : {zm : Machine_data} → Stance zm (c.at z.0) (s.future z.0) (s.owed z.0) → slice_get ms z.0 ≡ Some zm
             → (hz : z.0 < length ms) → (sc.here' z.0 hz).at ≤ m → (es : List Entry)
@@ -251,7 +251,7 @@ no_wait_at ms W done f n c nodes L B C long top s sc m p q none w =
               tail = tail;
               arms = arms';
               machine = zm;
-              is = is';
+              stands = is';
               head = ef;
               takes = st';
               empty = sc.empty z.0 r arms' zm hz is' st';
@@ -272,7 +272,7 @@ pub not_stuck : (ms : List Machine_data) (W : Known) (done : ℕ → ℕ) (f : �
     → Scene ms W done f n c nodes L B C long top s → AllEnded ms c
 unfolding NoWaitBelow
 not_stuck ms W done f n c nodes L B C long top s sc = all_ended ms W done f (suc n) c s
-    (λ p hp. (let pl = s.plays p hp in one p hp pl.is (stance pl.machine (f p) n (c.at p) (s.future p) (s.owed p) pl.last pl.trace pl.lasts)))
+    (λ p hp. (let pl = s.plays p hp in one p hp pl.stands (stance pl.machine (f p) n (c.at p) (s.future p) (s.owed p) pl.last pl.trace pl.lasts)))
   where
     one : (p : ℕ) (hp : p < length ms) {pm : Machine_data} → slice_get ms p ≡ Some pm
         → Stance pm (c.at p) (s.future p) (s.owed p) → IsOver ms W done f (suc n) c s p
@@ -280,7 +280,7 @@ not_stuck ms W done f n c nodes L B C long top s sc = all_ended ms W done f (suc
     one p hp {pm} is (Putting u arms st) = absurd (follow ms W done f n c nodes L B C long top s sc (sc.here' p hp).at (no_wait ms W done f n c nodes L B C long top s sc (sc.here' p hp).at)
         (suc (sc.here' p hp).at) p hp (omega arith) (omega arith) u arms pm is st)
     one p hp {pm} is (Taking j r l so tail arms e st) = absurd (no_wait ms W done f n c nodes L B C long top s sc (suc j) p j r (omega arith)
-        record { here' = hp; label = l; sort = so; tail = tail; arms = arms; machine = pm; is = is; head = e; takes = st; empty = sc.empty p r arms pm hp is st })
+        record { here' = hp; label = l; sort = so; tail = tail; arms = arms; machine = pm; stands = is; head = e; takes = st; empty = sc.empty p r arms pm hp is st })
 
 -- whether p can move
 movable_within : (ms : List Machine_data) (c : Configuration) (C p : ℕ) (o : Option State) → state_at ms c p ≡ o

@@ -1,4 +1,4 @@
--- Believed: what can happen where each queue is a ring that holds at most so many messages, its capacity.
+-- Public: what can happen where each queue is a ring that holds at most so many messages, its capacity.
 use Rattle.std.specs.Prelude.{◌≡◌, ℕ, ◌<◌, List, [], ◌∷◌, Some, length}
 use Rattle.rs_model.specs.Data.{Machine_data}
 use Rattle.rs_model.specs.declared.graph.Arm.{Arm}

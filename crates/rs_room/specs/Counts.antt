@@ -1,4 +1,4 @@
--- Believed: numbers, one for each ordered pair of roles, as rows of a table; and how they are counted up.
+-- Public: numbers, one for each ordered pair of roles, as rows of a table; and how they are counted up.
 use Rattle.std.specs.Prelude.{ℕ, ◌+◌, ◌<◌, ◌^◌, length, List, [], Option, Some, None, slice_index_or, slice_set}
 use Rattle.rs_model.specs.declared.graph.Role.{Role}
 

@@ -1,4 +1,4 @@
--- Believed: two roles that send to each other before they receive: with rings of one message both are held up, where over
+-- Public: two roles that send to each other before they receive: with rings of one message both are held up, where over
 -- unbounded queues none is. The roles are A and B.
 use Rattle.std.specs.Prelude.{ℕ, List, [], ◌∷◌}
 use Rattle.rs_model.specs.Data.{Machine_data, Protocol_data}

@@ -1,4 +1,4 @@
--- Believed: the least role that can go on over rings.
+-- Public: the least role that can go on over rings.
 use Rattle.std.specs.Prelude.{ℕ, ◌<◌, length}
 use Rattle.rs_core.specs.declared.messages.Event.{Event}
 use Rattle.rs_core.specs.Configurations.{Configuration}

@@ -1,4 +1,4 @@
--- Believed: a session over rings as `Bounded` keeps it, and what is told of its steps.
+-- Public: a session over rings as `Bounded` keeps it, and what is told of its steps.
 use Rattle.std.specs.Prelude.{◌≡◌, ◌≢◌, ◌⊎◌, ℕ, suc, ◌+◌, ◌<◌, ◌≤◌, List, [], Some, None, slice_index_or, length}
 use Rattle.rs_model.specs.Limits.{IsCapacity}
 use Rattle.rs_model.specs.Data.{Machine_data}

@@ -94,6 +94,15 @@ impl Bounded {
         })
     }
 
+    /// The machines, in role order. They are those of an accepted session, and have come to where they stand by bounded
+    /// steps: all that `IsRingSession` says.
+    pub fn machines(&self) -> &[Machine]
+        ensures machines { result.now ≡ self.now.core.machines }
+        ensures session { IsRingSession self.now }
+    {
+        self.machines.as_slice()
+    }
+
     /// How many messages each ring must hold, so that no role can be held up by full rings: the room of the accepted
     /// session.
     pub fn room(&self) -> u64

@@ -32,7 +32,7 @@ pub record Parts (pr : Protocol_data) (ms : List Machine_data) (f : ℕ → ℕ 
   pub fits : IsWellFormed pr
   pub roles : pr.roles ≡ length ms
   pub machine : ℕ → Machine_data
-  pub is : (p : ℕ) → p < pr.roles → slice_get ms p ≡ Some (machine p)
+  pub stands : (p : ℕ) → p < pr.roles → slice_get ms p ≡ Some (machine p)
   pub projection : ℕ → Projection_data
   pub projected : (p : ℕ) → p < pr.roles → IsProjection pr (numbered p) (projection p)
   pub follower : (p : ℕ) → p < pr.roles → Follower (machine p) (projection p).machine (f p) bound
@@ -76,9 +76,9 @@ more_talk pr ms f bound parts n b x y theirs ng =
     let fit = parts.fits.talks b.node x y theirs ng in
     let gave = seat_give pr x (parts.projection x.0) (parts.machine x.0) (f x.0) bound (parts.follower x.0 fit.puts) b.trail b.node y theirs (parts.projected x.0 fit.puts) fit.others ng
     (b.seat x.0 fit.puts) in
-    let goes : LeadsTo pr b.node gave.arm gave.to.next = record { sender = x; receiver = y; arms = theirs; arm = gave.to; talks = ng; stands = gave.is; leads = refl } in
+    let goes : LeadsTo pr b.node gave.arm gave.to.next = record { sender = x; receiver = y; arms = theirs; arm = gave.to; talks = ng; stands = gave.stands; leads = refl } in
     let took = seat_take pr y (parts.projection y.0) (parts.machine y.0) (f y.0) bound (parts.follower y.0 fit.takes) b.trail b.node x theirs gave.arm gave.to (parts.projected y.0 fit.takes)
-    fit.others ng gave.is (b.seat y.0 fit.takes) in
+    fit.others ng gave.stands (b.seat y.0 fit.takes) in
     let P : (z : ℕ) → z < pr.roles → Type 0 = λ z hz. Seat pr (numbered z) (parts.projection z) (parts.follower z hz).F (said x y gave.to ∷ b.trail) gave.to.next in
     record {
       trail = said x y gave.to ∷ b.trail;
@@ -90,7 +90,7 @@ more_talk pr ms f bound parts n b x y theirs ng =
         | inr t ↦ elim (eqb_tells p y.0) [
           | inl u ↦ at_role pr.roles P y.0 fit.takes took p hp u.1
           | inr u ↦ seat_other pr (numbered p) (parts.projection p) (parts.follower p hp).F b.trail b.node x y theirs gave.arm gave.to (parts.projected p hp)
-              (λ e. t.1 (ap (λ (z : Role). z.0) (sym e))) (λ e. u.1 (ap (λ (z : Role). z.0) (sym e))) ng gave.is b.reached (b.seat p hp)
+              (λ e. t.1 (ap (λ (z : Role). z.0) (sym e))) (λ e. u.1 (ap (λ (z : Role). z.0) (sym e))) ng gave.stands b.reached (b.seat p hp)
         ]
       ];
     }
@@ -155,7 +155,7 @@ part_done pr p pj m f bound n fl trail g seat d =
       spaced = seat.spaced;
       last = e.last;
       trace = e.trace;
-      lasts = inl (refl, e.is);
+      lasts = inl (refl, e.stands);
       sent = λ q. ap (λ (z : List Item). sends q z) (append-nil e.done') ∙ e.kept.sent q ∙ seat.sent q;
       got = λ q. ap (λ (z : List Item). recvs q z) (append-nil e.done') ∙ e.kept.got q ∙ seat.got q;
       order = rw (append-nil e.done') (e.kept.order seat.order);
@@ -262,9 +262,9 @@ stands_start pr ms f bound parts W n c start tells all =
           let P : ℕ → Type 0 = λ z. Trace (parts.machine a) (f a) z pt.future pt.last in
           rw (choose_is pr.roles fut a hp, choose_is pr.roles ow a hp) record {
             machine = parts.machine a;
-            is = parts.is a hp;
+            stands = parts.stands a hp;
             last = pt.last;
-            trace = subst P (sym (start.states a (parts.machine a) (parts.is a hp))) pt.trace;
+            trace = subst P (sym (start.states a (parts.machine a) (parts.stands a hp))) pt.trace;
             lasts = pt.lasts;
           };
       order = λ a ha.

@@ -15,11 +15,11 @@ use Rattle.rs_model.specs.declared.graph.Role.{Role}
 use Rattle.rs_model.specs.declared.machines.State.{State}
 use Rattle.rs_model.specs.declared.machines.State.TheVariants.{Done, Puts, Takes}
 use Rattle.rs_model.specs.declared.values.Sort.{Sort}
-use Rattle.rs_model.specs.declared.values.Sort.TheVariants as sort
 use Rattle.rs_model.specs.Talks.{Talks}
 use Rattle.rs_project.specs.Clashes.{agree_nodes}
 use Rattle.rs_project.specs.Data.{Projection_data}
 use Rattle.rs_project.specs.Graph.{PathStep, LeadsTo, IsPath, Involves, IsIdle, PassesBy, AllPassBy, MeetsFirst, MeetsTheEnd, IsUnreached}
+use Rattle.rs_derive.proofs.Acts.{sort_is}
 use Rattle.rs_graph.specs.Lists.{Among}
 use Rattle.rs_project.specs.Marks.{StartMeets, StartEnds, involves_role, nexts_of_node}
 use Rattle.rs_project.specs.Numbered.{nexts_of}
@@ -416,23 +416,6 @@ behind_set pr role n sets t of label h = go (slice_get sets t) refl h
 
 -- states
 
-sort_at : ℕ → Sort
-sort_at zero = sort.Unit
-sort_at (suc zero) = sort.Flag
-sort_at (suc (suc zero)) = sort.Natural
-sort_at (suc (suc (suc zero))) = sort.Whole
-sort_at (suc (suc (suc (suc zero)))) = sort.Octets
-sort_at (suc (suc (suc (suc (suc n))))) = sort.Numbers
-
-sort_back : (s : Sort) → sort_at (sort_number s) ≡ s
-unfolding sort_at
-sort_back sort.Unit = refl
-sort_back sort.Flag = refl
-sort_back sort.Natural = refl
-sort_back sort.Whole = refl
-sort_back sort.Octets = refl
-sort_back sort.Numbers = refl
-
 abbrev same_choice : LabelChoice → LabelChoice → Bool
 same_choice a b = (a.label.0 == b.label.0) && (sort_number a.sort == sort_number b.sort)
 
@@ -447,7 +430,7 @@ choice_is a b h =
     let p = and_parts (a.label.0 == b.label.0) (sort_number a.sort == sort_number b.sort) h in
     let label : ℕ → Label = λ z. record { 0 = z } in
     let l : a.label ≡ b.label = ap label (eq_by a.label.0 b.label.0 p.0) in
-    let s : a.sort ≡ b.sort = sym (sort_back a.sort) ∙ ap sort_at (eq_by (sort_number a.sort) (sort_number b.sort) p.1) ∙ sort_back b.sort in
+    let s : a.sort ≡ b.sort = sort_is a.sort b.sort p.1 in
     let choice : Label → Sort → LabelChoice = λ x y. record { label = x; sort = y } in
     ap₂ choice l s
 

@@ -54,7 +54,7 @@ pub record Split (xs : List Item) (place : ℕ) (a : Act) : Type 0 where
   pub left : List Item
   pub item : Item
   pub right : List Item
-  pub is : xs ≡ left ++ (item ∷ right)
+  pub items_are : xs ≡ left ++ (item ∷ right)
   pub act : act_of item ≡ a
   pub rest : acts left ++ acts right ≡ without (acts xs) place
   pub before : (i : ℕ) (b : Act) → slice_get (acts left) i ≡ Some b → (i < place) × (slice_get (acts xs) i ≡ Some b)
@@ -73,7 +73,7 @@ split (x ∷ xs) zero a e = record {
   left = [];
   item = x;
   right = xs;
-  is = refl;
+  items_are = refl;
   act = same_Some (act_of x) a e;
   rest = refl;
   before = λ i b g. absurd (none-some b g);
@@ -85,7 +85,7 @@ split (x ∷ xs) (suc n) a e =
       left = x ∷ r.left;
       item = r.item;
       right = r.right;
-      is = ap (λ (z : List Item). x ∷ z) r.is;
+      items_are = ap (λ (z : List Item). x ∷ z) r.items_are;
       act = r.act;
       rest = rest_on (act_of x) (acts xs) (acts r.left) (acts r.right) n r.rest;
       before = earlier x xs n r.left r.before;
@@ -159,7 +159,7 @@ pub data Path (d : Derivation_data) (sub above : Machine_data) : ℕ → List It
 pub record Walked (d : Derivation_data) (sub above' : Machine_data) (f : ℕ → ℕ) (eaten done owed : List Item) (t : ℕ) : Type 0 where
   pub place : ℕ
   pub node : DNode_data
-  pub is : slice_get d.nodes place ≡ Some node
+  pub stands : slice_get d.nodes place ≡ Some node
   pub pending : node.pending ≡ acts owed
   pub above : node.above ≡ t
   pub trace : Trace sub f sub.start done node.state
@@ -222,18 +222,18 @@ pay d sub above f eaten done owed t next j nth place n a makes rs w sp at nx e m
       walked = record {
         place = j;
         node = n;
-        is = at;
+        stands = at;
         pending = after';
         above = ap (λ (z : Spot). z.above) e;
         trace = subst P (sym (ap (λ (z : Spot). z.state) e)) (trace_snoc sub f sub.start w.node.state next done sp.item w.trace does);
-        path = PaidFor w.place j eaten done sp.left sp.right sp.item (subst Q sp.is w.path) record {
+        path = PaidFor w.place j eaten done sp.left sp.right sp.item (subst Q sp.items_are w.path) record {
           from = w.node;
           to = n;
           nth = nth;
-          is_from = w.is;
+          is_from = w.stands;
           is_to = at;
           next = nx;
-          before = w.pending ∙ ap acts sp.is;
+          before = w.pending ∙ ap acts sp.items_are;
           after = after';
           makes = makes;
           results = rs;
@@ -241,9 +241,9 @@ pay d sub above f eaten done owed t next j nth place n a makes rs w sp at nx e m
           keeps = λ h g. sp.first h (same_Some place 0 (sym mk ∙ g));
         } free;
       };
-      shorter = (let l : length owed ≡ length (sp.left ++ (sp.item ∷ sp.right)) = ap length sp.is in
+      shorter = (let l : length owed ≡ length (sp.left ++ (sp.item ∷ sp.right)) = ap length sp.items_are in
           omega (arith, l, length-append sp.left (sp.item ∷ sp.right), length-append sp.left sp.right));
-      kept = λ ys. kept_pay done owed sp.left sp.right sp.item ys sp.is free;
+      kept = λ ys. kept_pay done owed sp.left sp.right sp.item ys sp.items_are free;
     }
 
 -- of one arm, any choice picks it
@@ -329,7 +329,7 @@ pub record Named (nodes : List DNode_data) (js : List ℕ) (r : Spot) : Type 0 w
   pub node : DNode_data
   pub nth : ℕ
   pub next : slice_get js nth ≡ Some place
-  pub is : slice_get nodes place ≡ Some node
+  pub stands : slice_get nodes place ≡ Some node
   pub spot' : spot_of node ≡ r
 
 one_named : (nodes : List DNode_data) (js : List ℕ) (r : Spot) (rs : List Spot) → rs ≡ r ∷ [] → NameResults nodes js rs → Named nodes js r
@@ -337,7 +337,7 @@ one_named nodes js r rs e h = go js (let P : List Spot → Type 0 = λ z. NameRe
   where
     go : (js : List ℕ) → NameResults nodes js (r ∷ []) → Named nodes js r
     go [] h' = absurd h'
-    go (j ∷ js') h' = record { place = j; node = h'.0.0; nth = 0; next = refl; is = h'.0.1; spot' = h'.0.2 }
+    go (j ∷ js') h' = record { place = j; node = h'.0.0; nth = 0; next = refl; stands = h'.0.1; spot' = h'.0.2 }
 
 kept_same : (done owed ys : List Item) → Kept (done ++ (owed ++ ys)) (done ++ (owed ++ ys))
 kept_same done owed ys = kept_refl (done ++ (owed ++ ys))
@@ -377,7 +377,7 @@ one_move d sub above roles f isub eaten done owed t w makes rs (Stops st pe ab m
 one_move d sub above roles f isub eaten done owed t w makes rs (PaysSend q arm place so st found at sv mk e) nm =
     let sp = split owed place (act.Puts q arm.label so) (at_acts w.node.pending owed place (act.Puts q arm.label so) w.pending at) in
     let n = one_named d.nodes w.node.next (spot arm.next (without (acts owed) place) t) rs (paid_spot w.node.pending owed place arm.next w.node.above t rs w.pending w.above e) nm in
-    inl (pay d sub above f eaten done owed t arm.next n.place n.nth place n.node (act.Puts q arm.label so) makes rs w sp n.is n.next n.spot' (PaysSend q arm place so st found at sv mk e) mk
+    inl (pay d sub above f eaten done owed t arm.next n.place n.nth place n.node (act.Puts q arm.label so) makes rs w sp n.stands n.next n.spot' (PaysSend q arm place so st found at sv mk e) mk
     (does_send sub (f (length done)) w.node.state q arm so sp.item st sp.act sv)
     (free_send q arm.label so sp.item sp.left sp.act (absent_left Send q owed place (act.Puts q arm.label so) sp (free_acts Send q w.node.pending owed place w.pending found))))
 one_move d sub above roles f isub eaten done owed t w makes rs (SendsBoth q arms bs st none ab mk both) nm =
@@ -395,7 +395,7 @@ one_move d sub above roles f isub eaten done owed t w makes rs (SendsAhead q r a
 one_move d sub above roles f isub eaten done owed t w makes rs (PaysReceive q arms place l so arm st found at ch sv mk e) nm =
     let sp = split owed place (act.Takes q l so) (at_acts w.node.pending owed place (act.Takes q l so) w.pending at) in
     let n = one_named d.nodes w.node.next (spot arm.next (without (acts owed) place) t) rs (paid_spot w.node.pending owed place arm.next w.node.above t rs w.pending w.above e) nm in
-    inl (pay d sub above f eaten done owed t arm.next n.place n.nth place n.node (act.Takes q l so) makes rs w sp n.is n.next n.spot' (PaysReceive q arms place l so arm st found at ch sv mk e) mk
+    inl (pay d sub above f eaten done owed t arm.next n.place n.nth place n.node (act.Takes q l so) makes rs w sp n.stands n.next n.spot' (PaysReceive q arms place l so arm st found at ch sv mk e) mk
     (does_take sub roles (f (length done)) w.node.state q l arms arm so sp.item isub st sp.act ch sv)
     (free_take q l so sp.item sp.left sp.act (absent_left Receive q owed place (act.Takes q l so) sp (free_acts Receive q w.node.pending owed place w.pending found))))
 one_move d sub above roles f isub eaten done owed t w makes rs (ReceivesAhead q r arms bs st none ab mk e) nm =
@@ -406,7 +406,7 @@ move_at : (d : Derivation_data) (sub above : Machine_data) (roles : ℕ) (f : �
     → (eaten done owed : List Item) (t : ℕ) → IsDerivation d sub above → (w : Walked d sub above f eaten done owed t)
     → Paid d sub above f eaten done owed t ⊎ Settled d sub above f eaten done owed t
 move_at d sub above roles f isub eaten done owed t is w =
-    let fit = is.each w.place w.node w.is in
+    let fit = is.each w.place w.node w.stands in
     one_move d sub above roles f isub eaten done owed t w fit.makes fit.results fit.move fit.named
 
 -- every walk settles: each act that is done leaves fewer owed
@@ -449,8 +449,8 @@ name_at : (nodes : List DNode_data) (js : List ℕ) (rs : List Spot) (j : ℕ) (
 name_at nodes [] [] j r h e = absurd (none-some r e)
 name_at nodes [] (x ∷ rs) j r h e = absurd h
 name_at nodes (i ∷ js) [] j r h e = absurd h
-name_at nodes (i ∷ js) (x ∷ rs) zero r h e = let same : x ≡ r = cc (e) in record { place = i; node = h.0.0; nth = 0; next = refl; is = h.0.1; spot' = h.0.2 ∙ same }
-name_at nodes (i ∷ js) (x ∷ rs) (suc j) r h e = let n = name_at nodes js rs j r h.1 e in record { place = n.place; node = n.node; nth = suc n.nth; next = n.next; is = n.is; spot' = n.spot' }
+name_at nodes (i ∷ js) (x ∷ rs) zero r h e = let same : x ≡ r = cc (e) in record { place = i; node = h.0.0; nth = 0; next = refl; stands = h.0.1; spot' = h.0.2 ∙ same }
+name_at nodes (i ∷ js) (x ∷ rs) (suc j) r h e = let n = name_at nodes js rs j r h.1 e in record { place = n.place; node = n.node; nth = suc n.nth; next = n.next; stands = n.stands; spot' = n.spot' }
 
 -- the kept order, with one more item at the end
 kept_at_end : (done owed done' owed' : List Item) (x : Item)
@@ -481,7 +481,7 @@ push d sub above f eaten done owed t u i nth n x a makes rs w at nx e h move kee
     record {
       place = i;
       node = n;
-      is = at;
+      stands = at;
       pending = after';
       above = ap (λ (z : Spot). z.above) e;
       trace = subst P (sym (ap (λ (z : Spot). z.state) e)) w.trace;
@@ -489,7 +489,7 @@ push d sub above f eaten done owed t u i nth n x a makes rs w at nx e h move kee
         from = w.node;
         to = n;
         nth = nth;
-        is_from = w.is;
+        is_from = w.stands;
         is_to = at;
         next = nx;
         before = w.pending;
@@ -520,8 +520,8 @@ gives_steady d sub above roles f isub eaten done owed t q k arms at s (Guessed r
       arm = b;
       done' = s.done';
       owed' = s.owed' ++ (x ∷ []);
-      is = ch';
-      follows = push d sub above f eaten s.done' s.owed' t b.next n.place n.nth n.node x (act.Puts r b.label b.sort) s.makes s.results s.walked n.is n.next n.spot' (cc (er)) s.move s.keeps;
+      stands = ch';
+      follows = push d sub above f eaten s.done' s.owed' t b.next n.place n.nth n.node x (act.Puts r b.label b.sort) s.makes s.results s.walked n.stands n.next n.spot' (cc (er)) s.move s.keeps;
       kept = kept_at_end done owed s.done' s.owed' x s.kept;
     }
 gives_steady d sub above roles f isub eaten done owed t q k arms at s (BothPut r as' bs st none ab both) =
@@ -542,11 +542,11 @@ gives_steady d sub above roles f isub eaten done owed t q k arms at s (BothPut r
       arm = b.0;
       done' = s.done' ++ (x ∷ []);
       owed' = s.owed';
-      is = cc (lab.1, eb);
+      stands = cc (lab.1, eb);
       follows = record {
         place = n.place;
         node = n.node;
-        is = n.is;
+        stands = n.stands;
         pending = ap (λ (z : Spot). z.pending) n.spot';
         above = ap (λ (z : Spot). z.above) n.spot';
         trace = subst P (sym (ap (λ (z : Spot). z.state) n.spot')) (trace_snoc sub f sub.start s.walked.node.state a.0.next s.done' x s.walked.trace does);
@@ -554,8 +554,8 @@ gives_steady d sub above roles f isub eaten done owed t q k arms at s (BothPut r
           from = s.walked.node;
           to = n.node;
           nth = n.nth;
-          is_from = s.walked.is;
-          is_to = n.is;
+          is_from = s.walked.stands;
+          is_to = n.stands;
           next = n.next;
           before = s.walked.pending;
           after = ap (λ (z : Spot). z.pending) n.spot';
@@ -589,7 +589,7 @@ takes_steady d sub above f eaten done owed t q k arms place arm at ch s (Followe
     record {
       done' = s.done';
       owed' = s.owed' ++ (x ∷ []);
-      follows = push d sub above f eaten s.done' s.owed' t arm.next n.place n.nth n.node x (act.Takes r arm.label arm.sort) s.makes s.results s.walked n.is n.next n.spot' (cc (er)) s.move s.keeps;
+      follows = push d sub above f eaten s.done' s.owed' t arm.next n.place n.nth n.node x (act.Takes r arm.label arm.sort) s.makes s.results s.walked n.stands n.next n.spot' (cc (er)) s.move s.keeps;
       kept = kept_at_end done owed s.done' s.owed' x s.kept;
     }
 
@@ -607,7 +607,7 @@ ends_steady d sub above f eaten done owed t at s (Stopped st nil ab) =
     let k' : Kept (done ++ owed) (s.done' ++ []) = subst₂ P (append-nil owed) (append-nil s.owed' ∙ nil) k in
     let Q : List Item → Type 0 = λ z. Kept (done ++ owed) z in
     let W : List Item → Type 0 = λ z. Walked d sub above f eaten s.done' z t in
-    record { done' = s.done'; last = s.walked.node.state; follows = subst W nil s.walked; trace = s.walked.trace; is = st; kept = subst Q (append-nil s.done') k' }
+    record { done' = s.done'; last = s.walked.node.state; follows = subst W nil s.walked; trace = s.walked.trace; stands = st; kept = subst Q (append-nil s.done') k' }
 
 -- a machine with a derivation follows its projection
 unfoldable pub derived : (d : Derivation_data) (sub above : Machine_data) (roles : ℕ) (f : ℕ → ℕ)
@@ -617,7 +617,7 @@ derived d sub above roles f isub is = record {
   start = record {
     place = 0;
     node = is.first;
-    is = is.stands;
+    stands = is.stands;
     pending = ap (λ (z : Spot). z.pending) is.starts;
     above = ap (λ (z : Spot). z.above) is.starts;
     trace = ap (λ (z : Spot). z.state) (sym is.starts);
@@ -634,7 +634,7 @@ derived d sub above roles f isub is = record {
       ends_steady d sub above f eaten done owed t at s s.steady;
   trace = λ eaten done owed t w. (w.node.state, w.trace);
   short = λ eaten done owed t w.
-      let h = (is.each w.place w.node w.is).short in
+      let h = (is.each w.place w.node w.stands).short in
       let e : length w.node.pending ≡ length owed = ap length w.pending ∙ acts_length owed in
       omega arith;
 }

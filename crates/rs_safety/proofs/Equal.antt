@@ -60,7 +60,7 @@ equal_gives m roles f is eaten done owed t q k arms w st =
       arm = pk.0;
       done' = done ++ (x ∷ []);
       owed' = [];
-      is = pk.1;
+      stands = pk.1;
       follows = (refl, trace_snoc m f m.start t pk.0.next done x w.1 does);
       kept = equal_kept done owed x w.0;
     }
@@ -110,7 +110,7 @@ equal m roles f bound is = record {
     last = t;
     follows = (refl, w.1);
     trace = w.1;
-    is = d;
+    stands = d;
     kept = (let P : List Item → Type 0 = λ z. Kept z done in let e : done ++ owed ≡ done = rw (w.0, append-nil done) refl in subst P (sym e) (kept_refl done));
   };
   trace = λ eaten done owed t w. (t, w.1);

@@ -34,7 +34,7 @@ pub record Given (F : Walk_fact) (eaten done owed : List Item) (q : Role) (k : �
   pub arm : Arm
   pub done' : List Item
   pub owed' : List Item
-  pub is : slice_get arms index ≡ Some arm
+  pub stands : slice_get arms index ≡ Some arm
   pub follows : F (eaten ++ (Give k q arm.label arm.sort ∷ [])) done' owed' arm.next
   pub kept : Kept ((done ++ owed) ++ (Give k q arm.label arm.sort ∷ [])) (done' ++ owed')
 
@@ -51,7 +51,7 @@ pub record Finishes (F : Walk_fact) (m : Machine_data) (f : ℕ → ℕ) (eaten 
   pub last : ℕ
   pub follows : F eaten done' [] t
   pub trace : Trace m f m.start done' last
-  pub is : slice_get m.states last ≡ Some Done
+  pub stands : slice_get m.states last ≡ Some Done
   pub kept : Kept (done ++ owed) done'
 
 -- how machine m follows its projection a, with the choices f, and never owes more than the bound
@@ -160,7 +160,7 @@ seat_after pr p pj F trail g g' t' s x done' owed' seat hg inv live at own_is ke
 pub record Gave (pr : Protocol_data) (p : Role) (pj : Projection_data) (F : Walk_fact) (trail : List StraightTalk) (y : Role) (theirs : List Arm) : Type 0 where
   pub arm : ℕ
   pub to : Arm
-  pub is : slice_get theirs arm ≡ Some to
+  pub stands : slice_get theirs arm ≡ Some to
   pub seat : Seat pr p pj F (said p y to ∷ trail) to.next
 
 pub seat_give : (pr : Protocol_data) (p : Role) (pj : Projection_data) (m : Machine_data) (f : ℕ → ℕ) (bound : ℕ) (fl : Follower m pj.machine f bound) (trail : List StraightTalk) (g : ℕ) (y : Role)
@@ -169,13 +169,13 @@ pub seat_give : (pr : Protocol_data) (p : Role) (pj : Projection_data) (m : Mach
 seat_give pr p pj m f bound fl trail g y theirs is ne ng seat =
     let at = covers_put pr p pj seat.t g y theirs is ne ng seat.covers in
     let gv = fl.gives (canon p.0 trail) seat.done seat.owed seat.t y (length trail) at.arms seat.follows at.stands in
-    let e = at.each gv.index gv.arm gv.is in
+    let e = at.each gv.index gv.arm gv.stands in
     let P : Label → Sort → Type 0 = λ l so. Kept ((seat.done ++ seat.owed) ++ (Give (length trail) y l so ∷ [])) (gv.done' ++ gv.owed') in
     let Q : Label → Sort → Type 0 = λ l so. fl.F (canon p.0 trail ++ (Give (length trail) y l so ∷ [])) gv.done' gv.owed' gv.arm.next in
     record {
       arm = e.0;
       to = e.1;
-      is = e.2;
+      stands = e.2;
       seat = seat_after pr p pj fl.F trail g e.1.next gv.arm.next (said p y e.1) (Give (length trail) y e.1.label e.1.sort) gv.done' gv.owed' seat
           (slice_get_within pr.nodes g (Talk p y theirs) ng) (involves_sender pr p g y theirs ng) (λ d. cc (d, at.stands)) refl (own_sender p.0 (length trail) (said p y e.1) refl)
           (subst₂ P (sym e.3) (sym e.4) gv.kept) (subst₂ Q (sym e.3) (sym e.4) gv.follows) e.5;

@@ -35,7 +35,7 @@ first_send ms c p q (x ∷ xs) h ne =
 pub record Fitting (arms : List Arm) (m : Message) : Type 0 where
   pub place : ℕ
   pub arm : Arm
-  pub is : slice_get arms place ≡ Some arm
+  pub stands : slice_get arms place ≡ Some arm
   pub same_label : arm.label ≡ m.label
   pub has : HasSort m.value arm.sort
 
@@ -46,14 +46,14 @@ pub takes_fit : (ms : List Machine_data) (W : Known) (done : ℕ → ℕ) (f : �
 takes_fit ms W done f n c s p q arms m tail peered h hq =
     let hp = within ms c p (Takes q arms) h in
     let pl = s.plays p hp in
-    let st = machine_at ms c p (Takes q arms) pl.machine h pl.is in
-    let peer = peered.takes p pl.machine (c.at p) q arms pl.is st in
+    let st = machine_at ms c p (Takes q arms) pl.machine h pl.stands in
+    let peer = peered.takes p pl.machine (c.at p) q arms pl.stands st in
     let next = next_get pl.machine (f p) n (c.at p) q arms (s.future p) (s.owed p) pl.last st pl.trace pl.lasts in
     let fit : Fits m (entry next.place next.label next.sort) =
-    head_fits (c.queue q.0 p) m tail (sends p (s.future q.0 ++ s.owed q.0)) (s.owed p) q next.place next.label next.sort (s.future p) next.tail hq next.is (s.balance q.0 p peer.0 hp peer.1) in
+    head_fits (c.queue q.0 p) m tail (sends p (s.future q.0 ++ s.owed q.0)) (s.owed p) q next.place next.label next.sort (s.future p) next.tail hq next.future_is (s.balance q.0 p peer.0 hp peer.1) in
     let same_state : Some (Takes q arms) ≡ Some (Takes q next.arms) = sym st ∙ next.takes in
     let same_arms : arms ≡ next.arms = cc (same_state) in
-    record { place = next.at; arm = next.arm; is = cc (next.chosen, same_arms); same_label = next.same_label ∙ sym fit.0; has = next.serves m.value fit.1 }
+    record { place = next.at; arm = next.arm; stands = cc (next.chosen, same_arms); same_label = next.same_label ∙ sym fit.0; has = next.serves m.value fit.1 }
 
 -- a receive from the peer
 pub record Taking (ms : List Machine_data) (c : Configuration) (p : ℕ) (q : Role) : Type 0 where
@@ -65,6 +65,6 @@ pub take : (ms : List Machine_data) (c : Configuration) (p : ℕ) (q : Role) (ar
     → state_at ms c p ≡ Some (Takes q arms) → c.queue q.0 p ≡ m ∷ tail → Fitting arms m → Taking ms c p q
 take ms c p q arms m tail h hq fit =
     let to : Configuration = after_receive c p q fit.arm tail in
-    let st : Receives ms c p to = receive_step ms c p q arms fit.place fit.arm m tail h hq fit.is fit.same_label fit.has in
+    let st : Receives ms c p to = receive_step ms c p q arms fit.place fit.arm m tail h hq fit.stands fit.same_label fit.has in
     let same : Some (Takes st.peer st.arms) ≡ Some (Takes q arms) = sym st.takes ∙ h in
     record { to = to; step = st; peer = cc (same) }

@@ -55,7 +55,7 @@ pub record Here (long top nodes : ℕ) (past future owed : List Item) : Type 0 w
   pub later : List Item
   pub rank : ℕ
   pub eaten0 : List Item
-  pub is : at ≡ seen 0 eaten0
+  pub place_is : at ≡ seen 0 eaten0
   pub counts : length past + length owed0 ≡ length eaten0
   pub spaced0 : Spaced nodes 0 eaten0
   pub spaced : Spaced nodes at later
@@ -86,7 +86,7 @@ stand_here d sub above long top nodes is rem lim past future owed w =
       later = c.later;
       rank = n.0.rank;
       eaten0 = c.eaten0;
-      is = refl;
+      place_is = refl;
       counts = t.counts;
       spaced0 = s0;
       spaced = s1;

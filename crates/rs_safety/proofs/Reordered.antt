@@ -1,5 +1,5 @@
 -- Sessions whose machines have derivations against their projections are safe, and each role's walk is recorded.
-use Rattle.std.proofs.Common.{◌≡◌, ℕ, zero, suc, ◌+◌, ◌<◌, ◌≤◌, List, [], ◌∷◌, ◌++◌, Some, slice_get, length, sym, ◌∙◌, arith, get_or}
+use Rattle.std.proofs.Common.{◌≡◌, ℕ, zero, suc, ◌+◌, ◌<◌, ◌≤◌, List, [], ◌∷◌, Some, slice_get, length, sym, arith, get_or}
 use Rattle.std.proofs.lemmas.Option.{slice_get-get_or, none-some}
 use Rattle.rs_model.specs.Data.{Machine_data, Protocol_data}
 use Rattle.rs_core.specs.Safety.{IsSafe}
@@ -67,7 +67,7 @@ parts pr pjs ms ds s f = record {
   fits = s.well_formed;
   roles = sym s.a_machine_each;
   machine = machine_of ms;
-  is = λ p hp. slice_get-get_or ms p no_machine (omega (arith, s.a_machine_each));
+  stands = λ p hp. slice_get-get_or ms p no_machine (omega (arith, s.a_machine_each));
   projection = projection_of pjs;
   projected = λ p hp. s.projected.each p (projection_of pjs p) (slice_get-get_or pjs p no_projection (omega (arith, s.projected.many)));
   follower = λ p hp.

@@ -1,4 +1,4 @@
--- Believed: what is seen of an accepted session, and why one isn't accepted.
+-- Public: what is seen of an accepted session, and why one isn't accepted.
 use Rattle.std.specs.Prelude.{◌≡◌, ℕ, ◌<◌, List, Some, slice_get}
 use Rattle.rs_core.specs.Safety.{IsSafe}
 use Rattle.rs_derive.specs.Data.{Derivation_data}

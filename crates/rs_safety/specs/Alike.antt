@@ -1,4 +1,4 @@
--- Believed: what it means that two projections differ in no more than the numbers of their states.
+-- Public: what it means that two projections differ in no more than the numbers of their states.
 use Rattle.std.specs.Prelude.{◌≡◌, ℕ, List, map, Some, slice_get}
 use Rattle.rs_model.specs.declared.graph.Arm.{Arm}
 use Rattle.rs_model.specs.declared.graph.Role.{Role}

@@ -1,4 +1,4 @@
--- Believed: small protocols that show what the definitions say. Their roles are A, B and C.
+-- Public: small protocols that show what the definitions say. Their roles are A, B and C.
 use Rattle.std.specs.Prelude.{ℕ, List, [], ◌∷◌}
 use Rattle.rs_model.specs.Data.{Protocol_data}
 use Rattle.rs_model.specs.declared.graph.Arm.{Arm}

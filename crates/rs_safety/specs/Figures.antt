@@ -1,4 +1,4 @@
--- Steps: the figures of a derivation, and the room by them.
+-- Public: the figures of a derivation, and the room by them.
 use Rattle.std.specs.Prelude.{ℕ, suc, ◌+◌, ◌*◌, ◌≤◌, List, All, map, length}
 use Rattle.rs_derive.specs.Data.{DNode_data, Derivation_data}
 use Rattle.rs_derive.specs.Figures.{greatest}

@@ -1,4 +1,4 @@
--- Believed: what is asked of a session with derivations.
+-- Public: what is asked of a session with derivations.
 use Rattle.std.specs.Prelude.{◌≡◌, ℕ, ◌<◌, ◌≤◌, ◌^◌, List, Some, slice_get, length}
 use Rattle.rs_model.specs.Data.{Machine_data, Protocol_data}
 use Rattle.rs_model.specs.declared.limits.TheConstants.{MOST_BOUND, MOST_ROLES}

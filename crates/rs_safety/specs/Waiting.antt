@@ -1,4 +1,4 @@
--- Believed: a machine that waits where its projection sends. The roles are A and B.
+-- Public: a machine that waits where its projection sends. The roles are A and B.
 use Rattle.std.specs.Prelude.{ℕ, List, [], ◌∷◌}
 use Rattle.rs_model.specs.Data.{Machine_data}
 use Rattle.rs_model.specs.declared.graph.Arm.{Arm}

@@ -1,12 +1,13 @@
 //! Laws over the definitions: each function does nothing, and its contract is the law.
 
-ghost use Rattle.std.specs.Prelude.{◌≡◌, ◌≢◌, map, List};
+ghost use Rattle.std.specs.Prelude.{◌≡◌, ◌≢◌, ℕ, Some, map, slice_get, List};
 ghost use Rattle.rs_core.specs.Choices.{AreWellFormed};
 ghost use Rattle.rs_core.specs.Safety.{IsSafe};
 ghost use Rattle.rs_model.specs.Data.{Machine_data, Protocol_data};
 ghost use Rattle.rs_model.specs.declared.graph.Role.{Role};
 ghost use Rattle.rs_derive.specs.Data.{Derivation_data};
 ghost use Rattle.rs_derive.specs.Derivations.{IsDerivation};
+ghost use Rattle.rs_safety.specs.Accepting.{Accepted_data, IsAcceptedSession};
 ghost use Rattle.rs_safety.specs.Alike.{AreAlike};
 ghost use Rattle.rs_safety.specs.Buffering.{buffering, derivations_of_buffering, kernel_ahead, machines_of_buffering, projection_for_kernel, projections_of_buffering};
 ghost use Rattle.rs_safety.specs.Waiting.{projected_a, waiting_a};
@@ -65,4 +66,10 @@ pub fn each_role_is_told()
 /// A role that others may leave waiting for ever has no projection.
 pub fn no_role_is_left_waiting()
     ensures { (projection : Projection_data) → IsProjection left_waiting c projection → ⊥ }
+{}
+
+/// In an accepted session each derivation names the role whose machine it is of.
+pub fn derivations_name_their_roles()
+    ensures { (session : Accepted_data) (place : ℕ) (machine : Machine_data) (derivation : Derivation_data) → IsAcceptedSession session → slice_get session.machines place ≡ Some machine
+        → slice_get session.derivations place ≡ Some derivation → derivation.role ≡ machine.role }
 {}

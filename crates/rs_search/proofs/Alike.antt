@@ -32,7 +32,8 @@ use Rattle.rs_derive.specs.declared.rules.Rule.TheVariants.{Pays, SendsBoth, Fol
 use Rattle.rs_derive.specs.Within.{HasLabelsOnce}
 use Rattle.rs_graph.proofs.Buckets.{got}
 use Rattle.rs_graph.proofs.Growth.{all_found, at_in, at_short, at_within, grown_adds, growing_begin, growing_done, growing_on, in_at, push_at, push_is, push_new, reads_at, take_on}
-use Rattle.rs_graph.specs.Discovery.{Adds, AreNamed, Begin, Growing, Grown, IsDiscovery, Reached, Step}
+use Rattle.rs_graph.specs.Discovery.{Begin, IsDiscovery, Reached, Step}
+use Rattle.rs_graph.specs.Naming.{Adds, AreNamed, Growing, Grown}
 use Rattle.rs_graph.specs.Lists.{Among, ArePlacesOf, concat}
 use Rattle.rs_graph.specs.Order.{Once}
 use Rattle.rs_graph.specs.Ranks.{Edge}

@@ -42,8 +42,8 @@ pub keeping_is : (sub above : Machine_data) (bound : ℕ) (p : Spot) (rs rs' : L
 keeping_is sub above bound p rs rs' makes within move keeps =
     let t = complete sub above p makes rs' move in
     let m : Among (moves_of (turn_with_cut bound (turn_of (Some t.d))).any (turn_with_cut bound (turn_of (Some t.d))).spots) rs =
-    subst (λ (o : Option Due). Among (moves_of (turn_with_cut bound (turn_of o)).any (turn_with_cut bound (turn_of o)).spots) rs) t.is' (from_move sub above bound p rs within) in
-    subst (λ (o : Option Due). (turn_with_cut bound (turn_of o)).keeps ≡ true) (sym t.is') (elim (bool_cases (owes_more bound (concat t.d.nexts))) [
+    subst (λ (o : Option Due). Among (moves_of (turn_with_cut bound (turn_of o)).any (turn_with_cut bound (turn_of o)).spots) rs) t.due_is (from_move sub above bound p rs within) in
+    subst (λ (o : Option Due). (turn_with_cut bound (turn_of o)).keeps ≡ true) (sym t.due_is) (elim (bool_cases (owes_more bound (concat t.d.nexts))) [
       | inl y ↦ absurd (subst (λ (b : Bool). Among (moves_of (if b then no_turn true else turn_of (Some t.d)).any (if b then no_turn true else turn_of (Some t.d)).spots) rs) y m)
       | inr n ↦ subst (λ (b : Bool). (if b then no_turn true else turn_of (Some t.d)).keeps ≡ true) (sym n) (t.agrees.to keeps)
     ])
@@ -51,7 +51,7 @@ keeping_is sub above bound p rs rs' makes within move keeps =
 pub is_kept : (sub above : Machine_data) (bound : ℕ) (p : Spot) (rs : List Spot) (makes : Option ℕ) → HasMove sub above p makes rs → is_keeping sub above bound p ≡ true → KeepsItsHead p.pending makes
 is_kept sub above bound p rs makes move e =
     let t = complete sub above p makes rs move in
-    let k : (turn_with_cut bound (turn_of (Some t.d))).keeps ≡ true = subst (λ (o : Option Due). (turn_with_cut bound (turn_of o)).keeps ≡ true) t.is' e in
+    let k : (turn_with_cut bound (turn_of (Some t.d))).keeps ≡ true = subst (λ (o : Option Due). (turn_with_cut bound (turn_of o)).keeps ≡ true) t.due_is e in
     t.agrees.from (elim (bool_cases (owes_more bound (concat t.d.nexts))) [
       | inl y ↦ absurd (false≢true (subst (λ (b : Bool). (if b then no_turn true else turn_of (Some t.d)).keeps ≡ true) y k))
       | inr n ↦ subst (λ (b : Bool). (if b then no_turn true else turn_of (Some t.d)).keeps ≡ true) n k
@@ -81,7 +81,7 @@ pub record Worked_out (sub above : Machine_data) (bound : ℕ) : Type 0 where
 -- a node's number among the candidates, its spot and its nexts
 pub record Item (found : List Spot) (items : List ℕ) (nexts : List (List ℕ)) (i : ℕ) : Type 0 where
   pub number : ℕ
-  pub is : slice_get items i ≡ Some number
+  pub stands : slice_get items i ≡ Some number
   pub point : Spot
   pub at_number : slice_get found number ≡ Some point
   pub row : List ℕ
@@ -102,7 +102,7 @@ item sub above bound w i h =
     let a = at_within w.items i h in
     let p = at_within w.found a.0 (items_within sub above bound w.found w.graph w.current w.items w.pictures w.stay i a.0 a.1) in
     let r = at_within w.nexts i (let e = w.numbers.all in omega arith) in
-    record { number = a.0; is = a.1; point = p.0; at_number = p.1; row = r.0; is_row = r.1 }
+    record { number = a.0; stands = a.1; point = p.0; at_number = p.1; row = r.0; is_row = r.1 }
 
 same_lists : {X : Type 0} (xs ys : List X) → length xs ≡ length ys → ((i : ℕ) (x : X) → slice_get xs i ≡ Some x → slice_get ys i ≡ Some x) → xs ≡ ys
 same_lists [] [] l h = refl
@@ -115,7 +115,7 @@ same_lists (x ∷ xs) (y ∷ ys) l h =
 -- the node of an item
 node_at : (sub above : Machine_data) (bound : ℕ) (w : Worked_out sub above bound) (i : ℕ) (n : Item w.found w.items w.nexts i)
     → slice_get w.nodes i ≡ Some (node_at_spot n.point (get_or w.ranks i 0) n.row)
-node_at sub above bound w i n = w.made.each i n.number n.point n.row (at_short w.items i n.number n.is) n.is n.at_number n.is_row
+node_at sub above bound w i n = w.made.each i n.number n.point n.row (at_short w.items i n.number n.stands) n.stands n.at_number n.is_row
 
 -- a node and its item
 node_is : (sub above : Machine_data) (bound : ℕ) (w : Worked_out sub above bound) (i : ℕ) (m : DNode_data) → slice_get w.nodes i ≡ Some m
@@ -142,7 +142,7 @@ spot_at : (sub above : Machine_data) (bound : ℕ) (w : Worked_out sub above bou
     → slice_get (spots_of w.nodes) k ≡ Some r
 spot_at sub above bound w k n r ek en =
     let x = item sub above bound w k (at_short w.items k n ek) in
-    let e : x.number ≡ n = same_Some x.number n (sym x.is ∙ ek) in
+    let e : x.number ≡ n = same_Some x.number n (sym x.stands ∙ ek) in
     let p : x.point ≡ r = same_Some x.point r (sym x.at_number ∙ ap (λ (z : ℕ). slice_get w.found z) e ∙ en) in
     map_at (λ (m : DNode_data). spot_of m) w.nodes k (node_at_spot x.point (get_or w.ranks k 0) x.row) (node_at sub above bound w k x) ∙ ap Some p
 
@@ -151,14 +151,14 @@ spot_is : (sub above : Machine_data) (bound : ℕ) (w : Worked_out sub above bou
 spot_is sub above bound w i x e =
     let m = map_of (λ (m : DNode_data). spot_of m) w.nodes i x e in
     let n = node_is sub above bound w i m.0 m.1 in
-    (n.0.number, n.0.is, n.0.at_number ∙ ap Some (ap (λ (z : DNode_data). spot_of z) n.1 ∙ m.2))
+    (n.0.number, n.0.stands, n.0.at_number ∙ ap Some (ap (λ (z : DNode_data). spot_of z) n.1 ∙ m.2))
 
 -- the chosen move of an item
 choice : (sub above : Machine_data) (bound : ℕ) (w : Worked_out sub above bound) (i : ℕ) (n : Item w.found w.items w.nexts i)
     → (rs : List Spot) × IsChosen sub above bound n.point rs × ArePlacesOf w.found (next_of w.graph.outs w.current n.number) rs
 choice sub above bound w i n =
     chosen sub above bound w.found w.rows w.graph w.current w.order w.discovery w.pictures w.left
-    (λ peer arms t e. (w.proper.1.puts t peer arms e).once) n.number n.point n.at_number (w.stay i n.number n.is)
+    (λ peer arms t e. (w.proper.1.puts t peer arms e).once) n.number n.point n.at_number (w.stay i n.number n.stands)
 
 nexts_are : (sub above : Machine_data) (bound : ℕ) (w : Worked_out sub above bound) → map (λ (m : DNode_data). m.next) w.nodes ≡ w.nexts
 nexts_are sub above bound w =
@@ -181,7 +181,7 @@ canonical sub above bound w = record {
         results = c.0;
         chosen = c.1;
         names = names_through w.items w.found (spots_of w.nodes) (spot_at sub above bound w) n.0.row (next_of w.graph.outs w.current n.0.number) c.0
-            (w.numbers.names i n.0.number n.0.row n.0.is n.0.is_row) c.2;
+            (w.numbers.names i n.0.number n.0.row n.0.stands n.0.is_row) c.2;
       });
   order = subst (λ (z : List (List ℕ)). Worked 0 1 z (length w.nodes)) (sym (nexts_are sub above bound w)) (subst (λ (z : ℕ). Worked 0 1 w.nexts z) (sym w.made.size) w.numbers.order);
 }
@@ -200,7 +200,7 @@ pub edge_to : (sub above : Machine_data) (bound : ℕ) (w : Worked_out sub above
     → (i j : ℕ) → Edge kept i j → KeepsHead sub above w.nodes i j
 edge_to sub above bound w kept a i j e =
     let n = item sub above bound w i (let b = edge_within_shown kept i j e in let s = a.size in omega arith) in
-    let r = a.each i n.number n.row (at_short w.items i n.number n.is) n.is n.is_row in
+    let r = a.each i n.number n.row (at_short w.items i n.number n.stands) n.stands n.is_row in
     let e' : Among (if get_or (map (is_keeping sub above bound) w.found) n.number false then n.row else []) j = subst (λ (z : List ℕ). Among z j) (got kept i _ [] r) e in
     let k = kept_edge _ n.row j e' in
     let is : is_keeping sub above bound n.point ≡ true
@@ -226,7 +226,7 @@ pub edge_from : (sub above : Machine_data) (bound : ℕ) (w : Worked_out sub abo
 edge_from sub above bound w kept a i j h =
     let n = node_is sub above bound w i h.node h.stands in
     let c = choice sub above bound w i n.0 in
-    let r = a.each i n.0.number n.0.row (at_short w.items i n.0.number n.0.is) n.0.is n.0.is_row in
+    let r = a.each i n.0.number n.0.row (at_short w.items i n.0.number n.0.stands) n.0.stands n.0.is_row in
     let ep : spot_of h.node ≡ n.0.point = sym (ap (λ (z : DNode_data). spot_of z) n.1) in
     let move : HasMove sub above n.0.point h.makes h.results = subst (λ (z : Spot). HasMove sub above z h.makes h.results) ep h.move in
     let keeps : KeepsItsHead n.0.point.pending h.makes = subst (λ (z : Spot). KeepsItsHead z.pending h.makes) ep h.keeps in

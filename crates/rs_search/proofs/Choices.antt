@@ -121,7 +121,7 @@ pub simple : (sub above : Machine_data) (p : Spot) (d : Due) → due sub above p
 simple sub above p d e =
     let t = slice_get above.states p.above in
     let b = by_rule p (slice_get sub.states p.state) t d e in
-    subst (λ (x : Due). IsSimple (length p.pending) x.nexts) (sym b.is) (simple_by p (arms_at b.state) (arms_of t) b.rule (fitting p.pending b.state t b.rule b.row))
+    subst (λ (x : Due). IsSimple (length p.pending) x.nexts) (sym b.due_is) (simple_by p (arms_at b.state) (arms_of t) b.rule (fitting p.pending b.state t b.rule b.row))
 
 single_chosen : (ds : List (List Spot)) → Single ds → Chosen ds (concat ds)
 single_chosen [] h = tt
@@ -263,8 +263,9 @@ too_long bound owes ds (r ∷ rs) c all short lt x m = let a = all r (inl refl) 
 pub from_move : (sub above : Machine_data) (bound : ℕ) (p : Spot) (rs : List Spot) → MoveWithin sub above bound p rs → Among (moves_at sub above bound p) rs
 from_move sub above bound p rs m =
     let t = complete sub above p m.makes rs m.move in
-    let s = simple sub above p t.d t.is' in
-    subst (λ (o : Option Due). Among (moves_of (turn_with_cut bound (turn_of o)).any (turn_with_cut bound (turn_of o)).spots) rs) (sym t.is') (elim (bool_cases (owes_more bound (concat t.d.nexts))) [
+    let s = simple sub above p t.d t.due_is in
+    subst (λ (o : Option Due). Among (moves_of (turn_with_cut bound (turn_of o)).any (turn_with_cut bound (turn_of o)).spots) rs) (sym t.due_is)
+    (elim (bool_cases (owes_more bound (concat t.d.nexts))) [
       | inl y ↦ (let k = more_yes bound (concat t.d.nexts) y in
           let q = s.level.all k.0 k.1 in absurd
           (too_long bound s.level.owes t.d.nexts rs t.picks (λ r h. s.level.all r (chosen_among t.d.nexts rs t.picks r h)) m.short (let a = k.2 in omega arith) k.0 k.1))
@@ -291,7 +292,7 @@ to_cut sub above bound p le h = go (due sub above p) refl h
 pub from_cut : (sub above : Machine_data) (bound : ℕ) (p : Spot) → MeetsACut sub above bound p → (turn_within sub above bound p).cut ≡ true
 from_cut sub above bound p c =
     let t = complete sub above p c.makes c.results c.move in
-    subst (λ (o : Option Due). (turn_with_cut bound (turn_of o)).cut ≡ true) (sym t.is') (elim (bool_cases (owes_more bound (concat t.d.nexts))) [
+    subst (λ (o : Option Due). (turn_with_cut bound (turn_of o)).cut ≡ true) (sym t.due_is) (elim (bool_cases (owes_more bound (concat t.d.nexts))) [
       | inl y ↦ subst (λ (b : Bool). (if b then no_turn true else turn_of (Some t.d)).cut ≡ true) (sym y) refl
       | inr n ↦ (let k = more_no bound (concat t.d.nexts) n c.result (chosen_among t.d.nexts c.results t.picks c.result c.among) in let l = c.longer in let bad : ⊥ = omega arith in absurd bad)
     ])

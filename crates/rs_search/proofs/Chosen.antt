@@ -110,7 +110,7 @@ abbrev label_of : Act → Label
 label_of (act.Puts r l s) = l
 label_of (act.Takes r l s) = l
 
-same_label : (p : Spot) (peer : Role) (a b : Arm) → (owing_send p peer a ∷ []) ≡ (owing_send p peer b ∷ []) → a.label ≡ b.label
+pub same_label : (p : Spot) (peer : Role) (a b : Arm) → (owing_send p peer a ∷ []) ≡ (owing_send p peer b ∷ []) → a.label ≡ b.label
 same_label p peer a b e =
     let q : owing_send p peer a ≡ owing_send p peer b = cc in
     ap label_of (last_act p.pending (act.Puts peer a.label a.sort) (act.Puts peer b.label b.sort) (ap (λ (z : Spot). z.pending) q))

@@ -61,7 +61,7 @@ two_moves sub above p makes makes' rs rs' m m' =
     let r = ruled sub above p makes rs m in
     let u = complete sub above p makes' rs' m' in
     let d : Due = due_by p (arms_at r.state) (arms_of t) r.rule in
-    let same : u.d ≡ d = same_Some u.d d (sym u.is' ∙ due_applies p (slice_get sub.states p.state) t r.state r.rule r.stands r.row) in
+    let same : u.d ≡ d = same_Some u.d d (sym u.due_is ∙ due_applies p (slice_get sub.states p.state) t r.state r.rule r.stands r.row) in
     two_by above p r.state t r.rule rs rs' r.row refl r.picks (subst (λ (z : Due). Chosen z.nexts rs') same u.picks)
 
 -- the chosen move is one
@@ -69,7 +69,7 @@ two_moves sub above p makes makes' rs rs' m m' =
 earlier_not : (sub above : Machine_data) (bound : ℕ) (p : Spot) (peer : Role) (theirs : List Arm) (rs rs' : List Spot) → slice_get above.states p.above ≡ Some (Puts peer theirs)
     → (a : Guessed p peer theirs rs) (b : Guessed p peer theirs rs') → IsChosen sub above bound p rs → IsChosen sub above bound p rs' → a.place < b.place → ⊥
 earlier_not sub above bound p peer theirs rs rs' g a b c c' lt =
-    c'.least peer theirs b.place a.place b.arm a.arm g b.is b.results lt a.is
+    c'.least peer theirs b.place a.place b.arm a.arm g b.stands b.results lt a.stands
     (c.survive (owing_send p peer a.arm) (subst (λ (z : List Spot). Among z (owing_send p peer a.arm)) (sym a.results) (inl refl)))
 
 pub one_choice : (sub above : Machine_data) (bound : ℕ) (p : Spot) (rs rs' : List Spot) → IsChosen sub above bound p rs → IsChosen sub above bound p rs' → rs ≡ rs'
@@ -82,7 +82,7 @@ one_choice sub above bound p rs rs' c c' =
             | inr ge ↦ elim (cases_lt b.place a.place) [
               | inl lt ↦ absurd (earlier_not sub above bound p g.peer g.theirs rs' rs g.stands b a c' c lt)
               | inr le ↦ (let e : a.place ≡ b.place = omega arith in
-                  let m : a.arm ≡ b.arm = same_Some a.arm b.arm (sym a.is ∙ ap (λ (z : ℕ). slice_get g.theirs z) e ∙ b.is) in
+                  let m : a.arm ≡ b.arm = same_Some a.arm b.arm (sym a.stands ∙ ap (λ (z : ℕ). slice_get g.theirs z) e ∙ b.stands) in
                   a.results ∙ ap (λ (z : Arm). owing_send p g.peer z ∷ []) m ∙ sym b.results)
             ]
           ])

@@ -3,7 +3,8 @@ use Rattle.std.proofs.Common.{◌≡◌, ◌⊎◌, inl, inr, ℕ, ◌<◌, ◌�
 use Rattle.std.proofs.lemmas.Bool.{cases_lt}
 use Rattle.std.proofs.lemmas.Bool.Decides.{eqb_tells}
 use Rattle.rs_graph.proofs.Growth.{at_in, at_within, growing_done, growing_large, growing_on, named_known, named_new, named_none, named_on}
-use Rattle.rs_graph.specs.Discovery.{AreNamed, Growing, IsDiscovery, MoreThan}
+use Rattle.rs_graph.specs.Discovery.{IsDiscovery}
+use Rattle.rs_graph.specs.Naming.{AreNamed, Growing, MoreThan}
 use Rattle.rs_graph.specs.Lists.{Among}
 
 -- any two are the same or aren't

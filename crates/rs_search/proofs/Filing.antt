@@ -9,14 +9,14 @@ use Rattle.rs_model.specs.declared.graph.Arm.{Arm}
 use Rattle.rs_model.specs.declared.graph.Role.{Role}
 use Rattle.rs_prefix.specs.declared.earliest.ActKind.{ActKind}
 use Rattle.rs_derive.proofs.Mapped.{map_at, map_of}
-use Rattle.rs_derive.specs.Checks.{target_spot}
+use Rattle.rs_derive.specs.Targets.{target_spot}
 use Rattle.rs_derive.specs.declared.targets.EdgeTarget.{EdgeTarget}
 use Rattle.rs_search.specs.Turns.{owing_by}
 use Rattle.rs_derive.specs.Data.{DNode_data}
 use Rattle.rs_derive.specs.Derivations.{spot_of}
 use Rattle.rs_derive.specs.Moves.{Spot}
 use Rattle.rs_search.specs.Buckets.{acts_code, bucket_by, bucket_of_spot, codes_of}
-use Rattle.rs_graph.specs.Discovery.{IsNamed}
+use Rattle.rs_graph.specs.Naming.{IsNamed}
 use Rattle.rs_graph.specs.Lists.{Among}
 use Rattle.rs_graph.proofs.Growth.{at_short, named_new, reads_at, take_on}
 use Rattle.rs_model.specs.Chains.{AllAreChained, IsChained}
@@ -168,7 +168,8 @@ entry_there nodes heads entries known k x a lt h =
 -- a spot that no number of its chain has is added at the end
 pub is_added : (nodes new : List DNode_data) (spots : List Spot) (heads : List ℕ) (entries : List Entry) (q r : Spot) (b head n : ℕ) (node : DNode_data) → spots_of nodes ≡ spots
     → AllAreChained (bucket_of_spot (length heads)) (spots_of nodes) heads (links_of entries) → b ≡ bucket_of_spot (length heads) q → head ≡ get_or heads b 0
-    → ((n : ℕ) → IsChained (links_of entries) head n → slice_get (spots_of nodes) n ≢ Some q) → new ≡ nodes ++ node ∷ [] → spot_of node ≡ q → q ≡ r → n ≡ length nodes → IsNamed spots r (spots_of new) n
+    → ((n : ℕ) → IsChained (links_of entries) head n → slice_get (spots_of nodes) n ≢ Some q)
+    → new ≡ nodes ++ node ∷ [] → spot_of node ≡ q → q ≡ r → n ≡ length nodes → IsNamed spots r (spots_of new) n
 is_added nodes new spots heads entries q r b head n node es chained eb eh none en ep er el =
     let longer : spots_of new ≡ spots ++ r ∷ [] = ap spots_of en ∙ map_push spot_of nodes node ∙ ap (λ (z : List Spot). z ++ spot_of node ∷ []) es ∙ ap (λ (z : Spot). spots ++ z ∷ []) (ep ∙ er) in
     named_new spots (spots_of new) r n

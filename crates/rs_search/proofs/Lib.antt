@@ -25,3 +25,4 @@ pub mod Turning
 pub mod Twins
 pub mod Uncut
 pub mod Verdicts
+pub mod Counted

@@ -7,7 +7,7 @@ use Rattle.rs_model.specs.declared.machines.Act.{Act}
 use Rattle.rs_derive.proofs.Mapped.{map_at}
 use Rattle.rs_derive.specs.Due.{both_at}
 use Rattle.rs_derive.specs.Moves.{Spot, arm_of, spot}
-use Rattle.rs_graph.specs.Discovery.{Adds, AreNamed, Grown}
+use Rattle.rs_graph.specs.Naming.{Adds, AreNamed, Grown}
 use Rattle.rs_graph.specs.Lists.{Among, concat}
 use Rattle.rs_graph.proofs.Growth.{in_at, take_on}
 use Rattle.rs_search.proofs.Alike.{grown_all_of}

@@ -36,11 +36,11 @@ same_guess : (sub above : Machine_data) (bound : ℕ) (d : Derivation_data) → 
 same_guess sub above bound d ws wa v rem i n e rs survive g = let a = g.other in let b = g.one in elim (eqb_tells a.arm.label.0 b.arm.label.0) [
   | inl q ↦ (let named : ℕ → Label = λ m. record { 0 = m } in
       let l : a.arm.label ≡ b.arm.label = ap named q.1 in
-      let k : a.place ≡ b.place = (wa.1.puts n.above g.peer g.theirs g.stands).once a.place b.place a.arm b.arm a.is b.is l in
-      let m : b.arm ≡ a.arm = same_Some b.arm a.arm (sym b.is ∙ ap (λ (z : ℕ). slice_get g.theirs z) (sym k) ∙ a.is) in
+      let k : a.place ≡ b.place = (wa.1.puts n.above g.peer g.theirs g.stands).once a.place b.place a.arm b.arm a.stands b.stands l in
+      let m : b.arm ≡ a.arm = same_Some b.arm a.arm (sym b.stands ∙ ap (λ (z : ℕ). slice_get g.theirs z) (sym k) ∙ a.stands) in
       b.results ∙ ap (λ (z : Arm). owing_send (spot_of n) g.peer z ∷ []) m ∙ sym a.results)
   | inr ne ↦ (let o = onto sub above d v i n e (owing_send (spot_of n) g.peer a.arm) (subst (λ (z : List Spot). Among z (owing_send (spot_of n) g.peer a.arm)) (sym a.results) (inl refl)) in
-      absurd (one_arm sub above bound d ws wa v rem o.number o.node o.is (spot_of n) g.peer a.arm b.arm o.at
+      absurd (one_arm sub above bound d ws wa v rem o.number o.node o.stands (spot_of n) g.peer a.arm b.arm o.at
       (survive (owing_send (spot_of n) g.peer b.arm) (subst (λ (z : List Spot). Among z (owing_send (spot_of n) g.peer b.arm)) (sym b.results) (inl refl)))
       (λ l. ne.1 (ap (λ (z : Label). z.0) l))))
 ]
@@ -64,29 +64,29 @@ spots c = map (λ (m : DNode_data). spot_of m) c.nodes
 record Stands (d c : Derivation_data) (i : ℕ) : Type 0 where
   pub at : ℕ
   pub node : DNode_data
-  pub is : slice_get d.nodes at ≡ Some node
+  pub stands : slice_get d.nodes at ≡ Some node
   pub same : slice_get (spots c) i ≡ Some (spot_of node)
 
 record Follows (sub above : Machine_data) (d c : Derivation_data) (v : IsDerivation d sub above) (i j : ℕ) (s : Stands d c i) : Type 0 where
   pub spot : Spot
   pub onto' : Onto d s.node spot
   pub present : Stands d c j
-  pub is : present.node ≡ onto'.node
+  pub node_is : present.node ≡ onto'.node
 
 follows : (sub above : Machine_data) (bound : ℕ) (d c : Derivation_data) → IsProper sub → IsProper above → (v : IsDerivation d sub above) → Remembers d sub above → HasCanonicalNodes sub above bound c
     → (i j : ℕ) (n : DNode_data) → slice_get c.nodes i ≡ Some n → Among n.next j → (s : Stands d c i) → Follows sub above d c v i j s
 follows sub above bound d c ws wa v rem h i j n e m s =
     let f = h.each i n e in
     let q : spot_of n ≡ spot_of s.node = same_Some (spot_of n) (spot_of s.node) (sym (map_at (λ (m : DNode_data). spot_of m) c.nodes i n e) ∙ s.same) in
-    let rs = same_results sub above bound d ws wa v rem s.at s.node s.is f.results (subst (λ (z : Spot). IsChosen sub above bound z f.results) q f.chosen) in
+    let rs = same_results sub above bound d ws wa v rem s.at s.node s.stands f.results (subst (λ (z : Spot). IsChosen sub above bound z f.results) q f.chosen) in
     let r = named_result (spots c) n.next f.results f.names j m in
-    let o = onto sub above d v s.at s.node s.is r.0 (subst (λ (z : List Spot). Among z r.0) rs r.2) in
-    record { spot = r.0; onto' = o; present = record { at = o.number; node = o.node; is = o.is; same = r.1 ∙ ap (λ (z : Spot). Some z) (sym o.at) }; is = refl }
+    let o = onto sub above d v s.at s.node s.stands r.0 (subst (λ (z : List Spot). Among z r.0) rs r.2) in
+    record { spot = r.0; onto' = o; present = record { at = o.number; node = o.node; stands = o.stands; same = r.1 ∙ ap (λ (z : Spot). Some z) (sym o.at) }; node_is = refl }
 
 stands : (sub above : Machine_data) (bound : ℕ) (d c : Derivation_data) → IsProper sub → IsProper above → (v : IsDerivation d sub above) → Remembers d sub above → HasCanonicalNodes sub above bound c
     → (most i : ℕ) (n : DNode_data) → i < most → slice_get c.nodes i ≡ Some n → Stands d c i
 stands sub above bound d c ws wa v rem h zero i n lt e = let bad : ⊥ = omega arith in absurd bad
-stands sub above bound d c ws wa v rem h (suc most) zero n lt e = record { at = zero; node = v.first; is = v.stands; same = h.first ∙ ap (λ (z : Spot). Some z) (sym v.starts) }
+stands sub above bound d c ws wa v rem h (suc most) zero n lt e = record { at = zero; node = v.first; stands = v.stands; same = h.first ∙ ap (λ (z : Spot). Some z) (sym v.starts) }
 stands sub above bound d c ws wa v rem h (suc most) (suc i) n lt e =
     let w = new_worked 0 1 (length c.nodes) (map (λ (m : DNode_data). m.next) c.nodes) h.order (suc i) (omega arith) (at_short c.nodes (suc i) n e) in
     let m = map_of (λ (m : DNode_data). m.next) c.nodes w.0 w.1 w.2 in
@@ -99,9 +99,9 @@ on_edge : (sub above : Machine_data) (bound : ℕ) (d c : Derivation_data) → I
 on_edge sub above bound d c ws wa v rem h i j k s =
     let q : spot_of k.node ≡ spot_of s.node = same_Some (spot_of k.node) (spot_of s.node) (sym (map_at (λ (m : DNode_data). spot_of m) c.nodes i k.node k.stands) ∙ s.same) in
     let f = follows sub above bound d c ws wa v rem h i j k.node k.stands k.leads s in
-    let l = falls_onto sub above d v rem s.at s.node s.is k.makes k.results (subst (λ (z : Spot). HasMove sub above z k.makes k.results) q k.move)
+    let l = falls_onto sub above d v rem s.at s.node s.stands k.makes k.results (subst (λ (z : Spot). HasMove sub above z k.makes k.results) q k.move)
     (subst (λ (z : Spot). KeepsItsHead z.pending k.makes) q k.keeps) f.spot f.onto' in
-    (f.present, subst (λ (z : DNode_data). z.rank < s.node.rank) (sym f.is) l)
+    (f.present, subst (λ (z : DNode_data). z.rank < s.node.rank) (sym f.node_is) l)
 
 on_walk : (sub above : Machine_data) (bound : ℕ) (d c : Derivation_data) → IsProper sub → IsProper above → (v : IsDerivation d sub above) → Remembers d sub above → HasCanonicalNodes sub above bound c
     → (i n j : ℕ) → Walk (KeepsHead sub above c.nodes) i n j → (s : Stands d c i) → (t : Stands d c j) × (t.node.rank + n ≤ s.node.rank)
@@ -189,6 +189,6 @@ canonical_up sub above bound more d ws wa le few f = record {
       least = λ peer arms place earlier arm other there is res lt at sv. (
           let rs = same_results sub above bound d ws wa v rem i n e c.results c.chosen in
           let o = onto sub above d v i n e (owing_send (spot_of n) peer arm) (subst (λ (z : List Spot). Among z (owing_send (spot_of n) peer arm)) (sym res ∙ rs) (inl refl)) in
-          one_arm sub above more d ws wa v rem o.number o.node o.is (spot_of n) peer arm other o.at sv
+          one_arm sub above more d ws wa v rem o.number o.node o.stands (spot_of n) peer arm other o.at sv
           (λ l. let k : place ≡ earlier = (wa.1.puts n.above peer arms there).once place earlier arm other is at l in let bad : ⊥ = omega arith in bad));
     }

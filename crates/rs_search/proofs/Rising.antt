@@ -9,7 +9,8 @@ use Rattle.rs_graph.proofs.Buckets.{got}
 use Rattle.rs_graph.proofs.Growth.{at_within}
 use Rattle.rs_graph.proofs.Ranking.{fit_ranks}
 use Rattle.rs_graph.specs.Lists.{Among}
-use Rattle.rs_graph.specs.Ranks.{Edge, RankFits}
+use Rattle.rs_graph.specs.Ranks.{Edge}
+use Rattle.rs_graph.specs.RanksSoFar.{RankFits}
 use Rattle.rs_graph.specs.Walks.{IsRank}
 use Rattle.rs_search.proofs.Places.{place_is, places_length}
 use Rattle.rs_model.specs.declared.limits.TheConstants.{MOST_CANDIDATES}

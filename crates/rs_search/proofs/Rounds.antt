@@ -8,7 +8,8 @@ use Rattle.rs_graph.proofs.Ranking.{cycle_within, ranked_none, ranked_on}
 use Rattle.rs_graph.proofs.Removed.{upto, upto_has, upto_length}
 use Rattle.rs_graph.specs.Discovery.{Reached, Begin, Step}
 use Rattle.rs_graph.specs.Lists.{Among}
-use Rattle.rs_graph.specs.Ranks.{Edge, RankFits, IsOrdered, Ranked}
+use Rattle.rs_graph.specs.Ranks.{Edge, IsOrdered}
+use Rattle.rs_graph.specs.RanksSoFar.{RankFits, Ranked}
 use Rattle.rs_graph.specs.Walks.{Walk, Here, Further, IsLeastOnCycle, IsOnCycle, IsRank}
 use Rattle.rs_search.proofs.Discovering.{IsWhole, among_or_not, discovered, same_number}
 use Rattle.rs_search.proofs.Removing.{left}

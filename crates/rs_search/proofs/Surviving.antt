@@ -50,7 +50,7 @@ result_named nodes (n ∷ ns) (s ∷ rs) h r (inr a) = let k = result_named node
 -- a node of the derivation that stands at a candidate
 record Stays (sub above : Machine_data) (bound : ℕ) (d : Derivation_data) (i : ℕ) : Type 0 where
   pub node : DNode_data
-  pub is : slice_get d.nodes i ≡ Some node
+  pub stands : slice_get d.nodes i ≡ Some node
   pub candidate : IsCandidate sub above bound (spot_of node)
 
 -- a node that fits has its move within each greater bound
@@ -66,12 +66,12 @@ move_within sub above bound d v le i n e f = record {
 
 -- each node that is reached from the first stands at a candidate
 reached_stays : (sub above : Machine_data) (bound : ℕ) (d : Derivation_data) → IsDerivation d sub above → d.bound ≤ bound → (i : ℕ) → Reached (nexts d.nodes) 0 i → Stays sub above bound d i
-reached_stays sub above bound d v le _ Begin = record { node = v.first; is = v.stands; candidate = subst (λ (z : Spot). IsCandidate sub above bound z) (sym v.starts) Start }
+reached_stays sub above bound d v le _ Begin = record { node = v.first; stands = v.stands; candidate = subst (λ (z : Spot). IsCandidate sub above bound z) (sym v.starts) Start }
 reached_stays sub above bound d v le _ (Step i j r a) =
     let s = reached_stays sub above bound d v le i r in
-    let f = v.each i s.node s.is in
-    let k = named_result d.nodes s.node.next f.results f.named j (subst (λ (z : List ℕ). Among z j) (nexts_at d.nodes i s.node s.is) a) in
-    record { node = k.0; is = k.1; candidate = Onward (spot_of s.node) f.results (spot_of k.0) s.candidate (move_within sub above bound d v le i s.node s.is f) k.2 }
+    let f = v.each i s.node s.stands in
+    let k = named_result d.nodes s.node.next f.results f.named j (subst (λ (z : List ℕ). Among z j) (nexts_at d.nodes i s.node s.stands) a) in
+    record { node = k.0; stands = k.1; candidate = Onward (spot_of s.node) f.results (spot_of k.0) s.candidate (move_within sub above bound d v le i s.node s.stands f) k.2 }
 
 -- the spots of such nodes
 abbrev gather : (sub above : Machine_data) (bound : ℕ) (d : Derivation_data) (is : List ℕ) → ((i : ℕ) → Among is i → Stays sub above bound d i) → List Spot
@@ -81,7 +81,7 @@ gather sub above bound d (i ∷ is) h = spot_of (h i (inl refl)).node ∷ gather
 gathered : (sub above : Machine_data) (bound : ℕ) (d : Derivation_data) (is : List ℕ) (h : (i : ℕ) → Among is i → Stays sub above bound d i) (p : Spot) → Among (gather sub above bound d is h) p
     → (i : ℕ) × Among is i × ((n : DNode_data) × (slice_get d.nodes i ≡ Some n) × (spot_of n ≡ p))
 gathered sub above bound d [] h p a = absurd a
-gathered sub above bound d (i ∷ is) h p (inl e) = let s = h i (inl refl) in (i, inl refl, (s.node, s.is, e))
+gathered sub above bound d (i ∷ is) h p (inl e) = let s = h i (inl refl) in (i, inl refl, (s.node, s.stands, e))
 gathered sub above bound d (i ∷ is) h p (inr a) = let k = gathered sub above bound d is (λ j m. h j (inr m)) p a in (k.0, inr k.1, k.2)
 
 gathers : (sub above : Machine_data) (bound : ℕ) (d : Derivation_data) (is : List ℕ) (h : (i : ℕ) → Among is i → Stays sub above bound d i) (i : ℕ) (n : DNode_data) → Among is i
@@ -89,7 +89,7 @@ gathers : (sub above : Machine_data) (bound : ℕ) (d : Derivation_data) (is : L
     → Among (gather sub above bound d is h) (spot_of n)
 gathers sub above bound d [] h i n a e = absurd a
 gathers sub above bound d (j ∷ is) h i n (inl q) e =
-    let s = h j (inl refl) in inl (ap spot_of (same_Some s.node n (sym s.is ∙ ap (λ (z : ℕ). slice_get d.nodes z) q ∙ e)))
+    let s = h j (inl refl) in inl (ap spot_of (same_Some s.node n (sym s.stands ∙ ap (λ (z : ℕ). slice_get d.nodes z) q ∙ e)))
 gathers sub above bound d (j ∷ is) h i n (inr a) e = inr (gathers sub above bound d is (λ k m. h k (inr m)) i n a e)
 
 -- a derivation within the bound makes the start survive: its nodes that are reached from the first stand together
@@ -98,14 +98,14 @@ derived_survives sub above bound d v le = record {
   set = set;
   stand = record {
     candidates = λ p a. (let k = gathered sub above bound d w.found stays p a in let s = stays k.0 k.1 in
-        subst (λ (z : Spot). IsCandidate sub above bound z) (ap spot_of (same_Some s.node k.2.0 (sym s.is ∙ k.2.1)) ∙ k.2.2) s.candidate);
+        subst (λ (z : Spot). IsCandidate sub above bound z) (ap spot_of (same_Some s.node k.2.0 (sym s.stands ∙ k.2.1)) ∙ k.2.2) s.candidate);
     each = λ p a. (let k = gathered sub above bound d w.found stays p a in subst (λ (z : Spot). IsSupported sub above bound set z) k.2.2 (supported k.0 k.1 k.2.0 k.2.1));
   };
   among = subst (λ (z : Spot). Among set z) v.starts (gathers sub above bound d w.found stays 0 v.first (in_at w.found 0 0 w.discovery.first) v.stands);
 }
   where
     w : IsWhole (nexts d.nodes) 0 (length d.nodes)
-    w = all_discovered (nexts d.nodes) 0 (length d.nodes) (at_short d.nodes 0 v.first v.stands) (λ i r. let s = reached_stays sub above bound d v le i r in at_short d.nodes i s.node s.is)
+    w = all_discovered (nexts d.nodes) 0 (length d.nodes) (at_short d.nodes 0 v.first v.stands) (λ i r. let s = reached_stays sub above bound d v le i r in at_short d.nodes i s.node s.stands)
 
     stays : (i : ℕ) → Among w.found i → Stays sub above bound d i
     stays i a = let k = at_in w.found i a in reached_stays sub above bound d v le i (w.discovery.reached k.0 i k.1)
@@ -150,12 +150,12 @@ nodes_spots sub above bound set st (p ∷ ps) h = ap (λ (z : List Spot). p ∷ 
 record Made (sub above : Machine_data) (bound : ℕ) (set : List Spot) (st : StandTogether sub above bound set) (n : DNode_data) : Type 0 where
   pub spot : Spot
   pub among : Among set spot
-  pub is : n ≡ node_at_spot spot 0 (places set (st.each spot among).results (st.each spot among).all)
+  pub number_is : n ≡ node_at_spot spot 0 (places set (st.each spot among).results (st.each spot among).all)
 
 made : (sub above : Machine_data) (bound : ℕ) (set : List Spot) (st : StandTogether sub above bound set) (ps : List Spot) (h : (p : Spot) → Among ps p → Among set p) (i : ℕ) (n : DNode_data)
     → slice_get (nodes_of sub above bound set st ps h) i ≡ Some n → Made sub above bound set st n
 made sub above bound set st [] h i n e = absurd (none-some n e)
-made sub above bound set st (p ∷ ps) h zero n e = record { spot = p; among = h p (inl refl); is = sym (same_Some _ n e) }
+made sub above bound set st (p ∷ ps) h zero n e = record { spot = p; among = h p (inl refl); number_is = sym (same_Some _ n e) }
 made sub above bound set st (p ∷ ps) h (suc i) n e = made sub above bound set st ps (λ q m. h q (inr m)) i n e
 
 -- where the start survives there is a derivation with that bound
@@ -199,4 +199,4 @@ survival_derives sub above bound ws wa s = (d, record { first = first.0; stands 
           named = names_are d.nodes (places s.set g.results g.all) g.results
               (subst (λ (z : List Spot). ArePlacesOf z (places s.set g.results g.all) g.results) (sym are) (places_name (start_spot sub above) s.set g.results g.all));
         } in
-        subst (λ (z : DNode_data). NodeFits d.nodes bound sub above z) (sym m.is) fit
+        subst (λ (z : DNode_data). NodeFits d.nodes bound sub above z) (sym m.number_is) fit

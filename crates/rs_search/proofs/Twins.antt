@@ -203,7 +203,7 @@ goes sub above ws wa p front peer label sort more e makes results (ReceivesAhead
 record Twins (sub above : Machine_data) (bound : ℕ) (d : Derivation_data) (fronts ranks owes : ℕ) : Type 0 where
   pub at : ℕ
   pub node : DNode_data
-  pub is : slice_get d.nodes at ≡ Some node
+  pub stands : slice_get d.nodes at ≡ Some node
   pub other : Spot
   pub survives : Survives sub above bound other
   pub state : other.state ≡ node.state
@@ -234,7 +234,7 @@ pub record Onto (d : Derivation_data) (n : DNode_data) (r : Spot) : Type 0 where
   pub number : ℕ
   pub node : DNode_data
   pub named : slice_get n.next place ≡ Some number
-  pub is : slice_get d.nodes number ≡ Some node
+  pub stands : slice_get d.nodes number ≡ Some node
   pub at : spot_of node ≡ r
 
 pub onto : (sub above : Machine_data) (d : Derivation_data) (v : IsDerivation d sub above) (i : ℕ) (n : DNode_data) (e : slice_get d.nodes i ≡ Some n) (r : Spot) → Among (v.each i n e).results r
@@ -242,18 +242,18 @@ pub onto : (sub above : Machine_data) (d : Derivation_data) (v : IsDerivation d 
 onto sub above d v i n e r m =
     let k = result_named d.nodes n.next (v.each i n e).results (v.each i n e).named r m in
     let p = at_in n.next k.0 k.1 in
-    record { place = p.0; number = k.0; node = k.2.0; named = p.1; is = k.2.1; at = k.2.2 }
+    record { place = p.0; number = k.0; node = k.2.0; named = p.1; stands = k.2.1; at = k.2.2 }
 
 -- such a node has a lesser rank where the head is kept
 pub falls_onto : (sub above : Machine_data) (d : Derivation_data) (v : IsDerivation d sub above) → Remembers d sub above
     → (i : ℕ) (n : DNode_data) (e : slice_get d.nodes i ≡ Some n) (makes : Option ℕ) (results : List Spot)
     → HasMove sub above (spot_of n) makes results → KeepsItsHead n.pending makes → (r : Spot) (o : Onto d n r) → o.node.rank < n.rank
-falls_onto sub above d v rem i n e makes results move keeps r o = rem.falls i n makes results e move keeps o.place o.number o.node o.named o.is
+falls_onto sub above d v rem i n e makes results move keeps r o = rem.falls i n makes results e move keeps o.place o.number o.node o.named o.stands
 
 -- the move of the node, and that of the survivor
 
 abbrev Mine : (sub above : Machine_data) (bound : ℕ) (d : Derivation_data) → IsDerivation d sub above → (fronts ranks owes : ℕ) → Twins sub above bound d fronts ranks owes → Type 0
-Mine sub above bound d v fronts ranks owes t = Goes sub (spot_of t.node) t.front t.peer t.label t.sort (v.each t.at t.node t.is).makes (v.each t.at t.node t.is).results
+Mine sub above bound d v fronts ranks owes t = Goes sub (spot_of t.node) t.front t.peer t.label t.sort (v.each t.at t.node t.stands).makes (v.each t.at t.node t.stands).results
 
 abbrev support : (sub above : Machine_data) (bound : ℕ) (d : Derivation_data) (fronts ranks owes : ℕ) (t : Twins sub above bound d fronts ranks owes)
     → IsSupported sub above bound t.survives.set t.other
@@ -269,10 +269,10 @@ survives_on sub above bound d fronts ranks owes t r m = record { set = t.survive
 
 mine_keeps : (sub above : Machine_data) (bound : ℕ) (d : Derivation_data) (v : IsDerivation d sub above) → Remembers d sub above
     → (fronts ranks owes : ℕ) (t : Twins sub above bound d fronts (suc ranks) owes)
-    → (v.each t.at t.node t.is).makes ≢ Some 0 → (r : Spot) (o : Onto d t.node r) → o.node.rank < ranks
+    → (v.each t.at t.node t.stands).makes ≢ Some 0 → (r : Spot) (o : Onto d t.node r) → o.node.rank < ranks
 mine_keeps sub above bound d v rem fronts ranks owes t other r o =
-    let f = v.each t.at t.node t.is in
-    let l = falls_onto sub above d v rem t.at t.node t.is f.makes f.results f.move
+    let f = v.each t.at t.node t.stands in
+    let l = falls_onto sub above d v rem t.at t.node t.stands f.makes f.results f.move
     (record { owes = λ e. not_none t.front (act.Puts t.peer t.label t.sort) t.more (sym t.mine ∙ e); other = other }) r o in
     let b = t.low in omega arith
 
@@ -280,15 +280,15 @@ mine_keeps sub above bound d v rem fronts ranks owes t other r o =
 
 i_stay : (sub above : Machine_data) (bound : ℕ) (d : Derivation_data) (v : IsDerivation d sub above) → Remembers d sub above
     → (fronts ranks owes : ℕ) (t : Twins sub above bound d (suc fronts) (suc ranks) (suc owes))
-    → (res : Spot) (more : List Act) → Among (v.each t.at t.node t.is).results res → res.state ≡ t.node.state → res.pending ≡ t.front ++ act.Puts t.peer t.label t.sort ∷ more
-    → (v.each t.at t.node t.is).makes ≡ None
+    → (res : Spot) (more : List Act) → Among (v.each t.at t.node t.stands).results res → res.state ≡ t.node.state → res.pending ≡ t.front ++ act.Puts t.peer t.label t.sort ∷ more
+    → (v.each t.at t.node t.stands).makes ≡ None
     → OnTwins sub above bound d fronts ranks owes
 i_stay sub above bound d v rem fronts ranks owes t res more m ss ps mk =
-    let o = onto sub above d v t.at t.node t.is res m in
+    let o = onto sub above d v t.at t.node t.stands res m in
     Lower (suc owes) record {
       at = o.number;
       node = o.node;
-      is = o.is;
+      stands = o.stands;
       other = t.other;
       survives = t.survives;
       state = t.state ∙ sym ss ∙ sym (ap (λ (z : Spot). z.state) o.at);
@@ -315,7 +315,7 @@ they_stay : (sub above : Machine_data) (bound : ℕ) (d : Derivation_data) (fron
 they_stay sub above bound d fronts ranks owes t res more m ss ps lt = Longer record {
   at = t.at;
   node = t.node;
-  is = t.is;
+  stands = t.stands;
   other = res;
   survives = survives_on sub above bound d (suc fronts) (suc ranks) (suc owes) t res m;
   state = ss ∙ t.state;
@@ -337,16 +337,16 @@ they_stay sub above bound d fronts ranks owes t res more m ss ps lt = Longer rec
 
 -- both make what is owed before
 both_make : (sub above : Machine_data) (bound : ℕ) (d : Derivation_data) (v : IsDerivation d sub above) → (fronts ranks owes : ℕ) (t : Twins sub above bound d (suc fronts) (suc ranks) (suc owes))
-    → (place : ℕ) (res res' : Spot) → place < length t.front → Among (v.each t.at t.node t.is).results res → Among (support sub above bound d (suc fronts) (suc ranks) (suc owes) t).results res'
+    → (place : ℕ) (res res' : Spot) → place < length t.front → Among (v.each t.at t.node t.stands).results res → Among (support sub above bound d (suc fronts) (suc ranks) (suc owes) t).results res'
     → res'.state ≡ res.state
     → res.pending ≡ without t.node.pending place → res'.pending ≡ without t.other.pending place → OnTwins sub above bound d fronts ranks owes
 both_make sub above bound d v fronts ranks owes t place res res' lt m m' ss ps ps' =
-    let o = onto sub above d v t.at t.node t.is res m in
+    let o = onto sub above d v t.at t.node t.stands res m in
     let f = front_without t.front place lt in
     Fewer (suc o.node.rank) (suc bound) record {
       at = o.number;
       node = o.node;
-      is = o.is;
+      stands = o.stands;
       other = res';
       survives = survives_on sub above bound d (suc fronts) (suc ranks) (suc owes) t res' m';
       state = ss ∙ sym (ap (λ (z : Spot). z.state) o.at);
@@ -369,16 +369,16 @@ both_make sub above bound d v fronts ranks owes t place res res' lt m m' ss ps p
 -- both send to another
 both_pass : (sub above : Machine_data) (bound : ℕ) (d : Derivation_data) (v : IsDerivation d sub above) → Remembers d sub above
     → (fronts ranks owes : ℕ) (t : Twins sub above bound d (suc fronts) (suc ranks) (suc owes))
-    → (res res' : Spot) (more more' : List Act) → Among (v.each t.at t.node t.is).results res → Among (support sub above bound d (suc fronts) (suc ranks) (suc owes) t).results res'
+    → (res res' : Spot) (more more' : List Act) → Among (v.each t.at t.node t.stands).results res → Among (support sub above bound d (suc fronts) (suc ranks) (suc owes) t).results res'
     → res'.state ≡ res.state
-    → res.pending ≡ t.front ++ act.Puts t.peer t.label t.sort ∷ more → res'.pending ≡ t.front ++ act.Puts t.peer t.label' t.sort' ∷ more' → (v.each t.at t.node t.is).makes ≢ Some 0
+    → res.pending ≡ t.front ++ act.Puts t.peer t.label t.sort ∷ more → res'.pending ≡ t.front ++ act.Puts t.peer t.label' t.sort' ∷ more' → (v.each t.at t.node t.stands).makes ≢ Some 0
     → OnTwins sub above bound d fronts ranks owes
 both_pass sub above bound d v rem fronts ranks owes t res res' more more' m m' ss ps ps' other =
-    let o = onto sub above d v t.at t.node t.is res m in
+    let o = onto sub above d v t.at t.node t.stands res m in
     Lower (suc bound) record {
       at = o.number;
       node = o.node;
-      is = o.is;
+      stands = o.stands;
       other = res';
       survives = survives_on sub above bound d (suc fronts) (suc ranks) (suc owes) t res' m';
       state = ss ∙ sym (ap (λ (z : Spot). z.state) o.at);
@@ -489,7 +489,7 @@ by_owed sub above bound d ws wa v rem fronts ranks fewer lower (suc owes) t =
     on (λ u. by_owed sub above bound d ws wa v rem fronts ranks fewer lower owes u) (go_on sub above bound d v rem fronts ranks owes t mine theirs)
   where
     mine : Mine sub above bound d v (suc fronts) (suc ranks) (suc owes) t
-    mine = let f = v.each t.at t.node t.is in goes sub above ws wa (spot_of t.node) t.front t.peer t.label t.sort t.more t.mine f.makes f.results f.move
+    mine = let f = v.each t.at t.node t.stands in goes sub above ws wa (spot_of t.node) t.front t.peer t.label t.sort t.more t.mine f.makes f.results f.move
 
     theirs : Theirs sub above bound d (suc fronts) (suc ranks) (suc owes) t
     theirs = let g = support sub above bound d (suc fronts) (suc ranks) (suc owes) t in goes sub above ws wa t.other t.front t.peer t.label' t.sort' t.more' t.theirs g.move.makes g.results g.move.move
@@ -517,7 +517,7 @@ pub one_arm : (sub above : Machine_data) (bound : ℕ) (d : Derivation_data) →
 one_arm sub above bound d ws wa v rem i n e p peer a b at sv apart = no_twins sub above bound d ws wa v rem (suc (length p.pending)) (suc n.rank) (suc bound) record {
   at = i;
   node = n;
-  is = e;
+  stands = e;
   other = owing_send p peer b;
   survives = sv;
   state = sym (ap (λ (z : Spot). z.state) at);

@@ -23,7 +23,7 @@ use Rattle.rs_search.specs.declared.faults.SearchFault.TheVariants.{NotFound, Fo
 one_more : (sub above : Machine_data) (p : Spot) (makes : Option ℕ) (rs : List Spot) → HasMove sub above p makes rs → (r : Spot) → Among rs r → length r.pending ≤ suc (length p.pending)
 one_more sub above p makes rs m r a =
     let t = complete sub above p makes rs m in
-    let s = simple sub above p t.d t.is' in
+    let s = simple sub above p t.d t.due_is in
     let e = s.level.all r (chosen_among t.d.nexts rs t.picks r a) in let f = s.level.bounded in omega arith
 
 -- to a greater bound

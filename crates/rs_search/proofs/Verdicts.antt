@@ -11,7 +11,8 @@ use Rattle.rs_derive.specs.Moves.{Spot}
 use Rattle.rs_graph.specs.Built.{IsBuilt}
 use Rattle.rs_search.specs.Candidates.{AreMoreThan, IsCandidate, Start, Onward, start_spot}
 use Rattle.rs_search.specs.Canonical.{IsNotFound, SomeCut}
-use Rattle.rs_graph.specs.Discovery.{IsDiscovery, MoreThan, Reached, Begin, Step}
+use Rattle.rs_graph.specs.Discovery.{IsDiscovery, Reached, Begin, Step}
+use Rattle.rs_graph.specs.Naming.{MoreThan}
 use Rattle.rs_graph.specs.Graphs.{Graph_data, moves_of}
 use Rattle.rs_search.specs.Turns.{is_any, is_cut}
 use Rattle.rs_graph.specs.Lists.{Among, ArePlacesOf}

@@ -1,4 +1,4 @@
--- Believed: the spots that a search within a bound may come to.
+-- Public: the spots that a search within a bound may come to.
 use Rattle.std.specs.Prelude.{◌≡◌, ℕ, ◌<◌, ◌≤◌, List, [], length, Option}
 use Rattle.rs_model.specs.Data.{Machine_data}
 use Rattle.rs_derive.specs.Moves.{Spot, spot, HasMove}

@@ -1,4 +1,4 @@
--- Believed: the canonical derivation, and why there may be none.
+-- Public: the canonical derivation, and why there may be none.
 use Rattle.std.specs.Prelude.{◌≡◌, ◌↔◌, ℕ, ◌≤◌, List, length, map, slice_get, Bool, true, Option, Some}
 use Rattle.rs_model.specs.declared.limits.TheConstants.{MOST_CANDIDATES}
 use Rattle.rs_model.specs.Data.{Machine_data}

@@ -1,11 +1,11 @@
--- Believed: what the search may cost.
+-- Public: what the search may cost.
 use Rattle.std.specs.Prelude.{◌≡◌, ℕ, ◌+◌, ◌*◌, ◌≤◌, List, length}
 use Rattle.std.specs.List.{sum_by}
 use Rattle.rs_model.specs.Data.{Machine_data}
 use Rattle.rs_derive.specs.Moves.{Spot}
 use Rattle.rs_graph.specs.Lists.{Among}
 use Rattle.rs_graph.specs.Order.{Once}
-use Rattle.rs_search.specs.Candidates.{IsCandidate}
+use Rattle.rs_search.specs.Candidates.{IsCandidate, MoveWithin}
 use Rattle.rs_search.specs.Turns.{nexts_within}
 use Rattle.rs_search.specs.declared.faults.SearchFault.{SearchFault}
 use Rattle.rs_search.specs.declared.faults.SearchFault.TheVariants.{NotFound, Forgets, TooLarge, NoMemory}
@@ -15,6 +15,12 @@ pub record AreCandidates (sub above : Machine_data) (bound : ℕ) (spots : List 
   pub once : Once spots
   pub to : (p : Spot) → Among spots p → IsCandidate sub above bound p
   pub from : (p : Spot) → IsCandidate sub above bound p → Among spots p
+
+-- all moves of the spot within the bound, each once: the results of each
+pub record AreMovesWithin (sub above : Machine_data) (bound : ℕ) (p : Spot) (moves : List (List Spot)) : Type 0 where
+  pub once : Once moves
+  pub to : (results : List Spot) → Among moves results → MoveWithin sub above bound p results
+  pub from : (results : List Spot) → MoveWithin sub above bound p results → Among moves results
 
 -- how many results all moves of the spots have together
 abbrev pub results_of : Machine_data → Machine_data → ℕ → List Spot → ℕ

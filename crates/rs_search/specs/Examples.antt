@@ -1,4 +1,4 @@
--- Believed: two small machines.
+-- Public: two small machines.
 use Rattle.std.specs.Prelude.{[], ◌∷◌}
 use Rattle.rs_model.specs.Data.{Machine_data}
 use Rattle.rs_model.specs.declared.machines.State.TheVariants.{Done, Takes}

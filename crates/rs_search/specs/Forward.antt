@@ -1,7 +1,7 @@
 -- Steps: ranks along edges that all lead to greater numbers, from the last number to the first.
 use Rattle.std.specs.Prelude.{◌≡◌, ℕ, ◌+◌, ◌<◌, ◌≤◌, List, [], length, slice_index_or, Bool, false, if◌then◌else◌}
 use Rattle.rs_graph.specs.Lists.{Among}
-use Rattle.rs_graph.specs.Ranks.{RankFits}
+use Rattle.rs_graph.specs.RanksSoFar.{RankFits}
 
 -- what is kept of a row
 abbrev pub kept_row : Bool → List ℕ → List ℕ

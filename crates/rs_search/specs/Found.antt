@@ -3,7 +3,8 @@ use Rattle.std.specs.Prelude.{◌≡◌, ℕ, ◌<◌, ◌≤◌, ◌^◌, List,
 use Rattle.std.specs.List.{list_any}
 use Rattle.rs_derive.specs.Moves.{Spot}
 use Rattle.rs_graph.specs.Built.{IsBuilt}
-use Rattle.rs_graph.specs.Discovery.{Growing, IsDiscovery}
+use Rattle.rs_graph.specs.Discovery.{IsDiscovery}
+use Rattle.rs_graph.specs.Naming.{Growing}
 use Rattle.rs_graph.specs.Removal.{IsRemoval, at, moves_at}
 use Rattle.rs_model.specs.Data.{Machine_data}
 use Rattle.rs_model.specs.declared.limits.TheConstants.{MOST_CANDIDATES}

@@ -8,7 +8,7 @@ use Rattle.rs_model.specs.declared.limits.TheConstants.{MOST_CANDIDATES}
 use Rattle.rs_model.specs.declared.machines.State.{State}
 use Rattle.rs_model.specs.declared.machines.State.TheVariants.{Done, Puts, Takes}
 use Rattle.rs_derive.specs.Moves.{Spot, owing_receive, spot}
-use Rattle.rs_graph.specs.Discovery.{AreNamed, Grown}
+use Rattle.rs_graph.specs.Naming.{AreNamed, Grown}
 
 -- what is owed: an act, or nothing
 abbrev pub owed_list : Option Act → List Act

@@ -1,4 +1,4 @@
--- Believed: the survivors: the largest set of candidates in which each has a move whose results all lie in the set.
+-- Public: the survivors: the largest set of candidates in which each has a move whose results all lie in the set.
 use Rattle.std.specs.Prelude.{◌≡◌, ℕ, ◌<◌, List, [], ◌∷◌, slice_get, Some}
 use Rattle.rs_model.specs.Data.{Machine_data}
 use Rattle.rs_model.specs.declared.graph.Arm.{Arm}

@@ -1,12 +1,12 @@
 -- Steps: spots that are numbered in order of first sight, and what they lead to.
 use Rattle.std.specs.Prelude.{◌≡◌, ℕ, ◌<◌, ◌≤◌, ◌+◌, ◌^◌, List, [], ◌∷◌, ◌++◌, length, map, slice_get, slice_index_or, Some}
-use Rattle.rs_derive.specs.Checks.{target_spot}
+use Rattle.rs_derive.specs.Targets.{target_spot}
 use Rattle.rs_derive.specs.Data.{DNode_data}
 use Rattle.rs_derive.specs.Derivations.{spot_of}
 use Rattle.rs_derive.specs.Moves.{Spot}
 use Rattle.rs_derive.specs.Within.{IsPlaceWithin}
 use Rattle.rs_derive.specs.declared.targets.EdgeTarget.{EdgeTarget}
-use Rattle.rs_graph.specs.Discovery.{Adds, AreNamed, IsNamed}
+use Rattle.rs_graph.specs.Naming.{Adds, AreNamed, IsNamed}
 use Rattle.rs_search.specs.Buckets.{bucket_of_spot, codes_of}
 use Rattle.rs_search.specs.declared.found.Nexts.{Nexts}
 use Rattle.rs_search.specs.declared.found.Nexts.TheVariants.{One, Several}

@@ -1,4 +1,4 @@
--- Steps: what a spot can do within the bound, as it is computed: choose one of some spots, or go on to all of them.
+-- Public: what a spot can do within the bound, as it is computed: choose one of some spots, or go on to all of them.
 use Rattle.std.specs.Prelude.{ℕ, List, [], length, Bool, true, false, not, ◌==◌, ◌&&◌, nat_lt, nat_le, if◌then◌else◌, slice_get, Option, None, Some}
 use Rattle.std.specs.List.{list_any}
 use Rattle.rs_model.specs.Data.{Machine_data}

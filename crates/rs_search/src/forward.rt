@@ -1,7 +1,8 @@
 //! Ranks along edges that all lead to greater numbers, from the last number to the first.
 ghost use Rattle.std.specs.Prelude.{◌≡◌, ◌<◌, ◌≤◌, ◌+◌, ◌^◌, [], List, ℕ, IfOk, IfSome, length, slice_index_or, true};
 ghost use Rattle.rs_graph.specs.Lists.{Among};
-ghost use Rattle.rs_graph.specs.Ranks.{Edge, RankFits};
+ghost use Rattle.rs_graph.specs.Ranks.{Edge};
+ghost use Rattle.rs_graph.specs.RanksSoFar.{RankFits};
 ghost use Rattle.rs_search.specs.Forward.{AreForward, kept_row};
 
 use crate::table::SpotTable;

@@ -1,6 +1,6 @@
 //! The candidates: the spots that are reached within the bound, numbered in order of first sight.
 ghost use Rattle.std.specs.Prelude.{◌*◌, ◌≡◌, ◌<◌, ◌≤◌, ◌+◌, ◌^◌, [], ◌∷◌, ◌++◌, List, ℕ, OnOk, OnErr, IfOk, IfErr, IfSome, MatchResult, length, map, slice_get, slice_index_or, Some, ◌||◌};
-ghost use Rattle.rs_derive.specs.Checks.{target_spot};
+ghost use Rattle.rs_derive.specs.Targets.{target_spot};
 ghost use Rattle.rs_derive.specs.Derivations.{IsProper, spot_of};
 ghost use Rattle.rs_derive.specs.Due.{both_at, nexts_by};
 ghost use Rattle.rs_derive.specs.Moves.{Spot, arm_of, spot};
@@ -11,7 +11,7 @@ ghost use Rattle.rs_search.specs.Candidates.{start_spot};
 ghost use Rattle.rs_search.specs.Found.{AreFoundCandidates, AreFoundSoFar};
 ghost use Rattle.rs_search.specs.Itself.{AreNamedAt, GrowsBy};
 ghost use Rattle.rs_search.specs.Table.{AddsAt, IsBucketCount, IsWithinAt, NamesMore, StandsWithin, numbers_of};
-ghost use Rattle.rs_graph.specs.Discovery.{MoreThan};
+ghost use Rattle.rs_graph.specs.Naming.{MoreThan};
 ghost use Rattle.rs_graph.specs.Lists.{concat};
 ghost use Rattle.rs_search.specs.Turns.{BothHaveLabelsOnce, nexts_within, owing_by, spots_by};
 ghost use Rattle.rs_model.specs.declared.limits.TheConstants.{MOST_CANDIDATES, MOST_STATES};

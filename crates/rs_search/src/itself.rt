@@ -4,7 +4,7 @@ ghost use Rattle.rs_model.specs.declared.limits.TheConstants.{MOST_CANDIDATES};
 ghost use Rattle.rs_derive.specs.Derivations.{IsProper};
 ghost use Rattle.rs_derive.specs.Moves.{Spot, owing_receive};
 ghost use Rattle.rs_derive.specs.Within.{HasLabelsOnce};
-ghost use Rattle.rs_graph.specs.Discovery.{AreNamed, IsNamed};
+ghost use Rattle.rs_graph.specs.Naming.{AreNamed, IsNamed};
 ghost use Rattle.rs_graph.specs.Lists.{Among};
 ghost use Rattle.rs_search.specs.Canonical.{IsCanonical};
 ghost use Rattle.rs_search.specs.Itself.{ArePositions, IsOfItself, even, nexts_itself, owed_list};

@@ -1,5 +1,5 @@
 //! Laws over the definitions that the contracts cite. The functions do nothing: the contract is the law.
-ghost use Rattle.std.specs.Prelude.{◌≡◌, ◌≢◌, ◌⊎◌, ◌↔◌, ◌≤◌, ℕ, length, Bool, false, None};
+ghost use Rattle.std.specs.Prelude.{◌≡◌, ◌≢◌, ◌⊎◌, ◌↔◌, ◌≤◌, ℕ, List, length, Bool, false, None};
 ghost use Rattle.rs_model.specs.Data.{Machine_data};
 ghost use Rattle.rs_model.specs.declared.limits.TheConstants.{MOST_CANDIDATES};
 ghost use Rattle.rs_derive.specs.Data.{Derivation_data};
@@ -8,6 +8,9 @@ ghost use Rattle.rs_derive.specs.Faults.{first_fault};
 ghost use Rattle.rs_derive.specs.Moves.{Spot};
 ghost use Rattle.rs_search.specs.Candidates.{AreMoreThan, IsCandidate, start_spot};
 ghost use Rattle.rs_search.specs.Canonical.{CanFollow, HasCanonicalNodes, IsCanonical, IsDerivable, IsForgetful, IsNotFound, SearchRefuses, SomeCut};
+ghost use Rattle.rs_search.specs.Costs.{AreMovesWithin};
+ghost use Rattle.rs_graph.specs.Lists.{concat};
+ghost use Rattle.rs_search.specs.Turns.{nexts_within};
 ghost use Rattle.rs_search.specs.Examples.{ended_machine, waiting};
 ghost use Rattle.rs_search.specs.Survives.{Survives};
 ghost use Rattle.rs_search.specs.declared.faults.SearchFault.{SearchFault};
@@ -88,4 +91,10 @@ pub fn greater_bounds()
     ensures uncut_survivors { (sub above : Machine_data) (bound more : ℕ) (p : Spot) → (SomeCut sub above bound → ⊥) → bound ≤ more → Survives sub above more p ↔ Survives sub above bound p }
     ensures not_found { (sub above : Machine_data) (bound more : ℕ) → bound ≤ more → IsNotFound sub above bound false → IsNotFound sub above more false }
     ensures none { (sub above : Machine_data) (bound : ℕ) (d : Derivation_data) → IsNotFound sub above bound false → IsDerivation d sub above → ⊥ }
+{}
+
+/// The results that the cost counts at a spot are those of all its moves within the bound, each move once.
+pub fn results_of_each_move_are_counted()
+    ensures { (sub above : Machine_data) (bound : ℕ) (p : Spot) → IsProper above
+        → (moves : List (List Spot)) × AreMovesWithin sub above bound p moves × (nexts_within sub above bound p ≡ concat moves) }
 {}

@@ -15,7 +15,7 @@ use std::alloc::Global;
 use std::sync::ledger::Ledger;
 
 /// The candidates, their graph, and what is left of it, among which is the start.
-#[derive(Drop, Debug)]
+#[derive(Drop)]
 pub struct Survivors {
     pub found: Candidates,
     pub graph: Graph,

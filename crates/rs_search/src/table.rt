@@ -1,6 +1,6 @@
 //! Spots, numbered in order of first sight and found again by an index.
 ghost use Rattle.std.specs.Prelude.{◌≡◌, ◌≢◌, ◌<◌, ◌≤◌, ◌+◌, ◌^◌, [], ◌∷◌, ◌++◌, List, ℕ, OnOk, OnErr, IfOk, IfErr, MatchOption, MatchResult, length, slice_get, Some, replicate, true, false};
-ghost use Rattle.rs_derive.specs.Checks.{owed_behind, target_spot};
+ghost use Rattle.rs_derive.specs.Targets.{owed_behind, target_spot};
 ghost use Rattle.rs_derive.specs.Data.{DNode_data};
 ghost use Rattle.rs_derive.specs.Derivations.{spot_of};
 ghost use Rattle.rs_derive.specs.Moves.{Spot, spot};

@@ -1,7 +1,7 @@
 //! What a spot can do within the bound: choose one of some spots, or go on to all of them.
 ghost use Rattle.std.specs.Prelude.{◌≡◌, ◌<◌, ◌≤◌, ◌^◌, ◌==◌, ◌&&◌, ℕ, List, IfSome, length, not, Some, None, true, false};
 ghost use Rattle.rs_model.specs.declared.machines.Act.{Act};
-ghost use Rattle.rs_derive.specs.Checks.{target_spot};
+ghost use Rattle.rs_derive.specs.Targets.{target_spot};
 ghost use Rattle.rs_derive.specs.Due.{due_at, due_by};
 ghost use Rattle.rs_derive.specs.Moves.{spot};
 ghost use Rattle.rs_derive.specs.Rules.{RuleFits, arms_at};

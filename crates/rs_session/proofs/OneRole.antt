@@ -9,7 +9,7 @@ use Rattle.rs_model.specs.declared.machines.State.TheVariants.{Takes}
 use Rattle.rs_model.specs.declared.values.Value.{Value}
 use Rattle.rs_core.specs.Choices.{AreWellFormed}
 use Rattle.rs_core.specs.Configurations.{state_of}
-use Rattle.rs_core.specs.Turns.{label_of}
+use Rattle.rs_core.specs.Choosable.{label_of}
 use Rattle.rs_core.proofs.Stands.{here_is}
 use Rattle.rs_slots.specs.declared.parcels.Parcel.{Parcel}
 use Rattle.rs_rings.specs.Acts.{sent_act, got_act, MayPut}
@@ -46,11 +46,21 @@ put_done rings q x next s n old role pass pass' is well_formed may one put table
     by can =
         let a : Part = part_of pass.view role.0 in
         let same : put.next ≡ next = put_once rings.machines role.0 q a.state x put.next next well_formed put.may can in
-        let part : part_of pass'.view role.0 ≡ sending q x next (gaining q put.taken a) = put.changed.part ∙ ap (λ (m : ℕ). sending q x m (gaining q put.taken a)) same in
+        let part : part_of pass'.view role.0 ≡ sending q x next put.loads (gaining q put.taken a) = put.changed.part ∙ ap (λ (m : ℕ). sending q x m put.loads (gaining q put.taken a)) same in
         record {
-          one = one_changed pass.view pass'.view role s n next (n + 1) (sending q x put.next (gaining q put.taken a)) one put.changed (sym same)
+          one = one_changed pass.view pass'.view role s n next (n + 1) (sending q x put.next put.loads (gaining q put.taken a)) one put.changed (sym same)
               (ap (λ (m : ℕ). m + 1) one.is_acts ∙ sym (length-append a.history (sent_act q x ∷ [])));
-          sent = record { taken = put.taken; not_less = put.not_less; room = put.room; happened = put.happened; becomes = λ i. record { table = table i; role = role; part = part i } };
+          sent = record {
+            taken = put.taken;
+            not_less = put.not_less;
+            room = put.room;
+            not_more = put.not_more;
+            below = put.below;
+            read = put.read;
+            happened = put.happened;
+            loads = put.loads;
+            becomes = λ i. record { table = table i; role = role; part = part i };
+          };
         }
 
 pub record Full (rings : Rings_data) (q : ℕ) (x : Parcel) (sent taken : ℕ) (back : Parcel) (s n : ℕ) (old : Stage_data) (role : Role) (pass : Pass_data) : Type 0 where
@@ -80,7 +90,7 @@ pub record Taken (rings : Rings_data) (p : ℕ) (arms : List Arm) (place : ℕ) 
 pub look_one : (rings : Rings_data) (peer : Role) (arms : List Arm) (x : Parcel) (place s n : ℕ) (old : Stage_data) (role : Role) (pass pass' : Pass_data) (arm : Arm) → sight_of_pass pass role ≡ old
     → AreWellFormed rings.machines
     → state_of (slice_get rings.machines old.role.0) old.part.state ≡ Some (Takes peer arms) → slice_get arms place ≡ Some arm → arm.label ≡ x.label → IsOne pass.view role s n
-    → ParcelIsTaken rings.machines role.0 peer.0 x pass.view pass'.view → pass'.table ≡ pass.table
+    → ParcelIsTaken rings.machines rings.capacity role.0 peer.0 x pass.view pass'.view → pass'.table ≡ pass.table
     → Taken rings peer.0 arms place x.value arm.next n old role pass'
 look_one rings peer arms x place s n old role pass pass' arm is well_formed stands picks label one taken table =
     subst (λ (z : Stage_data). state_of (slice_get rings.machines z.role.0) z.part.state ≡ Some (Takes peer arms) → Taken rings peer.0 arms place x.value arm.next n z role pass') is by stands
@@ -98,11 +108,22 @@ look_one rings peer arms x place s n old role pass pass' arm is well_formed stan
         let same : arm ≡ taken.may.arm = cc (same') in
         let next : taken.next ≡ arm.next = taken.may.goes ∙ ap (λ (z : Arm). z.next) (sym same) in
         let parcel : x ≡ parcel_by arm x.value = λ i. record { label = sym label i; value = x.value } in
-        let part : part_of pass'.view role.0 ≡ getting peer.0 x arm.next (taking peer.0 x taken.put a) = taken.changed.part ∙ ap (λ (m : ℕ). getting peer.0 x m (taking peer.0 x taken.put a)) next in
+        let part : part_of pass'.view role.0 ≡ getting peer.0 x arm.next taken.loads (taking peer.0 x taken.put a)
+        = taken.changed.part ∙ ap (λ (m : ℕ). getting peer.0 x m taken.loads (taking peer.0 x taken.put a)) next in
         let got : HasGot rings peer.0 x arm.next (sight_of_pass pass role) (sight_of_pass pass' role)
-        = record { put = taken.put; not_less = taken.not_less; more = taken.more; happened = taken.happened; becomes = λ i. record { table = table i; role = role; part = part i } } in
+        = record {
+          put = taken.put;
+          not_less = taken.not_less;
+          more = taken.more;
+          above = taken.above;
+          not_more = taken.not_more;
+          read = taken.read;
+          happened = taken.happened;
+          loads = taken.loads;
+          becomes = λ i. record { table = table i; role = role; part = part i };
+        } in
         record {
-          one = one_changed pass.view pass'.view role s n arm.next (n + 1) (getting peer.0 x taken.next (taking peer.0 x taken.put a)) one taken.changed (sym next)
+          one = one_changed pass.view pass'.view role s n arm.next (n + 1) (getting peer.0 x taken.next taken.loads (taking peer.0 x taken.put a)) one taken.changed (sym next)
               (ap (λ (m : ℕ). m + 1) one.is_acts ∙ sym (length-append a.history (got_act peer.0 x ∷ [])));
           got = record {
             arm = arm;
@@ -114,4 +135,4 @@ look_one rings peer arms x place s n old role pass pass' arm is well_formed stan
 
 pub record Nothing (rings : Rings_data) (p seen s n : ℕ) (old : Stage_data) (role : Role) (pass : Pass_data) : Type 0 where
   pub one : IsOne pass.view role s n
-  pub empty : FindsEmpty p seen old (sight_of_pass pass role)
+  pub empty : FindsEmpty rings p seen old (sight_of_pass pass role)

@@ -1,10 +1,12 @@
 -- What sends and receives of stages tell.
-use Rattle.std.proofs.Common.{◌≡◌, ℕ, List, Some, slice_get, sym, ap, ◌∙◌, subst}
+use Rattle.std.proofs.Common.{◌≡◌, ℕ, List, Some, IsSome, slice_get, sym, ap, ◌∙◌, subst}
 use Rattle.rs_model.specs.Sorts.{HasSort}
 use Rattle.rs_model.specs.declared.graph.Arm.{Arm}
 use Rattle.rs_model.specs.declared.graph.Role.{Role}
 use Rattle.rs_model.specs.declared.machines.State.TheVariants.{Puts, Takes}
 use Rattle.rs_model.specs.declared.values.Value.{Value}
+use Rattle.rs_core.specs.Choices.{AreWellFormed}
+use Rattle.rs_core.proofs.Stands.{here_is}
 use Rattle.rs_slots.specs.declared.parcels.Parcel.{Parcel}
 use Rattle.rs_rings.specs.Passes.{Rings_data}
 use Rattle.rs_session.specs.Acts.{parcel_by, SendsBy, HasSent, FindsFull, HasGot, FindsEmpty, IsSent, IsHandedBack, IsGot, IsKept}
@@ -12,6 +14,7 @@ use Rattle.rs_session.specs.Data.{Stage_data}
 use Rattle.rs_session.specs.Stages.{sight_of_stage, state_of_stage, IsSending, IsReceiving, IsOf}
 use Rattle.rs_session.specs.Standing.{HasGotBy, SendsTo}
 use Rattle.rs_session.specs.declared.stages.Stage.{Stage}
+use Rattle.rs_session.proofs.Beginning.{state_there}
 
 -- an arm at that place is the arm that is told, so a value of the one's sort is of the other's
 sort_by : (session : Rings_data) (stage : Stage_data) (place : ℕ) (value : Value) (peer : Role) (arm : Arm) → SendsBy session stage place value → SendsTo session stage place peer arm
@@ -57,13 +60,22 @@ got session rings old standing moved place value peer arms new same is stands by
   of = of;
 }
 
-pub kept : (session : Rings_data) (old standing moved : Stage_data) (peer : Role) (arms : List Arm) (seen : ℕ) → standing ≡ old → old.table ≡ session.table
-    → state_of_stage session standing ≡ Some (Takes peer arms) → FindsEmpty peer.0 seen standing moved → IsKept session old moved seen
-kept session old standing moved peer arms seen is table stands found =
-    let found' : FindsEmpty peer.0 seen old moved = subst (λ (z : Stage_data). FindsEmpty peer.0 seen z moved) is found in
+pub kept : (session rings : Rings_data) (old standing moved : Stage_data) (peer : Role) (arms : List Arm) (seen : ℕ) → rings ≡ session → standing ≡ old → old.table ≡ session.table
+    → state_of_stage session standing ≡ Some (Takes peer arms) → FindsEmpty rings peer.0 seen standing moved → IsKept session old moved seen
+kept session rings old standing moved peer arms seen same is table stands found =
+    let found' : FindsEmpty session peer.0 seen old moved = subst (λ (z : Rings_data × Stage_data). FindsEmpty z.0 peer.0 seen z.1 moved) (λ i. (same i, is i)) found in
     let at : state_of_stage session old ≡ Some (Takes peer arms) = ap (state_of_stage session) (sym is) ∙ stands in
     record {
       from = record { table = table; peer = peer; arms = arms; stands = at };
       empty = found';
       of = subst (IsReceiving session) (sym found'.becomes) record { table = table; peer = peer; arms = arms; stands = at };
     }
+
+-- there is the state at which a receive leaves the role
+pub present_then : (session rings : Rings_data) (standing moved : Stage_data) (peer : Role) (arms : List Arm) (place : ℕ) (value : Value) → AreWellFormed session.machines
+    → state_of_stage session standing ≡ Some (Takes peer arms) → HasGotBy rings peer.0 arms place value standing moved → IsSome (state_of_stage session moved)
+present_then session rings standing moved peer arms place value well_formed stands by =
+    let r : ℕ = standing.role.0 in
+    let at = here_is (slice_get session.machines r) standing.part.state (Takes peer arms) stands in
+    let fit = (well_formed.fits r at.0 at.1).takes standing.part.state peer arms at.2 in
+    subst (λ (z : Stage_data). IsSome (state_of_stage session z)) (sym by.got.becomes) (state_there session.machines r by.arm.next at.0 at.1 (fit.nexts place by.arm by.picks))

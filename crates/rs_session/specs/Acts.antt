@@ -1,12 +1,12 @@
--- Believed: what sends and receives of stages tell.
-use Rattle.std.specs.Prelude.{◌≡◌, ◌≢◌, ℕ, ◌+◌, ◌≤◌, List, length, Some, slice_get}
+-- Public: what sends and receives of stages tell.
+use Rattle.std.specs.Prelude.{◌≡◌, ◌≢◌, ℕ, ◌+◌, ◌<◌, ◌≤◌, List, length, Some, slice_get}
 use Rattle.rs_model.specs.Sorts.{HasSort}
 use Rattle.rs_model.specs.declared.graph.Arm.{Arm}
 use Rattle.rs_model.specs.declared.graph.Role.{Role}
 use Rattle.rs_model.specs.declared.machines.State.TheVariants.{Puts, Takes}
 use Rattle.rs_model.specs.declared.values.Value.{Value}
 use Rattle.rs_slots.specs.declared.parcels.Parcel.{Parcel}
-use Rattle.rs_rings.specs.Acts.{sent_act, got_act, parcels_sent, parcels_got, Happened}
+use Rattle.rs_rings.specs.Acts.{sent_act, got_act, parcels_sent, parcels_got, Happened, HadTaken, HadPut}
 use Rattle.rs_rings.specs.Passes.{Rings_data}
 use Rattle.rs_rings.specs.Views.{last_found, part_with_room, gaining, sending, part_with_parcel, taking, getting}
 use Rattle.rs_rings.specs.declared.views.Part.{Part}
@@ -44,35 +44,47 @@ pub record ReceivesBy (session : Rings_data) (stage : Stage_data) (place : ℕ) 
   pub picks : slice_get arms place ≡ Some arm
   pub has_sort : HasSort value arm.sort
 
--- the stage's role has sent x to q: the one load read the number `taken` of parcels that q has taken, and there was room; the
--- send happened, and the role stands in the state `next`
+-- the stage's role has sent x to q: the one load read the number `taken` of parcels that q had taken, and there was room; the
+-- send happened, before which q had made so many loads, and the role stands in the state `next`
 pub record HasSent (session : Rings_data) (q : ℕ) (x : Parcel) (next : ℕ) (old new : Stage_data) : Type 0 where
   pub taken : ℕ
   pub not_less : last_found q old.part.heads ≤ taken
   pub room : length (parcels_sent q old.part.history) ≢ taken + session.capacity
+  pub not_more : taken ≤ length (parcels_sent q old.part.history)
+  pub below : length (parcels_sent q old.part.history) < taken + session.capacity
+  pub read : HadTaken session.machines old.role.0 old.part.history q taken
   pub happened : Happened session.machines old.role.0 old.part.history (sent_act q x)
-  pub becomes : new ≡ stage_with (sending q x next (gaining q taken old.part)) old
+  pub loads : ℕ
+  pub becomes : new ≡ stage_with (sending q x next loads (gaining q taken old.part)) old
 
--- the ring to q was full: the one load read `taken`, the stage's role has sent so many, and that is the capacity more
+-- the ring to q was full: the one load read the number `taken` of parcels that q had taken, the stage's role has sent `sent`, and
+-- that is the capacity more
 pub record FindsFull (session : Rings_data) (q sent taken : ℕ) (old new : Stage_data) : Type 0 where
   pub is_sent : sent ≡ length (parcels_sent q old.part.history)
   pub full : sent ≡ taken + session.capacity
   pub not_less : last_found q old.part.heads ≤ taken
+  pub read : HadTaken session.machines old.role.0 old.part.history q taken
   pub becomes : new ≡ stage_with (part_with_room q taken old.part) old
 
--- the stage's role has got x from p: the one load read the number `put` of parcels that p has put, which isn't what the role
--- has got; the receive happened, and the role stands in the state `next`
+-- the stage's role has got x from p: the one load read the number `put` of parcels that p had put, which is more than the role
+-- has got, by no more than the capacity; the receive happened, before which p had made so many loads, and the role stands in
+-- the state `next`
 pub record HasGot (session : Rings_data) (p : ℕ) (x : Parcel) (next : ℕ) (old new : Stage_data) : Type 0 where
   pub put : ℕ
   pub not_less : last_found p old.part.tails ≤ put
   pub more : length (parcels_got p old.part.history) ≢ put
+  pub above : length (parcels_got p old.part.history) < put
+  pub not_more : put ≤ length (parcels_got p old.part.history) + session.capacity
+  pub read : HadPut session.machines old.role.0 old.part.history p put
   pub happened : Happened session.machines old.role.0 old.part.history (got_act p x)
-  pub becomes : new ≡ stage_with (getting p x next (taking p x put old.part)) old
+  pub loads : ℕ
+  pub becomes : new ≡ stage_with (getting p x next loads (taking p x put old.part)) old
 
--- the ring from p was empty: the one load read `seen`, and the stage's role has got so many
-pub record FindsEmpty (p seen : ℕ) (old new : Stage_data) : Type 0 where
+-- the ring from p was empty: the one load read the number `seen` of parcels that p had put, and the stage's role has got so many
+pub record FindsEmpty (session : Rings_data) (p seen : ℕ) (old new : Stage_data) : Type 0 where
   pub is_got : seen ≡ length (parcels_got p old.part.history)
   pub not_less : last_found p old.part.tails ≤ seen
+  pub read : HadPut session.machines old.role.0 old.part.history p seen
   pub becomes : new ≡ stage_with (part_with_parcel p seen old.part) old
 
 -- a send of the value by the arm at that place went, and leaves the next stage
@@ -102,7 +114,7 @@ pub record IsGot (session : Rings_data) (old : Stage_data) (place : ℕ) (value 
 -- the receive found the ring empty, and hands back the stage
 pub record IsKept (session : Rings_data) (old new : Stage_data) (seen : ℕ) : Type 0 where
   pub from : IsReceiving session old
-  pub empty : FindsEmpty from.peer.0 seen old new
+  pub empty : FindsEmpty session from.peer.0 seen old new
   pub of : IsReceiving session new
 
 -- what a receive tells that got a value, or that found the ring empty

@@ -1,4 +1,4 @@
--- Believed: what contracts see of a stage.
+-- Public: what contracts see of a stage.
 use Rattle.atomic_table.specs.Seated.{TableId}
 use Rattle.rs_model.specs.declared.graph.Role.{Role}
 use Rattle.rs_rings.specs.declared.views.Part.{Part}

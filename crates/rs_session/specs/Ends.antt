@@ -1,4 +1,4 @@
--- Believed: which stages are handed in at the end of a session, and what is left of them.
+-- Public: which stages are handed in at the end of a session, and what is left of them.
 use Rattle.std.specs.Prelude.{◌≡◌, ◌≢◌, ℕ, ◌<◌, List, length, Some, slice_get}
 use Rattle.rs_rings.specs.Closed.{Closed_data}
 use Rattle.rs_rings.specs.Passes.{Rings_data}

@@ -1,4 +1,4 @@
--- Believed: what contracts see of stages, and which stage is of which session. Of a session they see what they see of its rings.
+-- Public: what contracts see of stages, and which stage is of which session. Of a session they see what they see of its rings.
 use Rattle.std.specs.Prelude.{◌≡◌, ℕ, ◌<◌, List, length, slice_get, Option, Some}
 use Rattle.rs_model.specs.declared.graph.Arm.{Arm}
 use Rattle.rs_model.specs.declared.graph.Role.{Role}

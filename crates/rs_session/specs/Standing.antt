@@ -52,7 +52,7 @@ pub record HasGotBy (rings : Rings_data) (p : ℕ) (arms : List Arm) (place : �
 -- what a look tells, where a parcel was found or none
 abbrev pub FoundTells : Rings_data → ℕ → List Arm → Stage_data → Stage_data → ParcelFound → Type 0
 FoundTells rings p arms old new (One place value) = HasGotBy rings p arms place value old new
-FoundTells rings p arms old new (Nothing seen) = FindsEmpty p seen old new
+FoundTells rings p arms old new (Nothing seen) = FindsEmpty rings p seen old new
 
 -- the rings are those of well-formed machines, one for each role
 pub record RingsAreWhole (rings : Rings_data) : Type 0 where

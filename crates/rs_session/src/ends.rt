@@ -25,6 +25,7 @@ impl Session {
         requires of { AreAll (IsEnded self) ended.items }
         ensures present { OnOk result (AreAllThere (length self.machines) ended.items) }
         ensures machines { IfOk result (λ c. c.machines ≡ self.machines) }
+        ensures capacity { IfOk result (λ c. c.capacity ≡ self.capacity) }
         ensures over { IfOk result IsOver }
         ensures knows { IfOk result (KnowsFrom ended.items) }
         ensures missing { IfErr result (λ e. IsLeastMissing (length self.machines) ended.items e.missing.0) }
@@ -49,6 +50,7 @@ impl Session {
         requires of { AreOf self stages.items }
         requires each { AreAllThere (length self.machines) (map sight_of_stage stages.items) }
         ensures machines { result.machines ≡ self.machines }
+        ensures capacity { result.capacity ≡ self.capacity }
         ensures left { IsLeft result }
         ensures knows { KnowsFrom (map sight_of_stage stages.items) result }
     {

@@ -55,6 +55,7 @@ impl Session {
         requires all { (r : ℕ) → r < length self.machines → SpeaksFor all.view r }
         requires ended { (r : ℕ) → r < length self.machines → state_of (slice_get self.machines r) (state_in all.view r) ≡ Some Done }
         ensures closed { (result.machines ≡ self.machines) × (result.last ≡ all.view) }
+        ensures capacity { result.capacity ≡ self.capacity }
         ensures over { IsOver result }
     {
         let Ensemble { pass } = all;
@@ -66,6 +67,7 @@ impl Session {
         requires table { all.table ≡ self.table }
         requires all { (r : ℕ) → r < length self.machines → SpeaksFor all.view r }
         ensures closed { (result.machines ≡ self.machines) × (result.last ≡ all.view) }
+        ensures capacity { result.capacity ≡ self.capacity }
         ensures left { IsLeft result }
     {
         let Ensemble { pass } = all;
@@ -103,7 +105,7 @@ impl Ensemble {
         requires can { CanTake session.now.machines receiver.0 sender (state_in self.old.view receiver.0) }
         requires acts { length (history_in self.old.view receiver.0) < 2 ^ 63 }
         ensures table { self.new.table ≡ self.old.table }
-        ensures told { TakeTells session.now.machines receiver.0 sender.0 self.old.view self.new.view result }
+        ensures told { TakeTells session.now.machines session.now.capacity receiver.0 sender.0 self.old.view self.new.view result }
     {
         session.rings().look_take(&mut self.pass, receiver, sender)
     }

@@ -43,6 +43,7 @@ impl Session {
         requires of { AreAll (IsFrom self) left.items }
         ensures present { OnOk result (AreAllThere (length self.machines) left.items) }
         ensures machines { IfOk result (λ over. over.closed.machines ≡ self.machines) }
+        ensures capacity { IfOk result (λ over. over.closed.capacity ≡ self.capacity) }
         ensures left { IfOk result (λ over. IsLeft over.closed) }
         ensures knows { IfOk result (λ over. KnowsFrom left.items over.closed) }
         ensures loose { IfOk result (λ over. over.loose.items ≡ loose_in over.closed.last (length self.machines) (ring_count (length self.machines))) }

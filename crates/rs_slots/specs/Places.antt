@@ -1,4 +1,4 @@
--- Believed: which words and which slots belong to which ring. There is one ring for each ordered pair of different roles.
+-- Public: which words and which slots belong to which ring. There is one ring for each ordered pair of different roles.
 -- Rings are numbered sender by sender, and each sender's by its receivers.
 use Rattle.std.specs.Prelude.{◌≢◌, ℕ, ◌+◌, ◌*◌, ◌-◌, ◌%◌, ◌<◌, nat_lt, if◌then◌else◌}
 

@@ -1,3 +1,4 @@
+pub mod RefusedReadings
 pub mod Values
 pub mod Fronts
 pub mod TokenKinds

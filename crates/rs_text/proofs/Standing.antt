@@ -5,7 +5,8 @@ use Rattle.rs_text.specs.declared.reading.Stop.{Stop}
 use Rattle.rs_text.specs.declared.reading.Stop.TheVariants as stops
 use Rattle.rs_text.specs.Lexemes.{Lexeme, is_last}
 use Rattle.rs_text.specs.Lexing.{Lexed, next_lexeme}
-use Rattle.rs_text.specs.Readings.{Automaton, feed_sign, next_lexeme_of, read_all, last_of, ReadsBy, StopsBy, RefusedBy, Fails}
+use Rattle.rs_text.specs.Readings.{Automaton, feed_sign, next_lexeme_of, read_all, last_of, ReadsBy, StopsBy, Fails}
+use Rattle.rs_text.proofs.RefusedReadings.{RefusedBy}
 use Rattle.rs_text.specs.Signs.{Sign, finish, broken}
 use Rattle.rs_text.specs.Tokens.{IsNext}
 use Rattle.rs_text.proofs.Nexts.{next_is_next, takes_up}

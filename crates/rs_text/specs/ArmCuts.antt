@@ -1,4 +1,4 @@
--- Believed: where an arm may be cut off, and what is wanted there.
+-- Public: where an arm may be cut off, and what is wanted there.
 use Rattle.std.specs.Prelude.{ℕ, List, [], ◌∷◌, ◌++◌, Option}
 use Rattle.rs_model.specs.declared.values.Sort.{Sort}
 use Rattle.rs_text.specs.Arms.{sort_text, sort_signs}

@@ -1,4 +1,4 @@
--- Believed: what an arm of a protocol or of a machine looks like in a text.
+-- Headline: what an arm of a protocol or of a machine looks like in a text.
 use Rattle.std.specs.Prelude.{ℕ, List, [], ◌∷◌, ◌++◌, codes, Option, Some, None}
 use Rattle.rs_model.specs.declared.values.Sort.{Sort}
 use Rattle.rs_model.specs.declared.values.Sort.TheVariants as sort

@@ -1,4 +1,4 @@
--- Believed: the bytes of which tokens are made.
+-- Headline: the bytes of which tokens are made.
 use Rattle.std.specs.Prelude.{ℕ, List, [], ◌∷◌, Bool, false, nat_le, ◌==◌, ◌||◌, ◌&&◌}
 
 -- space, tab, CR and LF

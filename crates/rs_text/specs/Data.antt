@@ -1,4 +1,4 @@
--- Believed: what contracts see of the types with private fields.
+-- Public: what contracts see of the types with private fields.
 use Rattle.std.specs.Prelude.{ℕ, List}
 
 -- the whole text, and the offset from which the next token is looked for

@@ -1,4 +1,4 @@
--- Believed: kinds of faults.
+-- Public: kinds of faults.
 use Rattle.std.specs.Prelude.{ℕ, List, codes}
 use Rattle.rs_text.specs.declared.tokens.FaultKind.{FaultKind}
 use Rattle.rs_text.specs.declared.tokens.FaultKind.TheVariants as fault

@@ -1,4 +1,4 @@
--- Believed: the first fault of a text, for any rule that says which faults a token has.
+-- Public: the first fault of a text, for any rule that says which faults a token has.
 use Rattle.std.specs.Prelude.{◌≡◌, ℕ, ◌≤◌, ◌⊎◌, List, [], ◌∷◌, ◌++◌, length}
 use Rattle.rs_text.specs.declared.faults.TextFault.{TextFault}
 use Rattle.rs_text.specs.declared.faults.TextKind.{TextKind}

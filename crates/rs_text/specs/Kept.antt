@@ -1,4 +1,4 @@
--- Believed: names that stay in their places.
+-- Public: names that stay in their places.
 use Rattle.std.specs.Prelude.{◌≡◌, ℕ, List, ◌++◌}
 use Rattle.rs_model.specs.Data.{Names_data}
 

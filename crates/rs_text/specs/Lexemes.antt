@@ -1,4 +1,4 @@
--- Believed: tokens with their places, as the grammars see them.
+-- Headline: tokens with their places, as the grammars see them.
 use Rattle.std.specs.Prelude.{ℕ, ◌+◌, ◌-◌, ◌*◌, List, [], ◌∷◌, map, Bool, true, false}
 use Rattle.rs_text.specs.Signs.{Sign, finish, broken}
 

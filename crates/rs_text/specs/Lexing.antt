@@ -1,4 +1,4 @@
--- Steps: the tokens of a text, cut off from its front one by one. A law says that they are its tokens.
+-- Public: the tokens of a text, cut off from its front one by one. A law says that they are its tokens.
 use Rattle.std.specs.Prelude.{◌≡◌, ℕ, suc, ◌+◌, ◌-◌, List, [], ◌∷◌, drop, take, nat_lt, if◌then◌else◌, ◌==◌, Bool, true, false}
 use Rattle.std.specs.List.{prefix_len}
 use Rattle.rs_model.specs.declared.limits.TheConstants.{MOST_NAME_BYTES, MOST_NUMBER}

@@ -1,4 +1,4 @@
--- Steps: what a reader makes of the tokens of a message, LABEL "(" [ sort ] ")".
+-- Public: what a reader makes of the tokens of a message, LABEL "(" [ sort ] ")".
 use Rattle.std.specs.Prelude.{◌≡◌, ℕ, List, [], ◌∷◌, ◌++◌, length, nat_le, Option, Some, None, Result, Ok, Err, if◌then◌else◌}
 use Rattle.rs_model.specs.declared.graph.Label.{Label}
 use Rattle.rs_model.specs.declared.limits.TheConstants.{MOST_LABELS}

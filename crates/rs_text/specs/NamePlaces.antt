@@ -1,4 +1,4 @@
--- Believed: what readers, printers and laws say of names and their places.
+-- Public: what readers, printers and laws say of names and their places.
 use Rattle.std.specs.Prelude.{◌≡◌, ◌≢◌, ◌<◌, slice_get, ℕ, List, [], Option, Some, None}
 
 -- the name stands at the place and at none before it

@@ -1,4 +1,4 @@
--- Believed: names by their places, and names that recursions bind.
+-- Headline: names by their places, and names that recursions bind.
 use Rattle.std.specs.Prelude.{ℕ, Bool, true, false, suc, List, [], ◌∷◌, ◌++◌, Option, Some, None, if◌then◌else◌}
 use Rattle.std.specs.List.{list_any}
 use Rattle.std.specs.Str.{bytes_eq}

@@ -1,4 +1,4 @@
--- Believed: lines and columns, both from 1.
+-- Public: lines and columns, both from 1.
 use Rattle.std.specs.Prelude.{ℕ, List, ◌+◌, ◌==◌, not, take}
 use Rattle.std.specs.List.{count_by, suffix_len}
 

@@ -1,4 +1,4 @@
--- Steps: what a reader makes of the tokens of a text, for any kind of reader.
+-- Public: what a reader makes of the tokens of a text, for any kind of reader.
 use Rattle.std.specs.Prelude.{◌≡◌, ℕ, List, [], ◌∷◌, Result, Ok, Err, Bool, if◌then◌else◌}
 use Rattle.rs_text.specs.declared.faults.TextFault.{TextFault}
 use Rattle.rs_text.specs.declared.faults.TextKind.{TextKind}
@@ -66,11 +66,6 @@ Fails (stops.Fault f) fed = fed ≡ Err f
 abbrev pub StopsBy : {R : Type 0} → Automaton R → Stop → R → List ℕ → ℕ → Type 0
 StopsBy a stops.Memory r bytes at = Unit {0}
 StopsBy a (stops.Fault f) r bytes at = ReadsBy a r bytes at (Err f)
-
--- d is the reader that refused
-abbrev pub RefusedBy : {R : Type 0} → Automaton R → Stop → R → List ℕ → ℕ → R → Type 0
-RefusedBy a stops.Memory r bytes at d = Unit {0}
-RefusedBy a (stops.Fault f) r bytes at d = (lexemes : List Lexeme) → Lexed bytes at lexemes → last_of a r (Ok r) lexemes ≡ d
 
 -- a refusal of memory is told at the offset where the reading began
 abbrev pub fault_of_stop : Stop → ℕ → TextFault

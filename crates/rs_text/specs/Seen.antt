@@ -1,4 +1,4 @@
--- Steps: what is seen in a word.
+-- Public: what is seen in a word.
 use Rattle.std.specs.Prelude.{ℕ, List, codes, Option, Some, None, Bool, false, if◌then◌else◌}
 use Rattle.std.specs.Str.{bytes_eq}
 use Rattle.rs_model.specs.declared.values.Sort.{Sort}

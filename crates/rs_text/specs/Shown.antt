@@ -1,4 +1,4 @@
--- Believed: how printers write sorts and arms.
+-- Public: how printers write sorts and arms.
 use Rattle.std.specs.Prelude.{ℕ, List, [], ◌++◌, codes, Option, Some, None}
 use Rattle.rs_model.specs.declared.values.Sort.{Sort}
 use Rattle.rs_model.specs.declared.values.Sort.TheVariants as sort

@@ -1,4 +1,4 @@
--- Believed: what the grammars see of a token.
+-- Headline: what the grammars see of a token.
 use Rattle.std.specs.Prelude.{ℕ, List, codes, if◌then◌else◌}
 use Rattle.std.specs.Str.{bytes_eq}
 use Rattle.rs_text.specs.declared.tokens.FaultKind.{FaultKind}

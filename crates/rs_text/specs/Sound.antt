@@ -1,4 +1,4 @@
--- Believed: names that a text can have.
+-- Public: names that a text can have.
 use Rattle.std.specs.Prelude.{◌≡◌, ◌≢◌, ◌≤◌, length, Bool, true, ◌&&◌}
 use Rattle.std.specs.List.{list_all, All, AllPairs}
 use Rattle.rs_model.specs.Data.{Names_data}

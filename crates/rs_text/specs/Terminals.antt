@@ -1,4 +1,4 @@
--- Steps: what the code's tokens stand for.
+-- Public: what the code's tokens stand for.
 use Rattle.std.specs.Prelude.{Result, Ok, Err}
 use Rattle.rs_text.specs.declared.terminals.Terminal.{Terminal}
 use Rattle.rs_text.specs.declared.terminals.Terminal.TheVariants as terminal

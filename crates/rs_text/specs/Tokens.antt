@@ -1,4 +1,4 @@
--- Believed: what the tokens of a text are, apart from any way to find them.
+-- Headline: what the tokens of a text are, apart from any way to find them.
 use Rattle.std.specs.Prelude.{◌≡◌, ◌≢◌, ◌<◌, ◌≤◌, ◌+◌, ℕ, List, [], ◌∷◌, ◌++◌, length, drop, codes, ◌==◌, true, false}
 use Rattle.std.specs.List.{list_all, list_any}
 use Rattle.rs_model.specs.declared.limits.TheConstants.{MOST_NAME_BYTES, MOST_NUMBER}

@@ -1,4 +1,4 @@
--- Believed: words.
+-- Public: words.
 use Rattle.std.specs.Prelude.{ℕ, List, length, codes, not, nat_le, Bool, ◌&&◌}
 use Rattle.std.specs.List.{list_all}
 use Rattle.std.specs.Str.{bytes_eq}

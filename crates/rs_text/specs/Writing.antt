@@ -1,4 +1,4 @@
--- Steps: texts that are written for given tokens.
+-- Public: texts that are written for given tokens.
 use Rattle.std.specs.Prelude.{◌≡◌, ℕ, List, [], ◌∷◌, ◌++◌, true, false}
 use Rattle.std.specs.List.{flat_map}
 use Rattle.rs_text.specs.Bytes.{is_blank}

@@ -50,6 +50,7 @@ impl Text {
         self.push(digits.format(n).as_bytes())
     }
 
+    /// The bytes of the text.
     pub fn as_slice(&self) -> &[u8]
         ensures { result.now ≡ self.now }
     {

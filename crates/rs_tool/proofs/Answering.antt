@@ -1,5 +1,5 @@
 -- How a call ends that has written an answer, or made none.
-use Rattle.std.proofs.Common.{◌≡◌, ℕ, ◌≤◌, ◌⊎◌, List, length, Option, Some, None, Result, Err, refl, sym, ap, subst, ◌∙◌, inl, inr}
+use Rattle.std.proofs.Common.{◌≡◌, ℕ, ◌≤◌, ◌⊎◌, List, length, Option, Some, None, Result, Err, refl, sym, ap, subst, subst₂, ◌∙◌, inl, inr}
 use Rattle.std.specs.Prelude.{IfOk, IfSome, OnOk}
 use Rattle.std.specs.Io.KnownBytes.{Appends, Keeps, IsAtEnd}
 use Rattle.rs_io.specs.Prefix.{AppendsPrefix}
@@ -8,7 +8,7 @@ use Rattle.rs_answers.specs.declared.answers.AnswerWithSession.{AnswerWithSessio
 use Rattle.rs_answers.specs.declared.verdicts.Verdict.{Verdict}
 use Rattle.rs_answers.specs.declared.verdicts.Verdict.TheVariants as verdict
 use Rattle.rs_tool.specs.Calls.{Ends, ForInput, IsStopped, Tells, TellsAll, TellsPart, TellsReadFault, TellsNoMemory}
-use Rattle.rs_tool.specs.Data.{CallInput, CallOutput, call_of}
+use Rattle.rs_tool.specs.Data.{CallInput, CallOutput, call_of, input_of, output_of}
 use Rattle.rs_tool.specs.Preparing.{AnswersTo, Delivers, DeliversAll, DeliversPart, DeliversNone}
 use Rattle.rs_tool.specs.Sessions.{GivesTo}
 use Rattle.rs_tool.specs.Statuses.{status_after, status_of}
@@ -174,3 +174,11 @@ memory_delivered r output reply e (DeliversAll a made text is) = let no = sym ma
 memory_delivered r output reply e (DeliversPart a made text rose is) = let no = sym made ∙ e in cc
 memory_delivered r output reply e (DeliversNone why none kept is) =
     ap (λ (x : Reply). x.status) is ∙ (let same : Err why ≡ Err stop.NoMemory = sym none ∙ e in let one : why ≡ stop.NoMemory = cc in ap status_after one)
+
+-- a call whose source and sink are as they were before ends as one that finds them so
+pub ends_unchanged : {S K : Type 0} (left : S → Option (List ℕ)) (faults : S → ℕ) (last : S → Type 0) (written : K → Option (List ℕ)) (refusals : K → ℕ) (full : K → Type 0) (words : List (List ℕ))
+    (source mid behind : S) (sink middle later : K) (reply : Reply) → mid ≡ source → middle ≡ sink
+    → Ends (call_of words (input_of left faults last mid behind) (output_of written refusals full middle later)) reply
+    → Ends (call_of words (input_of left faults last source behind) (output_of written refusals full sink later)) reply
+ends_unchanged {S} {K} left faults last written refusals full words source mid behind sink middle later reply same kept h =
+    subst₂ (λ (s : S) (k : K). Ends (call_of words (input_of left faults last s behind) (output_of written refusals full k later)) reply) same kept h

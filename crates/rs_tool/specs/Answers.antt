@@ -1,4 +1,4 @@
--- Believed: what the program answers to its words and its input.
+-- Public: what the program answers to its words and its input.
 use Rattle.std.specs.Prelude.{◌≡◌, ℕ, ◌<◌, ◌≤◌, ◌++◌, codes, length, List, Option, false, None}
 use Rattle.rs_answers.specs.Checks.{Checks}
 use Rattle.rs_answers.specs.Data.{Answer_data}

@@ -1,4 +1,4 @@
--- Believed: what a call of the program does.
+-- Public: what a call of the program does.
 use Rattle.std.specs.Prelude.{◌≡◌, ◌⊎◌, ℕ, ◌≤◌, List, length, Option, None, IfSome}
 use Rattle.std.specs.Io.KnownBytes.{Appends, Keeps, IsAtEnd}
 use Rattle.rs_io.specs.Prefix.{AppendsPrefix}

@@ -1,4 +1,4 @@
--- Believed: what a `check` doesn't refuse.
+-- Public: what a `check` doesn't refuse.
 use Rattle.std.specs.Prelude.{◌≡◌, ◌⊎◌, ℕ, ◌≤◌, List, length, Some, slice_get, IfSome}
 use Rattle.rs_documents.specs.Data.{Document_data}
 use Rattle.rs_documents.specs.Documents.{SpellsDocument}

@@ -1,4 +1,4 @@
--- Believed: what contracts see of a call: its words, and what it finds and leaves of its source and its sink.
+-- Public: what contracts see of a call: its words, and what it finds and leaves of its source and its sink.
 use Rattle.std.specs.Prelude.{ℕ, List, Option}
 use Rattle.rs_io.specs.Faults.{Rose}
 

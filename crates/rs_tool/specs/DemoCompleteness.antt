@@ -1,4 +1,4 @@
--- Believed: what a `demo` doesn't refuse.
+-- Public: what a `demo` doesn't refuse.
 use Rattle.std.specs.Prelude.{ℕ, ◌≤◌, List, length, Option, IfSome}
 use Rattle.rs_answers.specs.Derivations.{AreCanonical}
 use Rattle.rs_answers.specs.Machines.{machines_of}

@@ -1,4 +1,4 @@
--- Believed: what the statuses of a `demo` tell that was carried out.
+-- Public: what the statuses of a `demo` tell that was carried out.
 use Rattle.std.specs.Prelude.{ℕ, List}
 use Rattle.rs_answers.specs.Demos.{Opens}
 use Rattle.rs_demos.specs.declared.actors.DemoActor.{DemoActor}

@@ -1,4 +1,4 @@
--- Believed: what the status 0 of `check` tells.
+-- Headline: what the status 0 of `check` tells.
 use Rattle.std.specs.Prelude.{◌≡◌, ℕ, List, Option, length}
 use Rattle.rs_core.specs.Safety.{IsSafe}
 use Rattle.rs_documents.specs.Spells.{SpellsMachines}

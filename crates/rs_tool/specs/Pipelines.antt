@@ -1,4 +1,4 @@
--- Believed: the pipelines that are made from numbers, and their documents.
+-- Public: the pipelines that are made from numbers, and their documents.
 use Rattle.std.specs.Prelude.{ℕ, zero, suc, ◌+◌, ◌-◌, ◌%◌, List, [], ◌++◌, codes}
 use Rattle.std.specs.Fmt.{decimal}
 use Rattle.rs_tool.specs.declared.pipelines.Pipeline.{Pipeline}

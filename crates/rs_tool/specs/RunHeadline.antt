@@ -1,4 +1,4 @@
--- Believed: what the statuses of a `run` tell that was carried out.
+-- Public: what the statuses of a `run` tell that was carried out.
 use Rattle.rs_tool.specs.declared.statuses.Status.{Status}
 use Rattle.rs_tool.specs.declared.statuses.Status.TheVariants as status
 

@@ -1,4 +1,4 @@
--- Believed: which session a call hands out.
+-- Public: which session a call hands out.
 use Rattle.std.specs.Prelude.{◌≡◌, ◌⊎◌, ℕ, List, Option, None}
 use Rattle.rs_answers.specs.Data.{Answer_data}
 use Rattle.rs_answers.specs.RunSessions.{HasCome, IsThereWhere, WasRunOf}

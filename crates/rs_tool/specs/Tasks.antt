@@ -1,4 +1,4 @@
--- Believed: what tasks ask for.
+-- Public: what tasks ask for.
 use Rattle.std.specs.Prelude.{◌≡◌, ℕ, List, Option, Bool}
 use Rattle.rs_model.specs.declared.demos.Demo.{Demo}
 use Rattle.rs_model.specs.declared.runs.RunOptions.{RunOptions}

@@ -152,12 +152,33 @@ pub fn command_serial<S: Source, K: Sink>(
     }
 }
 
+/// Carries out the words by `command_serial`; and by as many workers as they ask for where it tells that these are needed, since
+/// then nothing was read or written.
+fn carry_out<R: Threads + Wait + Sync, S: Source, K: Sink, G: Gate + Sync>(
+    rt: &R,
+    alloc: Global,
+    words: &[String],
+    source: &mut S,
+    sink: &mut K,
+    gate: &G,
+) -> Reply
+    ensures { Ends (call_of (bytes_of_words words.now) (input_of S.left S.faults S.last source.old source.new) (output_of K.written K.faults K.last sink.old sink.new)) result }
+{
+    match command_serial(alloc, words, source, sink) {
+        Serial::Answered(reply) => reply,
+        Serial::NeedsWorkers => {
+            let given = answer_to_words(rt, alloc, words, source, gate);
+            deliver(given, sink)
+        }
+    }
+}
+
 /// Carries out the words, as the program does: what `command_serial` answers, and with threads what needs workers. These are
 /// as many as the words say, and the gate's calls are made round each turn of one; it isn't used else.
 ///
-/// The way of a word: `answer_to_words` reads it by `read_words`, `prepare` reads the input, `on_text` the document, and
-/// calls the word's own function, as `rs_answers::check`. What that makes ready is run by `run_alone` or `run_by_crew`, and
-/// `deliver` writes the answer.
+/// The way of a word: `answer_alone` reads it by `read_words`, `prepare` reads the input, `on_text` the document, and
+/// calls the word's own function, as `rs_answers::check`. What that makes ready is run by `run_alone`, and `deliver` writes
+/// the answer. Where several workers are needed `answer_to_words` goes the same way, and runs it by `run_by_crew`.
 ///
 /// What is answered to words and input is the definition `Answers` (`specs/Answers.antt`), which names one list for
 /// each word. That of `check` is `Checks` in `rs_answers`: accepted, or refused for the first reason of `HasNoSession`
@@ -188,6 +209,5 @@ pub fn command<R: Threads + Wait + Sync, S: Source, K: Sink, G: Gate + Sync>(
     ensures closed { (spelt : Task) → SpellsTask (bytes_of_words words.now) spelt
         → IfSome (S.left source.old) (λ bytes. HasItsSession (bytes_of_words words.now) spelt bytes result) }
 {
-    let given = answer_to_words(rt, alloc, words, source, gate);
-    deliver(given, sink)
+    carry_out(rt, alloc, words, source, sink, gate)
 }

@@ -6,7 +6,7 @@ use Rattle.std.proofs.lemmas.Option.{none-some, same_Some}
 use Rattle.std.specs.List.{list_any}
 use Rattle.rs_model.proofs.FirstFailed.{or_some, or_none, cond_is, label_is, label_none, any_place, any_not, role_same, stands_twice, once}
 use Rattle.rs_model.specs.FirstFailed.{or_later, label_fault}
-use Rattle.rs_model.specs.Checks.{first_repeat}
+use Rattle.rs_model.specs.Repeats.{first_repeat}
 use Rattle.rs_model.specs.Data.{Protocol_data}
 use Rattle.rs_model.specs.declared.graph.Arm.{Arm}
 use Rattle.rs_model.specs.declared.graph.Node.{Node}

@@ -3,7 +3,7 @@ use Rattle.std.proofs.Common.{◌≡◌, ℕ, ◌+◌, List, [], ◌∷◌, ◌+
 use Rattle.std.specs.List.{list_any}
 use Rattle.rs_model.proofs.FirstFailed.{failed_append, labels_told, not_past, next_told, nexts_told, some_arms, passed_or}
 use Rattle.rs_model.specs.FirstFailed.{Test, first_failed, or_later, label_fault, label_tests, next_tests}
-use Rattle.rs_model.specs.Checks.{first_repeat}
+use Rattle.rs_model.specs.Repeats.{first_repeat}
 use Rattle.rs_model.specs.Data.{Protocol_data}
 use Rattle.rs_model.specs.declared.graph.Arm.{Arm}
 use Rattle.rs_model.specs.declared.graph.Node.{Node}

@@ -3,7 +3,7 @@ use Rattle.std.specs.Prelude.{ℕ, ◌+◌, List, [], ◌∷◌, length, ◌==�
 use Rattle.std.specs.List.{list_any}
 use Rattle.rs_model.specs.declared.limits.TheConstants.{MOST_ARMS}
 use Rattle.rs_model.specs.FirstFailed.{or_later, label_fault}
-use Rattle.rs_model.specs.Checks.{first_repeat}
+use Rattle.rs_model.specs.Repeats.{first_repeat}
 use Rattle.rs_model.specs.Data.{Protocol_data}
 use Rattle.rs_model.specs.declared.graph.Arm.{Arm}
 use Rattle.rs_model.specs.declared.graph.Node.{Node}

@@ -1,4 +1,4 @@
--- Believed: small protocols that show what the definitions say.
+-- Public: small protocols that show what the definitions say.
 use Rattle.std.specs.Prelude.{ℕ, [], ◌∷◌}
 use Rattle.rs_model.specs.Data.{Protocol_data}
 use Rattle.rs_model.specs.declared.graph.Node.TheVariants.{Finished, Talk}

@@ -1,4 +1,4 @@
--- Believed: the first fault of a protocol, and what each fault says.
+-- Public: the first fault of a protocol, and what each fault says.
 use Rattle.std.specs.Prelude.{◌≡◌, ◌⊎◌, ℕ, ◌+◌, ◌<◌, ◌≤◌, List, [], ◌∷◌, ◌++◌, length, slice_get, not, ◌==◌, nat_le, nat_lt, Option, Some}
 use Rattle.rs_model.specs.declared.limits.TheConstants.{MOST_ARMS}
 use Rattle.rs_model.specs.FirstFailed.{Test, first_failed, label_tests, next_tests}

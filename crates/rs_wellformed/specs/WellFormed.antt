@@ -1,4 +1,4 @@
--- Believed: what is asked of a protocol.
+-- Headline: what is asked of a protocol.
 use Rattle.std.specs.Prelude.{◌≡◌, ◌≢◌, ℕ, ◌<◌, ◌≤◌, List, [], length, slice_get, Some}
 use Rattle.rs_model.specs.declared.limits.TheConstants.{MOST_ARMS}
 use Rattle.rs_model.specs.Data.{Protocol_data}

@@ -1,4 +1,4 @@
--- Believed: how an actor behaves that draws, and counts what comes.
+-- Steps: how an actor behaves that draws, and counts what comes.
 use Rattle.std.specs.Prelude.{ℕ, ◌+◌, ◌^◌, ◌-◌, min}
 use Rattle.rs_core.specs.Actors.{Behaviour, ChoosesWell}
 use Rattle.rs_core.specs.Choosing.{draws_well}

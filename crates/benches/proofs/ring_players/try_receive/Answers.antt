@@ -7,7 +7,8 @@ look_take-requires-clause-can c = can_take c.args.rings.now c.args.player.now.pa
 
 pub returns-in-One-clause-at : goal.returns-in-One-clause-at
 returns-in-One-clause-at c =
-    takes_on c.args.rings.now c.args.player.now.pass c.look_take.new.pass c.args.player.now.role.0 c.args.player.now.state c.args.player.now.acts c.args.next c.args.sender c.in-One.parcel
+    takes_on c.args.rings.now c.args.player.now.pass c.look_take.new.pass c.args.rings.now.capacity c.args.player.now.role.0 c.args.player.now.state
+    c.args.player.now.acts c.args.next c.args.sender c.in-One.parcel
     c.requires.at c.look_take.ensures.table c.requires.takes c.in-One.ensures.told
 
 pub returns-in-One-clause-spoken : goal.returns-in-One-clause-spoken

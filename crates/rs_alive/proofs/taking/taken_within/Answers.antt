@@ -5,9 +5,10 @@ use Rattle.rs_core.specs.Core.{configuration_of}
 use Rattle.rs_core.proofs.Stands.{done_after}
 use Rattle.rs_safety.specs.Room.{room_of}
 use Rattle.rs_alive.specs.Schedule.{Advances, CanLeadOn}
-use Rattle.rs_alive.specs.Taken.{IsTaken, acts_by}
-use Rattle.rs_alive.proofs.Following.{Following, advances_as, arrives, counts_down, done_in, falls, few_events, goes_on, leads, most_of, start}
+use Rattle.rs_alive.specs.Taken.{CarryEmptyValues, IsTaken, acts_by}
+use Rattle.rs_alive.proofs.Following.{Following, advances_as, all_empty, arrives, counts_down, done_in, falls, few_events, goes_on, leads, most_of, stands_at, start}
 use Rattle.rs_alive.proofs.Scheduled.{total}
+use Rattle.rs_alive.proofs.TheMessage.{the_message}
 use Rattle.rs_alive.proofs.taking.taken_within.Goals as goal
 
 pub loop-events-init : goal.loop-events-init
@@ -37,14 +38,23 @@ returns-then-before-eq0-clause-continued c =
     (subst M c.loop-events.invariant.1 c.in_ok-event.ensures.advances) refl (cc (c.if-takes.true)) in
     let F : ℕ → Type 0 = λ z. Following c.args.accepted.now c.args.past.now c.args.sender c.args.receiver c.args.place (configuration_of c.in_ok-core.core)
     (configuration_of c.loop-events.core) z c.loop-events.events.items in
+    let E : List Event → Type 0 = λ z. CarryEmptyValues c.args.accepted.now.machines (configuration_of c.in_ok-core.core) z in
     let T : List Event → Type 0 = λ z. IsTaken c.args.accepted.now.machines c.args.sender c.args.receiver (configuration_of c.in_ok-core.core) c.args.place z in
+    let taken = subst T (sym c.in_ok-push.ensures)
+    (arrives c.args.accepted.now c.args.past.now c.args.sender c.args.receiver c.args.place (configuration_of c.in_ok-core.core) (configuration_of c.loop-events.core)
+    (configuration_of c.advance.new.core) c.loop-events.events.items c.in_ok-event.field-0.event c.machines-machines.ensures.session c.requires.receiver
+    (subst F c.if-before-eq0.true c.loop-events.invariant.0) made) in
+    let message = stands_at ((configuration_of c.in_ok-core.core).queue c.args.sender.0 c.args.receiver.0) c.args.place (omega (arith, c.if-len-place.false, c.queue_len-len.ensures)) in
     record {
       at = configuration_of c.in_ok-core.core;
+      message = message.0;
       leads = c.in_ok-core.ensures.leads;
-      taken = subst T (sym c.in_ok-push.ensures)
-          (arrives c.args.accepted.now c.args.past.now c.args.sender c.args.receiver c.args.place (configuration_of c.in_ok-core.core) (configuration_of c.loop-events.core)
-          (configuration_of c.advance.new.core) c.loop-events.events.items c.in_ok-event.field-0.event c.machines-machines.ensures.session c.requires.receiver
-          (subst F c.if-before-eq0.true c.loop-events.invariant.0) made);
+      stands = message.1;
+      taken = taken;
+      ends = the_message c.args.accepted.now.machines c.args.sender c.args.receiver (configuration_of c.in_ok-core.core) c.args.place c.push.new.events.items message.0 taken message.1;
+      values = subst E (sym c.in_ok-push.ensures)
+          (all_empty c.args.accepted.now c.args.past.now c.args.sender c.args.receiver c.args.place (configuration_of c.in_ok-core.core) (configuration_of c.loop-events.core)
+          (configuration_of c.advance.new.core) c.loop-events.before c.loop-events.events.items c.in_ok-event.field-0.event true c.loop-events.invariant.0 made);
     }
 
 pub returns-then-before-eq0-clause-bounded : goal.returns-then-before-eq0-clause-bounded

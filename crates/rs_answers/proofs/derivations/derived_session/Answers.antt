@@ -29,3 +29,7 @@ returns-in_err-derivations-clause-err c =
     (subst₂ (λ (x : List Machine_data) (y : List Projection_data). (c.in_err-derivations.field-0.0.fault ≡ search.NoMemory)
     ⊎ IsUnderivable c.args.bound x y c.in_err-derivations.field-0.0.role c.in_err-derivations.field-0.0.fault)
     c.as_slice-2.ensures.value c.as_slice.ensures.value (rw c.number.ensures.number at c.in_err-derivations.ensures.err))
+
+pub returns-clause-session : goal.returns-clause-session
+returns-clause-session c =
+    session_has c.args.document.now c.in_ok-projections.field-0.projections.items c.in_ok-projections.field-0.machines.items c.requires.ready c.in_ok-projections.ensures.ok

@@ -1,6 +1,8 @@
 use Rattle.std.proofs.Common.{◌≡◌, ◌∙◌, List, Option, ℕ, length, ap, refl, subst, sym, arith}
 use Rattle.rs_core.specs.Queues.{AreTranscripts}
-use Rattle.rs_core.specs.Runs.{HasRound, IsAmong, RunSoFar}
+use Rattle.rs_core.specs.Runs.{IsAmong}
+use Rattle.rs_core.specs.Rounds.{HasRound}
+use Rattle.rs_core.proofs.RunsSoFar.{RunSoFar}
 use Rattle.rs_core.specs.declared.players.Player.{Player}
 use Rattle.rs_core.specs.declared.playing.Rounded.{Rounded}
 use Rattle.rs_core.proofs.Running.{fresh_noted, run_start, run_moves, run_less, run_ends, run_among, run_stops}

@@ -1,6 +1,7 @@
 use Rattle.std.proofs.Common.{◌≡◌, ◌-◌, ◌*◌, length}
 use Rattle.rs_core.specs.Queues.{AreTranscripts}
-use Rattle.rs_core.specs.Runs.{RunSoFar, acts_of}
+use Rattle.rs_core.specs.Rounds.{acts_of}
+use Rattle.rs_core.proofs.RunsSoFar.{RunSoFar}
 use Rattle.rs_core.proofs.playing.play.Given as goal
 
 abbrev pub invariant-loop-players : goal.invariant-loop-players

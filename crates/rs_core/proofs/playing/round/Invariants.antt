@@ -1,6 +1,6 @@
 use Rattle.std.proofs.Common.{◌≡◌, length}
 use Rattle.rs_core.specs.Queues.{AreTranscripts}
-use Rattle.rs_core.specs.Runs.{SoFar}
+use Rattle.rs_core.proofs.RunsSoFar.{SoFar}
 use Rattle.rs_core.proofs.playing.round.Given as goal
 
 abbrev pub invariant-loop-i : goal.invariant-loop-i

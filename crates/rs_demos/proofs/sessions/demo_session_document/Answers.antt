@@ -1,6 +1,6 @@
 use Rattle.std.proofs.Common.{rules, subst, sym}
 use Rattle.rs_demos.proofs.Ready.{ready}
-use Rattle.rs_documents.specs.Reading.{DocumentIsReady}
+use Rattle.rs_documents.specs.Ready.{DocumentIsReady}
 use Rattle.rs_demos.proofs.sessions.demo_session_document.Goals as goal
 
 pub returns-clause-document : goal.returns-clause-document

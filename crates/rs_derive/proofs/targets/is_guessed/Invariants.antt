@@ -1,5 +1,5 @@
 use Rattle.std.proofs.Common.{◌≡◌, drop, map}
-use Rattle.rs_derive.specs.Checks.{names}
+use Rattle.rs_derive.specs.Nodes.{names}
 use Rattle.rs_derive.specs.Derivations.{spot_of}
 use Rattle.rs_derive.specs.Moves.{owing_send}
 use Rattle.rs_derive.proofs.targets.is_guessed.Given as goal

@@ -1,5 +1,5 @@
 use Rattle.std.proofs.Common.{arith, ap, ◌∙◌, ◌++◌, drop, take}
-use Rattle.rs_derive.specs.Checks.{same_acts}
+use Rattle.rs_derive.specs.Targets.{same_acts}
 use Rattle.rs_derive.proofs.Acts.{drop_one, none_left}
 use Rattle.rs_derive.proofs.targets.is_without.Goals as goal
 

@@ -1,7 +1,7 @@
 use Rattle.std.proofs.Common.{sym, ap, ◌∙◌, Some, slice_set}
 use Rattle.rs_derive.specs.Data.{Derivation_data}
 use Rattle.rs_documents.specs.Parts.{derivation_parts}
-use Rattle.rs_documents.specs.Reading.{IsBounded}
+use Rattle.rs_documents.specs.Ready.{IsBounded}
 use Rattle.rs_documents.proofs.PartKinds.{of_derivations}
 use Rattle.rs_documents.proofs.Parts.{added_by, fails, repeats_by}
 use Rattle.rs_documents.proofs.documents.add_derivation.Goals as goal

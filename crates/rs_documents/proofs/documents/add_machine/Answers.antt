@@ -1,7 +1,7 @@
 use Rattle.std.proofs.Common.{sym, ap, ◌∙◌, Some, slice_set}
 use Rattle.rs_model.specs.Data.{Machine_data}
 use Rattle.rs_documents.specs.Parts.{machine_parts}
-use Rattle.rs_documents.specs.Reading.{IsShort}
+use Rattle.rs_documents.specs.Ready.{IsShort}
 use Rattle.rs_documents.proofs.PartKinds.{of_machines}
 use Rattle.rs_documents.proofs.Parts.{added_by, fails, repeats_by}
 use Rattle.rs_documents.proofs.documents.add_machine.Goals as goal

@@ -3,7 +3,7 @@ use Rattle.std.specs.Prelude.{codes}
 use Rattle.rs_derive.specs.Data.{Derivation_data}
 use Rattle.rs_model.specs.Data.{Names_data}
 use Rattle.rs_documents.specs.Parts.{derivation_parts, no_parts}
-use Rattle.rs_documents.specs.Reading.{IsBounded}
+use Rattle.rs_documents.specs.Ready.{IsBounded}
 use Rattle.rs_documents.proofs.Parts.{done, held_by, word_is}
 use Rattle.rs_documents.proofs.documents.read_derivations.Goals as goal
 

@@ -1,6 +1,7 @@
 use Rattle.std.proofs.Common.{◌≤◌, length}
 use Rattle.rs_documents.specs.Parts.{derivation_parts}
-use Rattle.rs_documents.specs.Reading.{AreGood, LeadsBack, DerivationsAreHeld, free_in}
+use Rattle.rs_documents.specs.Reading.{AreGood, LeadsBack, free_in}
+use Rattle.rs_documents.specs.Ready.{DerivationsAreHeld}
 use Rattle.rs_documents.proofs.Parts.{row_of}
 use Rattle.rs_documents.proofs.documents.read_derivations.Given as goal
 

@@ -2,7 +2,7 @@ use Rattle.std.proofs.Common.{sym, ap, ◌∙◌}
 use Rattle.std.specs.Prelude.{codes}
 use Rattle.rs_model.specs.Data.{Machine_data, Names_data}
 use Rattle.rs_documents.specs.Parts.{machine_parts, no_parts}
-use Rattle.rs_documents.specs.Reading.{IsShort}
+use Rattle.rs_documents.specs.Ready.{IsShort}
 use Rattle.rs_documents.proofs.Parts.{done, held_by, word_is}
 use Rattle.rs_documents.proofs.documents.read_machines.Goals as goal
 

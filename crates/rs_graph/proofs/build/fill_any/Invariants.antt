@@ -1,5 +1,5 @@
 use Rattle.std.proofs.Common.{true, take}
-use Rattle.rs_graph.specs.Built.{IsFilled}
+use Rattle.rs_graph.specs.Filling.{IsFilled}
 use Rattle.rs_graph.specs.Graphs.{moves_of}
 use Rattle.rs_graph.proofs.build.fill_any.Given as goal
 

@@ -1,5 +1,5 @@
 use Rattle.std.proofs.Common.{◌≡◌, length, take}
-use Rattle.rs_graph.specs.Discovery.{AreNamed}
+use Rattle.rs_graph.specs.Naming.{AreNamed}
 use Rattle.rs_graph.specs.Places.{IsPlaced}
 use Rattle.rs_graph.proofs.number.name_all.Given as goal
 

@@ -1,5 +1,5 @@
 use Rattle.std.proofs.Common.{rules, arith, ◌≡◌, ◌<◌, ◌+◌, [], ◌∷◌, ℕ, List, length, slice_get, slice_index_or, Some, sym, ◌∙◌, ap, subst}
-use Rattle.rs_graph.specs.Discovery.{AreNamed}
+use Rattle.rs_graph.specs.Naming.{AreNamed}
 use Rattle.rs_graph.specs.Lists.{Among}
 use Rattle.rs_graph.specs.Places.{next_of}
 use Rattle.rs_graph.specs.Removal.{at, moves_at}

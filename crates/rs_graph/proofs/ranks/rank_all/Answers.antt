@@ -1,6 +1,6 @@
 use Rattle.std.proofs.Common.{rules, arith, ◌≡◌, [], ℕ, List, length, slice_index_or, slice_get, Some, subst, refl, ap}
 use Rattle.rs_graph.specs.Lists.{Among}
-use Rattle.rs_graph.specs.Ranks.{RankFits}
+use Rattle.rs_graph.specs.RanksSoFar.{RankFits}
 use Rattle.rs_graph.proofs.Buckets.{the_row}
 use Rattle.rs_graph.proofs.Growth.{reads_at}
 use Rattle.rs_graph.proofs.Ranking.{ranked_none, ranked_on}

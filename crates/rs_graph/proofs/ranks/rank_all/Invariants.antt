@@ -1,4 +1,4 @@
-use Rattle.rs_graph.specs.Ranks.{Ranked}
+use Rattle.rs_graph.specs.RanksSoFar.{Ranked}
 use Rattle.rs_graph.proofs.ranks.rank_all.Given as goal
 
 abbrev pub invariant-loop-i : goal.invariant-loop-i

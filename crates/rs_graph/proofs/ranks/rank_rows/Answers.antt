@@ -1,5 +1,6 @@
 use Rattle.std.proofs.Common.{arith, ◌≡◌, List, ℕ, length, Option, MatchOption, sym, subst, ◌∙◌, ap}
-use Rattle.rs_graph.specs.Ranks.{Edge, IsOrdered, Ranked}
+use Rattle.rs_graph.specs.Ranks.{Edge, IsOrdered}
+use Rattle.rs_graph.specs.RanksSoFar.{Ranked}
 use Rattle.rs_graph.specs.Walks.{IsOnCycle, IsLeastOnCycle}
 use Rattle.rs_graph.proofs.Endless.{of_edges, ordered, ranks_right, order_few}
 use Rattle.rs_graph.proofs.ranks.rank_rows.Goals as goal

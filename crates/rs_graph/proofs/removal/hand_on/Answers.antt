@@ -1,5 +1,5 @@
 use Rattle.std.proofs.Common.{arith, ◌+◌, [], List, slice_index_or, subst, drop}
-use Rattle.rs_graph.specs.Removal.{Going, Rest}
+use Rattle.rs_graph.specs.Removing.{Going, Rest}
 use Rattle.rs_graph.specs.declared.graph.Move.{Move}
 use Rattle.rs_graph.proofs.Removed.{reads_self, index_at, starts, read_move, row_on, got_none, row_done}
 use Rattle.rs_graph.proofs.removal.hand_on.Goals as goal

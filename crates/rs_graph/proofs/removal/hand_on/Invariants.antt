@@ -1,5 +1,5 @@
 use Rattle.std.proofs.Common.{◌≡◌, ◌≤◌, ◌+◌, ◌-◌, [], ℕ, length, slice_get, slice_index_or, Some, drop}
-use Rattle.rs_graph.specs.Removal.{Going, Rest}
+use Rattle.rs_graph.specs.Removing.{Going, Rest}
 use Rattle.rs_graph.proofs.removal.hand_on.Given as goal
 
 abbrev pub invariant-loop-m : goal.invariant-loop-m

@@ -1,5 +1,5 @@
 use Rattle.std.proofs.Common.{rules, arith, List, length, Bool, sym, ◌∙◌, ap, subst}
-use Rattle.rs_graph.specs.Removal.{IsNextMove}
+use Rattle.rs_graph.specs.Removing.{IsNextMove}
 use Rattle.rs_graph.proofs.Removed.{lose_flag, lose_on, lose_last, pushed_kept, raised, index_at, same_row}
 use Rattle.rs_graph.proofs.removal.lose.Goals as goal
 

@@ -1,5 +1,5 @@
 use Rattle.std.proofs.Common.{◌≡◌, take}
-use Rattle.rs_graph.specs.Removal.{lowered_flags}
+use Rattle.rs_graph.specs.Removing.{lowered_flags}
 use Rattle.rs_graph.proofs.removal.no_flags.Given as goal
 
 abbrev pub invariant-loop-node : goal.invariant-loop-node

@@ -1,5 +1,6 @@
 use Rattle.std.proofs.Common.{rules, arith, ◌<◌, ◌+◌, ℕ, length}
-use Rattle.rs_graph.specs.Removal.{From, cost_of}
+use Rattle.rs_graph.specs.Removal.{cost_of}
+use Rattle.rs_graph.specs.Removing.{From}
 use Rattle.rs_graph.proofs.Growth.{at_within, at_short}
 use Rattle.rs_graph.proofs.Removed.{begins, order_few, cost_on, finish}
 use Rattle.rs_graph.proofs.removal.remove.Goals as goal

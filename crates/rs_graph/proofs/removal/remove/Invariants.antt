@@ -1,6 +1,7 @@
 use Rattle.std.proofs.Common.{◌≡◌, ◌≤◌, ◌+◌, ◌-◌, ℕ, length, take}
 use Rattle.std.specs.List.{sum_by}
-use Rattle.rs_graph.specs.Removal.{Going, From, cost_of}
+use Rattle.rs_graph.specs.Removal.{cost_of}
+use Rattle.rs_graph.specs.Removing.{Going, From}
 use Rattle.rs_graph.proofs.removal.remove.Given as goal
 
 abbrev pub invariant-loop-told : goal.invariant-loop-told

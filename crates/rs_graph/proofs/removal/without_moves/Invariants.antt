@@ -1,5 +1,5 @@
 use Rattle.std.proofs.Common.{◌≡◌, ◌++◌, drop}
-use Rattle.rs_graph.specs.Removal.{moveless}
+use Rattle.rs_graph.specs.Removing.{moveless}
 use Rattle.rs_graph.proofs.removal.without_moves.Given as goal
 
 abbrev pub invariant-loop-node : goal.invariant-loop-node

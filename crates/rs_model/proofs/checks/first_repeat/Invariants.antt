@@ -1,5 +1,5 @@
 use Rattle.std.proofs.Common.{◌≡◌, [], drop, take}
-use Rattle.rs_model.specs.Checks.{first_repeat}
+use Rattle.rs_model.specs.Repeats.{first_repeat}
 use Rattle.rs_model.proofs.checks.first_repeat.Given as goal
 
 abbrev pub invariant-loop-i : goal.invariant-loop-i

@@ -61,8 +61,8 @@ close-closed-requires-clause-present g c =
     subst (AreAllThere n) (sym (c.ended_of.ensures ∙ ap (map sight_of_stage) c.parts_of-stages.ensures.stages))
     (all_there b start n jobs c.requires.collected.count (fits_at b start n jobs c.requires.collected) (ap (λ (s : Rings_data). length s.machines) c.requires.session))
 
-pub returns-in-None-Some : goal.returns-in-None-Some
-returns-in-None-Some g c =
+pub returns-in-None-Some-clause-session : goal.returns-in-None-Some-clause-session
+returns-in-None-Some-clause-session g c =
     let b = g.A.Actor.behaviour in let start = g.N.StartName.start in let n = length c.args.session.machines in let jobs = c.args.jobs.items in
     let closed = c.abandon-closed.result in let parts = c.parts_of-stages.ensures in
     let one = first_at progress.AtLimit jobs c.in-None-Some.role (ap (first_with progress.AtLimit 0) (sym c.as_slice-2.ensures.value) ∙ sym c.first_with-stopped.ensures ∙ c.in-None-Some.is-1) in
@@ -71,20 +71,15 @@ returns-in-None-Some g c =
     let so = session_stopped b start n jobs c.requires.collected.count (fits_at b start n jobs c.requires.collected) (ap (λ (s : Rings_data). length s.machines) c.requires.session)
     closed (c.abandon-closed.ensures.machines ∙ ap (λ (s : Rings_data). s.machines) c.requires.session) knows
     (record { 0 = c.in-None-Some.role }) one.0 one.1 one.2 none parts.same c.abandon-closed.ensures.left in
-    record {
-      session = subst (λ (l : List g.row.A.Denot). IsSessionOfRun start.session.machines b start.given start.limit closed (outcome.Stopped (record { 0 = c.in-None-Some.role })) l)
-          (sym parts.actors) so;
-    }
+    subst (λ (l : List g.row.A.Denot). IsSessionOfRun start.session.machines b start.given start.limit closed (outcome.Stopped (record { 0 = c.in-None-Some.role })) l) (sym parts.actors) so
 
-pub returns-in-None-None : goal.returns-in-None-None
-returns-in-None-None g c =
+pub returns-in-None-None-clause-session : goal.returns-in-None-None-clause-session
+returns-in-None-None-clause-session g c =
     let b = g.A.Actor.behaviour in let start = g.N.StartName.start in let n = length c.args.session.machines in let jobs = c.args.jobs.items in
     let closed = c.close-closed.result in let parts = c.parts_of-stages.ensures in
     let none = none_at progress.Refused jobs (ap (first_with progress.Refused 0) (sym c.as_slice.ensures.value) ∙ sym c.first_with-refused.ensures ∙ c.in-None-None.is-0) in
     let knows = subst (λ (l : List Stage_data). KnowsFrom l closed) (c.ended_of.ensures ∙ ap (map sight_of_stage) parts.stages) c.close-closed.ensures.knows in
     let so = session_ended b start n jobs c.requires.collected.count (fits_at b start n jobs c.requires.collected) (ap (λ (s : Rings_data). length s.machines) c.requires.session)
     closed (c.close-closed.ensures.machines ∙ ap (λ (s : Rings_data). s.machines) c.requires.session) knows none parts.same c.close-closed.ensures.over in
-    record {
-      session = subst (λ (l : List g.row.A.Denot). IsSessionOfRun start.session.machines b start.given start.limit closed (outcome.Ended c.of.result) l) (sym parts.actors)
-          (subst (λ (ts : List (List Entry)). IsSessionOfRun start.session.machines b start.given start.limit closed (outcome.Ended ts) (actors_of jobs)) (sym (c.of.ensures ∙ parts.transcripts)) so);
-    }
+    subst (λ (l : List g.row.A.Denot). IsSessionOfRun start.session.machines b start.given start.limit closed (outcome.Ended c.of.result) l) (sym parts.actors)
+    (subst (λ (ts : List (List Entry)). IsSessionOfRun start.session.machines b start.given start.limit closed (outcome.Ended ts) (actors_of jobs)) (sym (c.of.ensures ∙ parts.transcripts)) so)

@@ -1,5 +1,5 @@
 use Rattle.std.proofs.Common.{◌≡◌, drop}
-use Rattle.rs_core.specs.Core.{arm_with}
+use Rattle.rs_core.specs.Ways.{arm_with}
 use Rattle.rs_rings.proofs.tables.next_of.Given as goal
 
 abbrev pub invariant-loop-arm : goal.invariant-loop-arm

@@ -1,6 +1,6 @@
 use Rattle.std.proofs.Common.{◌≡◌, ◌<◌, ◌∙◌, [], ℕ, List, slice_index_or, IfSome, Bool, subst, sym}
 use Rattle.rs_graph.specs.Lists.{Among}
-use Rattle.rs_graph.specs.Ranks.{RankFits}
+use Rattle.rs_graph.specs.RanksSoFar.{RankFits}
 use Rattle.rs_graph.proofs.Buckets.{got}
 use Rattle.rs_search.specs.Forward.{kept_row}
 use Rattle.rs_search.proofs.forward.rank_of.Goals as goal

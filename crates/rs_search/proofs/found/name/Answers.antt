@@ -1,4 +1,4 @@
-use Rattle.rs_derive.specs.Checks.{target_spot}
+use Rattle.rs_derive.specs.Targets.{target_spot}
 use Rattle.rs_graph.proofs.Growth.{named_push}
 use Rattle.rs_search.proofs.found.name.Goals as goal
 

@@ -1,7 +1,7 @@
 use Rattle.std.proofs.Common.{Option, subst, sym, IfOk, IfSome, OnErr}
 use Rattle.rs_derive.specs.Rules.{RuleFits}
 use Rattle.rs_derive.specs.declared.rules.Rule.{Rule}
-use Rattle.rs_graph.specs.Discovery.{AreNamed}
+use Rattle.rs_graph.specs.Naming.{AreNamed}
 use Rattle.rs_graph.proofs.Growth.{named_none}
 use Rattle.rs_search.specs.Itself.{AreNamedAt, GrowsBy}
 use Rattle.rs_search.specs.Turns.{spots_by}

@@ -5,7 +5,7 @@ use Rattle.rs_derive.specs.Due.{both_at}
 use Rattle.rs_derive.specs.Moves.{arm_of}
 use Rattle.rs_graph.specs.Lists.{concat}
 use Rattle.rs_graph.proofs.Growth.{at_within, named_none}
-use Rattle.rs_graph.specs.Discovery.{AreNamed}
+use Rattle.rs_graph.specs.Naming.{AreNamed}
 use Rattle.rs_search.specs.Itself.{GrowsBy}
 use Rattle.rs_search.proofs.Turning.{label_at}
 use Rattle.rs_search.proofs.Naming.{both_short, grown_both, named_both, on_err, rows_of_arms_short}

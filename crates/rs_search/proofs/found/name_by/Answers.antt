@@ -5,7 +5,7 @@ use Rattle.rs_derive.specs.Moves.{Spot, owing_receive, owing_send}
 use Rattle.rs_derive.specs.Rules.{RuleFits}
 use Rattle.rs_derive.specs.declared.rules.Rule.{Rule}
 use Rattle.rs_derive.specs.declared.rules.Rule.TheVariants.{Guesses, Follows}
-use Rattle.rs_graph.specs.Discovery.{AreNamed, Grown}
+use Rattle.rs_graph.specs.Naming.{AreNamed, Grown}
 use Rattle.rs_graph.specs.Lists.{concat}
 use Rattle.rs_graph.proofs.Growth.{named_none}
 use Rattle.rs_search.specs.Itself.{AreNamedAt, GrowsBy}

@@ -1,11 +1,11 @@
 use Rattle.std.proofs.Common.{rules, arith, ◌≡◌, ◌∙◌, List, map, take, take_all, slice_get, Some, subst, sym, ap, refl}
 use Rattle.rs_model.specs.declared.graph.Arm.{Arm}
 use Rattle.rs_derive.proofs.Few.{few, one_more}
-use Rattle.rs_derive.specs.Checks.{target_spot}
+use Rattle.rs_derive.specs.Targets.{target_spot}
 use Rattle.rs_derive.specs.Derivations.{spot_of}
 use Rattle.rs_derive.specs.Moves.{Spot}
 use Rattle.rs_graph.proofs.Growth.{at_within, named_none}
-use Rattle.rs_graph.specs.Discovery.{AreNamed}
+use Rattle.rs_graph.specs.Naming.{AreNamed}
 use Rattle.rs_search.specs.Itself.{GrowsBy}
 use Rattle.rs_search.specs.Turns.{owing_by}
 use Rattle.rs_search.proofs.Turning.{label_at}

@@ -1,8 +1,8 @@
 use Rattle.std.proofs.Common.{◌++◌, List, subst, sym}
-use Rattle.rs_derive.specs.Checks.{target_spot}
+use Rattle.rs_derive.specs.Targets.{target_spot}
 use Rattle.rs_derive.specs.Due.{both_at}
 use Rattle.rs_derive.specs.Moves.{Spot}
-use Rattle.rs_graph.specs.Discovery.{AreNamed, Grown}
+use Rattle.rs_graph.specs.Naming.{AreNamed, Grown}
 use Rattle.rs_search.specs.Itself.{GrowsBy}
 use Rattle.rs_search.proofs.Naming.{both_is, grown_one, on_err}
 use Rattle.rs_search.proofs.found.name_if.Goals as goal

@@ -1,5 +1,5 @@
 use Rattle.std.proofs.Common.{[], ◌∷◌, refl}
-use Rattle.rs_derive.specs.Checks.{target_spot}
+use Rattle.rs_derive.specs.Targets.{target_spot}
 use Rattle.rs_graph.proofs.Growth.{named_none, named_push}
 use Rattle.rs_search.specs.Itself.{GrowsBy}
 use Rattle.rs_search.proofs.Naming.{grown_one, on_err}

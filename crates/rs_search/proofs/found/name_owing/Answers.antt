@@ -2,7 +2,7 @@ use Rattle.std.proofs.Common.{◌≡◌, ◌∙◌, [], ◌∷◌, List, map, su
 use Rattle.std.proofs.lemmas.Option.{same_Some}
 use Rattle.rs_derive.specs.Derivations.{spot_of}
 use Rattle.rs_derive.specs.Moves.{Spot}
-use Rattle.rs_graph.specs.Discovery.{AreNamed, Grown}
+use Rattle.rs_graph.specs.Naming.{AreNamed, Grown}
 use Rattle.rs_search.specs.Itself.{GrowsBy}
 use Rattle.rs_search.specs.Turns.{owing_by}
 use Rattle.rs_search.proofs.Filing.{owing_one}

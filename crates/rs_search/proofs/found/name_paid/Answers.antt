@@ -1,13 +1,13 @@
 use Rattle.std.proofs.Common.{◌≡◌, ◌∙◌, [], ◌∷◌, length, ap, subst, sym}
 use Rattle.std.proofs.lemmas.Option.{same_Some}
 use Rattle.std.proofs.lemmas.Result.{IfOk-weaker, on_err_weaker}
-use Rattle.rs_derive.specs.Checks.{target_spot}
+use Rattle.rs_derive.specs.Targets.{target_spot}
 use Rattle.rs_derive.specs.Derivations.{spot_of}
 use Rattle.rs_derive.specs.Moves.{Spot, spot}
 use Rattle.rs_derive.specs.Within.{IsPlaceWithin}
 use Rattle.rs_derive.specs.declared.targets.Change.{Change}
 use Rattle.rs_prefix.specs.Earliest.{without}
-use Rattle.rs_graph.specs.Discovery.{AreNamed, Grown}
+use Rattle.rs_graph.specs.Naming.{AreNamed, Grown}
 use Rattle.rs_search.specs.Itself.{AreNamedAt, GrowsBy}
 use Rattle.rs_search.proofs.found.name_paid.Goals as goal
 

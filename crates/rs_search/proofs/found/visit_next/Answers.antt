@@ -5,7 +5,7 @@ use Rattle.rs_derive.specs.Derivations.{spot_of}
 use Rattle.rs_derive.specs.Moves.{Spot}
 use Rattle.rs_derive.specs.Rules.{RuleFits}
 use Rattle.rs_graph.proofs.Growth.{growing_on, growing_large, map_next, any_next}
-use Rattle.rs_graph.specs.Discovery.{AreNamed, Grown}
+use Rattle.rs_graph.specs.Naming.{AreNamed, Grown}
 use Rattle.rs_search.specs.Candidates.{start_spot}
 use Rattle.rs_search.specs.Table.{StandsWithin, numbers_of}
 use Rattle.rs_search.specs.Turns.{Turn_data, arms_of_state, has_choice, is_any, is_choosing, is_cut, is_keeping, nexts_within, spots_by, turn_by_code, turn_within}

@@ -2,7 +2,7 @@ use Rattle.std.proofs.Common.{arith, ◌≡◌, List, map, slice_index_or, subst
 use Rattle.rs_model.specs.declared.graph.Arm.{Arm}
 use Rattle.rs_model.specs.declared.values.Sort.TheVariants as sort
 use Rattle.rs_derive.specs.Moves.{Spot}
-use Rattle.rs_graph.specs.Discovery.{AreNamed}
+use Rattle.rs_graph.specs.Naming.{AreNamed}
 use Rattle.rs_graph.proofs.Growth.{named_none, named_push}
 use Rattle.rs_search.specs.Itself.{even}
 use Rattle.rs_search.proofs.Alike.{arm_reads, map_more}

@@ -1,6 +1,6 @@
 use Rattle.std.proofs.Common.{length, map, take}
 use Rattle.rs_model.specs.declared.graph.Arm.{Arm}
-use Rattle.rs_graph.specs.Discovery.{AreNamed}
+use Rattle.rs_graph.specs.Naming.{AreNamed}
 use Rattle.rs_search.specs.Itself.{ArePositions, even}
 use Rattle.rs_search.proofs.itself.come_to_each.Given as goal
 

@@ -3,7 +3,7 @@ use Rattle.std.proofs.lemmas.Result.{on_ok_weaker}
 use Rattle.rs_model.specs.declared.graph.Arm.{Arm}
 use Rattle.rs_model.specs.declared.machines.State.TheVariants.{Done, Puts, Takes}
 use Rattle.rs_derive.specs.Moves.{Spot, owing_receive}
-use Rattle.rs_graph.specs.Discovery.{AreNamed}
+use Rattle.rs_graph.specs.Naming.{AreNamed}
 use Rattle.rs_graph.proofs.Growth.{named_none}
 use Rattle.rs_search.specs.Itself.{even, nexts_itself, owed_list}
 use Rattle.rs_search.proofs.Alike.{nexts_even, state_at}

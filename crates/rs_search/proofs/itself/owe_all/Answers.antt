@@ -2,7 +2,7 @@ use Rattle.std.proofs.Common.{List, map, IfOk, ap, sym, subst}
 use Rattle.rs_model.specs.declared.graph.Arm.{Arm}
 use Rattle.rs_model.specs.declared.values.Sort.TheVariants as sort
 use Rattle.rs_derive.specs.Moves.{Spot, owing_receive}
-use Rattle.rs_graph.specs.Discovery.{AreNamed}
+use Rattle.rs_graph.specs.Naming.{AreNamed}
 use Rattle.rs_search.specs.Itself.{even}
 use Rattle.rs_search.proofs.Filing.{one_item}
 use Rattle.rs_search.proofs.itself.owe_all.Goals as goal

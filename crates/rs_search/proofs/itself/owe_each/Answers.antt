@@ -4,7 +4,7 @@ use Rattle.rs_model.specs.declared.values.Sort.TheVariants as sort
 use Rattle.rs_derive.specs.Moves.{Spot, owing_receive}
 use Rattle.rs_graph.proofs.Growth.{named_new, named_none, named_push}
 use Rattle.rs_graph.specs.Lists.{Among}
-use Rattle.rs_graph.specs.Discovery.{AreNamed}
+use Rattle.rs_graph.specs.Naming.{AreNamed}
 use Rattle.rs_search.specs.Itself.{even}
 use Rattle.rs_search.proofs.Alike.{arm_reads, map_more, not_yet, placed_owing}
 use Rattle.rs_search.proofs.itself.owe_each.Goals as goal

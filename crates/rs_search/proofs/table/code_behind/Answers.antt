@@ -1,5 +1,5 @@
 use Rattle.std.proofs.Common.{ap, sym, ◌∙◌, ◌∷◌, []}
-use Rattle.rs_derive.specs.Checks.{owed_behind}
+use Rattle.rs_derive.specs.Targets.{owed_behind}
 use Rattle.rs_search.specs.Buckets.{acts_code}
 use Rattle.rs_search.proofs.Filing.{code_append}
 use Rattle.rs_search.proofs.table.code_behind.Goals as goal

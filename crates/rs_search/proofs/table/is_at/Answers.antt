@@ -1,5 +1,5 @@
 use Rattle.std.proofs.Common.{sym, ◌∙◌}
-use Rattle.rs_derive.specs.Checks.{target_spot}
+use Rattle.rs_derive.specs.Targets.{target_spot}
 use Rattle.rs_derive.specs.Derivations.{spot_of}
 use Rattle.rs_search.proofs.Same.{not_spot}
 use Rattle.rs_search.proofs.table.is_at.Goals as goal

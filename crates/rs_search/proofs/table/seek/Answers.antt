@@ -1,6 +1,6 @@
 use Rattle.std.proofs.Common.{arith, ◌≡◌, ◌≢◌, ◌-◌, ◌<◌, ◌∙◌, suc, ℕ, length, slice_get, slice_index_or, Some, subst, sym, refl}
 use Rattle.std.proofs.lemmas.Option.{same_Some}
-use Rattle.rs_derive.specs.Checks.{target_spot}
+use Rattle.rs_derive.specs.Targets.{target_spot}
 use Rattle.rs_derive.specs.Derivations.{spot_of}
 use Rattle.rs_graph.proofs.Growth.{reads_at}
 use Rattle.rs_model.specs.Chains.{IsChained}

@@ -1,5 +1,5 @@
 use Rattle.std.proofs.Common.{◌≡◌, ℕ, ◌≤◌, Some, length, slice_get}
-use Rattle.rs_derive.specs.Checks.{target_spot}
+use Rattle.rs_derive.specs.Targets.{target_spot}
 use Rattle.rs_model.specs.Chains.{IsChained}
 use Rattle.rs_search.specs.Table.{links_of, spots_of}
 use Rattle.rs_search.proofs.table.seek.Given as goal

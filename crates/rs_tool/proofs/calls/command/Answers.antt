@@ -1,4 +1,3 @@
-use Rattle.rs_tool.proofs.Answering.{ends_delivered}
 use Rattle.rs_tool.proofs.Complete.{complete}
 use Rattle.rs_tool.proofs.DemoComplete.{complete_demo}
 use Rattle.rs_tool.proofs.DemoHeadline.{demos_are_safe_and_never_full}
@@ -7,25 +6,25 @@ use Rattle.rs_tool.proofs.Headline.{fine_is_safe, pipeline_is_safe, runs_are_saf
 use Rattle.rs_tool.proofs.calls.command.Goals as goal
 
 pub returns-clause-ends : goal.returns-clause-ends
-returns-clause-ends g c = ends_delivered _ _ _ _ _ c.answer_to_words-given.ensures c.deliver.ensures
+returns-clause-ends g c = c.carry_out.ensures
 
 pub returns-clause-headline : goal.returns-clause-headline
-returns-clause-headline g c = let ends = ends_delivered _ _ _ _ _ c.answer_to_words-given.ensures c.deliver.ensures in fine_is_safe _ _ ends
+returns-clause-headline g c = fine_is_safe _ _ c.carry_out.ensures
 
 pub returns-clause-verified : goal.returns-clause-verified
-returns-clause-verified g c = let ends = ends_delivered _ _ _ _ _ c.answer_to_words-given.ensures c.deliver.ensures in verified_is_safe _ _ ends
+returns-clause-verified g c = verified_is_safe _ _ c.carry_out.ensures
 
 pub returns-clause-run : goal.returns-clause-run
-returns-clause-run g c = let ends = ends_delivered _ _ _ _ _ c.answer_to_words-given.ensures c.deliver.ensures in runs_are_safe _ _ ends
+returns-clause-run g c = runs_are_safe _ _ c.carry_out.ensures
 
 pub returns-clause-demo : goal.returns-clause-demo
-returns-clause-demo g c = let ends = ends_delivered _ _ _ _ _ c.answer_to_words-given.ensures c.deliver.ensures in demos_are_safe_and_never_full _ _ ends
+returns-clause-demo g c = demos_are_safe_and_never_full _ _ c.carry_out.ensures
 
 pub returns-clause-pipeline : goal.returns-clause-pipeline
-returns-clause-pipeline g c = let ends = ends_delivered _ _ _ _ _ c.answer_to_words-given.ensures c.deliver.ensures in pipeline_is_safe _ _ ends
+returns-clause-pipeline g c = pipeline_is_safe _ _ c.carry_out.ensures
 
 pub returns-clause-complete : goal.returns-clause-complete
-returns-clause-complete g c = let ends = ends_delivered _ _ _ _ _ c.answer_to_words-given.ensures c.deliver.ensures in (complete _ _ ends, complete_demo _ _ ends)
+returns-clause-complete g c = (complete _ _ c.carry_out.ensures, complete_demo _ _ c.carry_out.ensures)
 
 pub returns-clause-closed : goal.returns-clause-closed
-returns-clause-closed g c = let ends = ends_delivered _ _ _ _ _ c.answer_to_words-given.ensures c.deliver.ensures in has_its_session _ _ ends
+returns-clause-closed g c = has_its_session _ _ c.carry_out.ensures

@@ -11,7 +11,7 @@ returns-clause-choice c =
     let e : c.draw.result ≡ draw c.args.self.now = c.draw.ensures.draw ∙ ap draw c.self.view_is in
     let n : c.draw.new.self.number ≡ after c.args.self.now = c.draw.ensures.after ∙ ap after c.self.view_is in
     let place : c.draw.result % length c.args.arms.now ≡ draw c.args.self.now % length c.args.arms.now = ap (λ (z : ℕ). z % length c.args.arms.now) e in
-    let low = mod_below c.draw.result (length c.args.arms.now) (some_length c.args.arms.now c.requires) in
+    let low = mod_below c.draw.result (length c.args.arms.now) (some_length c.args.arms.now c.requires.some) in
     ap₂ (λ (i : ℕ) (v : Value). (i, v)) place
     (c.in_ok-value.ensures.value ∙ sym (value_at c.args.arms.now (c.draw.result % length c.args.arms.now) c.draw.new.self.number _ low)
     ∙ ap₂ (λ (i x : ℕ). value_for (slice_get c.args.arms.now i) x) place n)
@@ -21,6 +21,6 @@ returns-clause-becomes c =
     let e : c.draw.result ≡ draw c.args.self.now = c.draw.ensures.draw ∙ ap draw c.self.view_is in
     let n : c.draw.new.self.number ≡ after c.args.self.now = c.draw.ensures.after ∙ ap after c.self.view_is in
     let place : c.draw.result % length c.args.arms.now ≡ draw c.args.self.now % length c.args.arms.now = ap (λ (z : ℕ). z % length c.args.arms.now) e in
-    let low = mod_below c.draw.result (length c.args.arms.now) (some_length c.args.arms.now c.requires) in
+    let low = mod_below c.draw.result (length c.args.arms.now) (some_length c.args.arms.now c.requires.some) in
     c.in_ok-value.ensures.after ∙ sym (after_at c.args.arms.now (c.draw.result % length c.args.arms.now) c.draw.new.self.number _ low)
     ∙ ap₂ (λ (i x : ℕ). after_arm (slice_get c.args.arms.now i) x) place n

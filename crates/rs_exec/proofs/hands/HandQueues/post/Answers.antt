@@ -2,7 +2,7 @@ use Rattle.std.proofs.Common.{◌≡◌, ◌∙◌, Some, ap, refl, subst, sym}
 use Rattle.rs_model.specs.Sorts.{HasSort}
 use Rattle.rs_model.specs.declared.graph.Arm.{Arm}
 use Rattle.rs_core.specs.Queues.{FindsItFull, IsLongerBy, IsPosted}
-use Rattle.rs_core.specs.Turns.{CanChoose}
+use Rattle.rs_core.specs.Choosable.{CanChoose}
 use Rattle.rs_core.specs.declared.transcripts.Entry.TheVariants as entry
 use Rattle.rs_slots.specs.declared.parcels.Parcel.{Parcel}
 use Rattle.rs_rings.specs.Views.{part_of}

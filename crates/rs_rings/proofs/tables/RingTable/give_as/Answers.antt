@@ -18,4 +18,4 @@ returns-clause-given g c = let k = c.args.self.now.keyed in
     c.requires.pair.differ 0 0 c.args.seat.now.me c.store.new.seat.me
     (slot_place c.args.self.now.layout.roles c.args.self.now.layout.capacity c.args.sender.0 c.args.receiver.0 c.args.got) c.args.parcel.now
     c.requires.middle.speaks_for c.requires.middle.taking_it c.requires.middle.holds c.store.ensures.2) in
-    record { happened = t.0; after = t.1 }
+    record { happened = t.0; loads = t.1.0; after = t.1.1 }

@@ -1,4 +1,4 @@
-use Rattle.std.proofs.Common.{rules, ◌≡◌, ℕ, ◌∷◌, length, Some, sym, ap, ◌∙◌, subst}
+use Rattle.std.proofs.Common.{rules, ◌≡◌, ◌≢◌, ℕ, ◌+◌, ◌<◌, ◌≤◌, ◌∷◌, length, Some, sym, ap, ◌∙◌, subst, arith}
 use Rattle.atomic_table.specs.Table.{rest, step}
 use mathlib.Core.Option.{none}
 use Rattle.rs_rings.specs.declared.views.Part.{Part}
@@ -37,6 +37,7 @@ returns-then-seen-got-clause-looked g c =
       t.0,
       after q (part_with_parcel p r a) v c.load-seen.new.seat.me says role (t.3 (sym is ∙ sym c.if-seen-got.true) ∙ (λ i. (view_with_part q (part_with_parcel p r a) v, c.requires.idle.empty i))),
       t.5,
+      t.6,
     )
 
 pub exchange-requires : goal.exchange-requires
@@ -80,7 +81,19 @@ returns-clause-looked g c =
     let slot : slot_place n cap p q (length (parcels_got p a.history)) ≡ c.slot.result = ap (slot_place n cap p q) (sym is) ∙ sym c.slot.ensures.value in
     let tk = took c.load-seen.new.seat.me c.exchange.new.seat.me p q r (slot_place n cap p q got) c.slot.result x c.in-Some.parcel c.exchange.result v a
     (more.2 ∙ (λ i. (view_with_part q (taking p x r a) v, (slot_place n cap p q (sym is i), Some x) ∷ c.requires.idle.empty i))) c.exchange.ensures.2 c.exchange.ensures.3 c.in-Some.is in
-    ((λ e. c.if-seen-got.false (sym e)), t.0, subst (HasFittingArm g.N.CallName.call.arms) tk.0 more.1, tk.1, t.5, subst (KnowsOldest v p q) tk.0 more.3)
+    let differ : got ≢ r = λ e. c.if-seen-got.false (sym e) in
+    let least : length (parcels_got p a.history) ≤ r = t.1 in
+    let most : r ≤ length (parcels_got p a.history) + cap = t.2 in (
+      differ,
+      t.0,
+      subst (HasFittingArm g.N.CallName.call.arms) tk.0 more.1,
+      tk.1,
+      t.5,
+      subst (KnowsOldest v p q) tk.0 more.3,
+      t.6,
+      (let h : got < r = omega arith in h),
+      (let h : r ≤ got + cap = omega arith in h),
+    )
 
 pub unreachable-unreachable : goal.unreachable-unreachable
 unreachable-unreachable g c =

@@ -81,8 +81,14 @@ returns-in-Found-clause-taken c =
       told.1,
       may,
       subst (λ (z : Part). Happened ms q z.history (got_act p c.in-Found.parcel)) here c.give.ensures.given.happened,
-      after_twice q y (getting p c.in-Found.parcel c.next_of-next.result y) v u.0 c.give.new.seat.me c.requires.idle.speaks_for role (ap (λ m. m.0) told.3)
-          (subst (λ (z : Part). IsAfter q (getting p c.in-Found.parcel c.next_of-next.result z) u.0 c.give.new.seat.me) here c.give.ensures.given.after),
+      (
+        c.give.ensures.given.loads,
+        after_twice q y (getting p c.in-Found.parcel c.next_of-next.result c.give.ensures.given.loads y) v u.0 c.give.new.seat.me c.requires.idle.speaks_for role (ap (λ m. m.0) told.3)
+            (subst (λ (z : Part). IsAfter q (getting p c.in-Found.parcel c.next_of-next.result c.give.ensures.given.loads z) u.0 c.give.new.seat.me) here c.give.ensures.given.after),
+      ),
       told.4,
       told.5,
+      told.6,
+      told.7,
+      told.8,
     )

@@ -1,7 +1,7 @@
 use Rattle.std.proofs.Common.{rules, ◌≡◌, ◌<◌, ◌≤◌, ◌+◌, ℕ, List, length, refl, ap, ◌∙◌, subst, arith, IfSome}
 use Rattle.rs_model.specs.Data.{Machine_data}
 use Rattle.rs_model.specs.declared.graph.Arm.{Arm}
-use Rattle.rs_core.specs.Core.{arm_with}
+use Rattle.rs_core.specs.Ways.{arm_with}
 use Rattle.rs_rings.specs.Acts.{MayPut, parcels_sent}
 use Rattle.rs_rings.specs.Rule.{machines_in_key}
 use Rattle.rs_rings.specs.Views.{the_part}
@@ -91,7 +91,7 @@ returns-in-Done-clause-kept c =
     ∙ c.args.self.now.machine_count) c.args.self.now.layout.bounded c.requires.well_formed c.requires.may.between c.requires.may.speaks_for c.requires.can c.requires.may.acts
     c.counts-counts.ensures in
     let d = c.in-Done.ensures.done in kept_put c.args.seat.now.me c.put_to.new.seat.me c.args.rows.now.items c.note_sent.new.self.items c.args.sender.0 c.args.receiver.0 c.args.parcel d.0
-    c.next_of-next.result (c.counts-counts.result.sent + 1) k.small.1 c.requires.may.between c.requires.may.speaks_for d.4 (ap (λ (z : ℕ). z + 1) k.sent_is) c.note_sent.ensures
+    c.next_of-next.result d.4.0 (c.counts-counts.result.sent + 1) k.small.1 c.requires.may.between c.requires.may.speaks_for d.4.1 (ap (λ (z : ℕ). z + 1) k.sent_is) c.note_sent.ensures
 
 pub returns-in-Done-clause-told : goal.returns-in-Done-clause-told
 returns-in-Done-clause-told c =
@@ -119,8 +119,10 @@ returns-in-Done-clause-told c =
           (λ (z : ℕ). z < d.0 + c.args.self.now.layout.capacity) is d.7;
       may = may;
       happened = d.3;
-      changed = changed p _ m.0 c.put_to.new.seat.me d.4;
+      loads = d.4.0;
+      changed = changed p _ m.0 c.put_to.new.seat.me d.4.1;
       knows = d.5;
+      read = d.8;
     }
 
 pub returns-in-Full-clause-kept : goal.returns-in-Full-clause-kept
@@ -136,4 +138,4 @@ returns-in-Full-clause-told c =
     ∙ c.args.self.now.machine_count) c.args.self.now.layout.bounded c.requires.well_formed c.requires.may.between c.requires.may.speaks_for c.requires.can c.requires.may.acts
     c.counts-counts.ensures in
     let d = c.in-Full.ensures.done in
-    record { is_sent = d.0 ∙ k.sent_is; full = d.0 ∙ d.1; same = d.2; not_less = d.3; changed = changed c.args.sender.0 _ c.args.seat.now.me.0 c.put_to.new.seat.me d.4; knows = d.5 }
+    record { is_sent = d.0 ∙ k.sent_is; full = d.0 ∙ d.1; same = d.2; not_less = d.3; changed = changed c.args.sender.0 _ c.args.seat.now.me.0 c.put_to.new.seat.me d.4; knows = d.5; read = d.6 }

@@ -33,6 +33,7 @@ returns-then-sent-taken-clause-done g c =
       after p (part_with_room q r a) v c.load-taken.new.seat.me c.requires.idle.speaks_for (the_role p v.parts c.requires.idle.speaks_for)
           (t.3 (sym is ∙ full) ∙ (λ i. (view_with_part p (part_with_room q r a) v, c.requires.idle.empty i))),
       t.5,
+      t.6,
     )
 
 pub exchange-requires : goal.exchange-requires
@@ -90,4 +91,5 @@ returns-clause-done g c =
       t.5,
       (let low : r ≤ length (parcels_sent q a.history) = t.1 in let g : r ≤ sent = omega arith in g),
       (let high : length (parcels_sent q a.history) ≤ r + cap = t.2 in let g : sent < r + cap = omega arith in g),
+      t.6,
     )

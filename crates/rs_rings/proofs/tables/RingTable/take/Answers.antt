@@ -1,5 +1,7 @@
-use Rattle.std.proofs.Common.{rules, ◌<◌, ◌+◌, ℕ, length, refl, ap, ◌∙◌, arith}
+use Rattle.std.proofs.Common.{rules, ◌≡◌, ◌<◌, ◌≤◌, ◌+◌, ℕ, length, refl, ap, ◌∙◌, subst, arith}
+use Rattle.rs_rings.specs.Acts.{parcels_got}
 use Rattle.rs_rings.specs.Rule.{machines_in_key}
+use Rattle.rs_rings.specs.Views.{the_part}
 use Rattle.rs_rings.proofs.PassRows.{idle_at, take_knows, kept_got, kept_looked, changed}
 use Rattle.rs_rings.proofs.tables.RingTable.take.Goals as goal
 
@@ -50,7 +52,7 @@ returns-in-One-clause-kept c =
     ∙ c.args.self.now.machine_count) c.args.self.now.layout.bounded c.requires.well_formed c.requires.may.between c.requires.may.speaks_for c.requires.can c.requires.may.acts
     c.counts-counts.ensures in
     let d = c.in-One.ensures.taken in kept_got c.args.seat.now.me c.look_take.new.seat.me c.args.rows.now.items c.note_got.new.self.items c.args.receiver.0 c.args.sender.0 c.in-One.parcel d.0
-    c.in-One.next (c.counts-counts.result.got + 1) k.small.1 c.requires.may.between c.requires.may.speaks_for d.5 (ap (λ (z : ℕ). z + 1) k.got_is) c.note_got.ensures
+    c.in-One.next d.5.0 (c.counts-counts.result.got + 1) k.small.1 c.requires.may.between c.requires.may.speaks_for d.5.1 (ap (λ (z : ℕ). z + 1) k.got_is) c.note_got.ensures
 
 pub returns-in-One-clause-told : goal.returns-in-One-clause-told
 returns-in-One-clause-told c =
@@ -60,16 +62,22 @@ returns-in-One-clause-told c =
     ∙ c.args.self.now.machine_count) c.args.self.now.layout.bounded c.requires.well_formed c.requires.may.between c.requires.may.speaks_for c.requires.can c.requires.may.acts
     c.counts-counts.ensures in
     let d = c.in-One.ensures.taken in
+    let got : ℕ = c.counts-counts.result.got in
+    let is : got ≡ length (parcels_got c.args.sender.0 (the_part c.args.receiver.0 c.args.seat.now.me.0.parts).history) = k.got_is in
     record {
       put = d.0;
       next = c.in-One.next;
       not_less = d.2;
       more = λ e. d.1
           (k.got_is ∙ e);
+      above = subst (λ (z : ℕ). z < d.0) is d.9;
+      not_more = subst (λ (z : ℕ). d.0 ≤ z + c.args.self.now.layout.capacity) is d.10;
       may = d.3;
       happened = d.4;
-      changed = changed c.args.receiver.0 _ c.args.seat.now.me.0 c.look_take.new.seat.me d.5;
+      loads = d.5.0;
+      changed = changed c.args.receiver.0 _ c.args.seat.now.me.0 c.look_take.new.seat.me d.5.1;
       knows = d.6;
+      read = d.8;
       oldest = d.7;
     }
 
@@ -86,4 +94,4 @@ returns-in-Nothing-clause-told c =
     ∙ c.args.self.now.machine_count) c.args.self.now.layout.bounded c.requires.well_formed c.requires.may.between c.requires.may.speaks_for c.requires.can c.requires.may.acts
     c.counts-counts.ensures in
     let d = c.in-Nothing.ensures.taken in
-    record { is_got = d.0 ∙ k.got_is; not_less = d.1; changed = changed c.args.receiver.0 _ c.args.seat.now.me.0 c.look_take.new.seat.me d.2; knows = d.3 }
+    record { is_got = d.0 ∙ k.got_is; not_less = d.1; changed = changed c.args.receiver.0 _ c.args.seat.now.me.0 c.look_take.new.seat.me d.2; knows = d.3; read = d.4 }

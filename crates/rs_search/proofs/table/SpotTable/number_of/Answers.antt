@@ -1,18 +1,19 @@
-use Rattle.std.proofs.Common.{arith, ◌≡◌, ◌≢◌, ◌<◌, ◌≤◌, ◌+◌, ◌++◌, ◌∷◌, [], ◌∙◌, ℕ, List, length, length-append, slice_get, take, Some, ap, refl, sym, subst}
+use Rattle.std.proofs.Common.{arith, ◌≡◌, ◌≢◌, ◌<◌, ◌≤◌, ◌+◌, ◌++◌, ◌∷◌, [], ◌∙◌, ℕ, List, length, length-append, slice_get, get_or, take, Some, ap, refl, sym, subst}
 use Rattle.std.proofs.lemmas.List.{get_or_default, length-map, map_push, take-append-le}
 use Rattle.std.proofs.lemmas.Option.{same_Some}
 use Rattle.std.proofs.lemmas.Result.{IfOk-weaker, MatchResult-weaker}
 use Rattle.rs_model.specs.declared.machines.Act.{Act}
-use Rattle.rs_derive.specs.Checks.{target_spot}
+use Rattle.rs_derive.specs.Targets.{target_spot}
 use Rattle.rs_derive.specs.Data.{DNode_data}
 use Rattle.rs_derive.specs.Derivations.{spot_of}
 use Rattle.rs_derive.specs.Moves.{Spot}
 use Rattle.rs_derive.specs.Within.{IsPlaceWithin}
+use Rattle.rs_derive.specs.declared.targets.EdgeTarget.{EdgeTarget}
 use Rattle.rs_graph.proofs.Growth.{at_short, named_known}
-use Rattle.rs_graph.specs.Discovery.{IsNamed}
+use Rattle.rs_graph.specs.Naming.{IsNamed}
 use Rattle.rs_search.specs.Buckets.{acts_code, bucket_by, bucket_of_spot}
 use Rattle.rs_model.specs.Chains.{IsChained}
-use Rattle.rs_search.specs.Table.{IsNamedAt, SpotTable_data, links_of, nexts_of_nodes, spots_of}
+use Rattle.rs_search.specs.Table.{IsNamedAt, IsWithinAt, SpotTable_data, links_of, nexts_of_nodes, spots_of}
 use Rattle.rs_search.specs.declared.table.Entry.{Entry}
 use Rattle.rs_search.proofs.Filing.{code_at, entry_there, is_added, node_there, spot_there, table_push}
 use Rattle.rs_search.proofs.table.SpotTable.number_of.Goals as goal
@@ -24,18 +25,17 @@ rows_push nodes new known node h e =
     ap (λ (z : List DNode_data). take known (nexts_of_nodes z)) e ∙ ap (take known) (map_push (λ (n : DNode_data). n.next) nodes node)
     ∙ take-append-le known (nexts_of_nodes nodes) (node.next ∷ []) (omega arith)
 
+-- the place that a change names is one of what its node owes
+place_there : (nodes : List DNode_data) (spots : List Spot) (k : ℕ) (x : DNode_data) (pending : List Act) (target : EdgeTarget) → spots_of nodes ≡ spots → k < length spots → x ≡ get_or nodes k x
+    → x.pending ≡ pending → IsWithinAt spots k target → IsPlaceWithin (length pending) target.change
+place_there nodes spots k x pending target es lt h pe within =
+    subst (λ (z : List Act). IsPlaceWithin (length z) target.change) pe (within (spot_of x) (spot_there nodes spots k x es lt h))
+
 pub code_behind-code-requires-clause-within : goal.code_behind-code-requires-clause-within
 code_behind-code-requires-clause-within c =
-    let nodes = c.self.inside.nodes.items in
-    let heads = c.self.inside.index.heads.items in
-    let entries = c.self.inside.index.entries.items in
-    let spots = c.args.self.now.spots in
-    let k = c.args.k in
-    let x = c.index-from.result.now in
-    let es : spots_of nodes ≡ spots = ap (λ (t : SpotTable_data). t.spots) c.self.view_is in
-    let at : slice_get spots k ≡ Some (spot_of x) = spot_there nodes spots k x es c.requires.within.present c.index-from.ensures in
-    let pe : x.pending ≡ c.as_slice-pending.result.now = ap (λ (n : DNode_data). n.pending) (sym c.from.view_is) ∙ sym c.as_slice-pending.ensures in
-    subst (λ (z : List Act). IsPlaceWithin (length z) c.args.target.change) pe (c.requires.place (spot_of x) at)
+    place_there c.self.inside.nodes.items c.args.self.now.spots c.args.k c.index-from.result.now c.as_slice-pending.result.now c.args.target
+    (ap (λ (t : SpotTable_data). t.spots) c.self.view_is) c.requires.within.present c.index-from.ensures
+    (ap (λ (n : DNode_data). n.pending) (sym c.from.view_is) ∙ sym c.as_slice-pending.ensures) c.requires.place
 
 pub code_behind-code-requires-clause-code : goal.code_behind-code-requires-clause-code
 code_behind-code-requires-clause-code c =
@@ -66,16 +66,9 @@ seek-requires-clause-within c =
 
 pub seek-requires-clause-place : goal.seek-requires-clause-place
 seek-requires-clause-place c =
-    let nodes = c.self.inside.nodes.items in
-    let heads = c.self.inside.index.heads.items in
-    let entries = c.self.inside.index.entries.items in
-    let spots = c.args.self.now.spots in
-    let k = c.args.k in
-    let x = c.index-from.result.now in
-    let es : spots_of nodes ≡ spots = ap (λ (t : SpotTable_data). t.spots) c.self.view_is in
-    let at : slice_get spots k ≡ Some (spot_of x) = spot_there nodes spots k x es c.requires.within.present c.index-from.ensures in
-    let pe : x.pending ≡ c.as_slice-pending.result.now = ap (λ (n : DNode_data). n.pending) (sym c.from.view_is) ∙ sym c.as_slice-pending.ensures in
-    subst (λ (z : List Act). IsPlaceWithin (length z) c.args.target.change) pe (c.requires.place (spot_of x) at)
+    place_there c.self.inside.nodes.items c.args.self.now.spots c.args.k c.index-from.result.now c.as_slice-pending.result.now c.args.target
+    (ap (λ (t : SpotTable_data). t.spots) c.self.view_is) c.requires.within.present c.index-from.ensures
+    (ap (λ (n : DNode_data). n.pending) (sym c.from.view_is) ∙ sym c.as_slice-pending.ensures) c.requires.place
 
 pub returns-in-Some-clause-named : goal.returns-in-Some-clause-named
 returns-in-Some-clause-named c =
