@@ -116,3 +116,14 @@ fn copies_are_made(rt: HostRuntime) -> Result<(), Fail> {
     assert!(rt; numbers.fits(Sort::Numbers));
     Ok(())
 }
+
+#[test]
+fn a_nat_has_two_sorts(rt: HostRuntime) {
+    let greatest = Value::Natural(9_223_372_036_854_775_807);
+    assert!(rt; greatest.fits(Sort::Natural) && greatest.fits(Sort::Whole));
+    let greater = Value::Natural(9_223_372_036_854_775_808);
+    assert!(rt; !greater.fits(Sort::Natural) && !greater.fits(Sort::Whole));
+    let number = Value::Whole(7);
+    assert!(rt; number.fits(Sort::Whole) && !number.fits(Sort::Natural));
+    assert!(rt; Sort::Natural.serves(Sort::Whole) && !Sort::Whole.serves(Sort::Natural));
+}

@@ -14,7 +14,7 @@ use Rattle.rs_core.specs.Plain.{Moment, Ended, IsPlain}
 use Rattle.rs_core.specs.Runs.{IsGiven, HasActors}
 use Rattle.rs_core.specs.Histories.{Got, History}
 use Rattle.rs_core.proofs.Fifo.{sents, gots}
-use Rattle.rs_demos.specs.Acting.{by_demo, actor_behind_value}
+use Rattle.rs_demos.specs.Acting.{by_demo, actor_behind_value, number_told, ring_behind}
 use Rattle.rs_demos.specs.Numbers.{SpellsNumbers, takes_numbers}
 use Rattle.rs_demos.specs.Outputs.{output_of, result_of}
 use Rattle.rs_demos.specs.Results.{Computes, results_text, sums_of, sum_of_numbers, in_64_bits}
@@ -68,12 +68,7 @@ many_sent x [] = refl
 many_sent x (v ∷ vs) = ap suc (many_sent (actor_behind_value x v) vs)
 
 ring_stays : (m : RingMember) (v : Value) → (k : RingMember) × (actor_behind_value (actor.RingMember m) v ≡ actor.RingMember k)
-ring_stays m value.Unit = (m, refl)
-ring_stays m (value.Flag b) = (m, refl)
-ring_stays m (value.Natural n) = (m, refl)
-ring_stays m (value.Whole z) = (record { last = z; sum = in_64_bits (m.sum +ℤ z) }, refl)
-ring_stays m (value.Octets b) = (m, refl)
-ring_stays m (value.Numbers zs) = (m, refl)
+ring_stays m v = (ring_behind m (number_told v), refl)
 
 first_sent : (m : RingMember) (vs : List Value) → 0 < length vs → slice_get (all_sent (actor.RingMember m) vs) 0 ≡ Some (msg (value.Whole m.last))
 first_sent m [] h = absurd (omega arith)

@@ -38,18 +38,8 @@ chooses (actor.Kernel k) next h = absurd (cc (h))
 chooses (actor.Sink b) next h = absurd (cc (h))
 
 pub stays_member : (x : DemoActor) (v : Value) → is_member x ≡ true → is_member (actor_behind_value x v) ≡ true
-stays_member (actor.RingMember m) value.Unit h = refl
-stays_member (actor.RingMember m) (value.Flag b) h = refl
-stays_member (actor.RingMember m) (value.Natural n) h = refl
-stays_member (actor.RingMember m) (value.Whole z) h = refl
-stays_member (actor.RingMember m) (value.Octets b) h = refl
-stays_member (actor.RingMember m) (value.Numbers z) h = refl
-stays_member (actor.ButterflyMember m) value.Unit h = refl
-stays_member (actor.ButterflyMember m) (value.Flag b) h = refl
-stays_member (actor.ButterflyMember m) (value.Natural n) h = refl
-stays_member (actor.ButterflyMember m) (value.Whole z) h = refl
-stays_member (actor.ButterflyMember m) (value.Octets b) h = refl
-stays_member (actor.ButterflyMember m) (value.Numbers z) h = refl
+stays_member (actor.RingMember m) v h = refl
+stays_member (actor.ButterflyMember m) v h = refl
 stays_member (actor.Source b) v h = absurd (cc (h))
 stays_member (actor.Kernel k) v h = absurd (cc (h))
 stays_member (actor.Sink b) v h = absurd (cc (h))

@@ -1,5 +1,5 @@
 -- Public: what the actors of the demos choose, and what they become.
-use Rattle.std.specs.Prelude.{ℕ, ◌/◌, ◌%◌, ℤ, ◌+ℤ◌, ◌-ℤ◌, List, [], ◌∷◌, ◌++◌, take, drop, ◌==◌, if◌then◌else◌, Option, Some, None}
+use Rattle.std.specs.Prelude.{ℕ, ◌/◌, ◌%◌, ◌^◌, ℤ, pos, ◌+ℤ◌, ◌-ℤ◌, List, [], ◌∷◌, ◌++◌, take, drop, ◌==◌, nat_lt, if◌then◌else◌, Option, Some, None}
 use Rattle.rs_model.specs.Values.{empty_value}
 use Rattle.rs_demos.specs.declared.parts.TheConstants.{PIECE_BYTES}
 use Rattle.rs_model.specs.Serving.{serves}
@@ -51,7 +51,7 @@ sort_of (value.Whole z) = sort.Whole
 sort_of (value.Octets bytes) = sort.Octets
 sort_of (value.Numbers zs) = sort.Numbers
 
--- the first of the first two arms that has the sort: no state of a demo has more than two arms
+-- the first of the first two arms where a value of the sort may stand: no state of a demo has more than two arms
 abbrev pub arm_place : Sort → List Arm → Option ℕ
 arm_place s [] = None
 arm_place s (a ∷ []) = if serves s a.sort then Some 0 else None
@@ -82,9 +82,20 @@ actor_behind_choice x None = x
 abbrev pub arm_for : DemoActor → List Arm → Option ℕ
 arm_for x arms = arm_place (sort_of (value_at_hand x)) arms
 
+-- the number that a value of the sort `int` tells, also where it is a natural number; any other value tells none
+abbrev pub number_told : Value → Option ℤ
+number_told (value.Whole c) = Some c
+number_told (value.Natural n) = if nat_lt n (2 ^ 63) then Some (pos n) else None
+number_told v = None
+
 -- a number comes to a member of a ring: it is the last one, and is added to the sum
 abbrev pub ring_told : RingMember → ℤ → RingMember
 ring_told m c = record { last = c; sum = in_64_bits (m.sum +ℤ c) }
+
+-- a member of a ring where a value came that tells this number, if any
+abbrev pub ring_behind : RingMember → Option ℤ → RingMember
+ring_behind m (Some c) = ring_told m c
+ring_behind m None = m
 
 -- a number c comes to a member of a butterfly that holds a: where this round's bit of its role is clear, it then holds
 -- a + c, and c - a where the bit is set
@@ -95,12 +106,18 @@ butterfly_sum m c = if m.bits % 2 == 0 then in_64_bits (m.held +ℤ c) else in_6
 abbrev pub butterfly_told : ButterflyMember → ℤ → ButterflyMember
 butterfly_told m c = record { bits = m.bits / 2; held = butterfly_sum m c }
 
--- what an actor becomes when a value comes: a kernel holds the piece, each byte inverted; a sink joins the pieces
+-- a member of a butterfly where a value came that tells this number, if any
+abbrev pub butterfly_behind : ButterflyMember → Option ℤ → ButterflyMember
+butterfly_behind m (Some c) = butterfly_told m c
+butterfly_behind m None = m
+
+-- what an actor becomes when a value comes: a kernel holds the piece, each byte inverted; a sink joins the pieces; a
+-- member is told the number
 abbrev pub actor_behind_value : DemoActor → Value → DemoActor
 actor_behind_value (actor.Kernel k) (value.Octets bytes) = actor.Kernel (record { piece = Some (inverse_bytes bytes) })
 actor_behind_value (actor.Sink bytes) (value.Octets piece) = actor.Sink (bytes ++ piece)
-actor_behind_value (actor.RingMember m) (value.Whole c) = actor.RingMember (ring_told m c)
-actor_behind_value (actor.ButterflyMember m) (value.Whole c) = actor.ButterflyMember (butterfly_told m c)
+actor_behind_value (actor.RingMember m) v = actor.RingMember (ring_behind m (number_told v))
+actor_behind_value (actor.ButterflyMember m) v = actor.ButterflyMember (butterfly_behind m (number_told v))
 actor_behind_value x v = x
 
 -- how the actors of the demos behave

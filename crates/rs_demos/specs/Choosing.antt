@@ -1,57 +1,47 @@
 -- Steps: the law of the actors of the demos: each chooses an arm that is there, and a value of its sort.
 use Rattle.std.proofs.Common.{◌≡◌, ◌≢◌, ℕ, List, [], ◌∷◌, Option, Some, None, slice_get, Bool, true, false, refl, subst, if◌then◌else◌}
 use Rattle.rs_model.specs.Sorts.{HasSort}
-use Rattle.rs_model.specs.Serving.{serves}
+use Rattle.rs_model.specs.Serving.{Serves, serves}
 use Rattle.rs_model.specs.declared.graph.Arm.{Arm}
 use Rattle.rs_model.specs.declared.values.Sort.{Sort}
-use Rattle.rs_model.specs.declared.values.Sort.TheVariants as sort
 use Rattle.rs_model.specs.declared.values.Value.TheVariants as value
 use Rattle.rs_model.proofs.EmptyValues.{empty_fits}
+use Rattle.rs_model.proofs.Serving.{has_served_sort, serves_by_test}
 use Rattle.rs_core.specs.Actors.{ChoosesWell}
 use Rattle.rs_demos.specs.Acting.{value_at_hand, sort_of, arm_place, octets_or_unit, next_piece, empty_for, chosen_at, arm_for, by_demo}
 use Rattle.rs_demos.specs.declared.actors.DemoActor.{DemoActor}
 use Rattle.rs_demos.specs.declared.actors.DemoActor.TheVariants as actor
 
--- what serves a sort is of it
-serves_is : (s t : Sort) → serves s t ≡ true → s ≡ t
-serves_is sort.Unit sort.Unit h = refl
-serves_is sort.Flag sort.Flag h = refl
-serves_is sort.Natural sort.Natural h = refl
-serves_is sort.Whole sort.Whole h = refl
-serves_is sort.Octets sort.Octets h = refl
-serves_is sort.Numbers sort.Numbers h = refl
-serves_is s t h = absurd (cc (h))
-
 -- the bytes or the unit have their sort
-octets_fit : (o : Option (List ℕ)) (s : Sort) → sort_of (octets_or_unit o) ≡ s → HasSort (octets_or_unit o) s
-octets_fit None s e = let P : Sort → Type 0 = λ z. HasSort value.Unit z in subst P e refl
-octets_fit (Some bytes) s e = let P : Sort → Type 0 = λ z. HasSort (value.Octets bytes) z in subst P e refl
+octets_fit : (o : Option (List ℕ)) → HasSort (octets_or_unit o) (sort_of (octets_or_unit o))
+octets_fit None = refl
+octets_fit (Some bytes) = refl
 
 -- what an actor wants has its sort
-wanted_fits : (x : DemoActor) (s : Sort) → sort_of (value_at_hand x) ≡ s → HasSort (value_at_hand x) s
-wanted_fits (actor.Source bytes) s e = octets_fit (next_piece bytes) s e
-wanted_fits (actor.Kernel k) s e = octets_fit k.piece s e
-wanted_fits (actor.Sink bytes) s e = let P : Sort → Type 0 = λ z. HasSort value.Unit z in subst P e refl
-wanted_fits (actor.RingMember m) s e = let P : Sort → Type 0 = λ z. HasSort (value.Whole m.last) z in subst P e refl
-wanted_fits (actor.ButterflyMember m) s e = let P : Sort → Type 0 = λ z. HasSort (value.Whole m.held) z in subst P e refl
+wanted_fits : (x : DemoActor) → HasSort (value_at_hand x) (sort_of (value_at_hand x))
+wanted_fits (actor.Source bytes) = octets_fit (next_piece bytes)
+wanted_fits (actor.Kernel k) = octets_fit k.piece
+wanted_fits (actor.Sink bytes) = refl
+wanted_fits (actor.RingMember m) = refl
+wanted_fits (actor.ButterflyMember m) = refl
 
--- the place is that of an arm with the sort
+-- the place is that of an arm where a value of the sort may stand
 place_right : (s : Sort) (arms : List Arm) (place : ℕ) → arm_place s arms ≡ Some place
-    → (arm : Arm) × (slice_get arms place ≡ Some arm) × (s ≡ arm.sort)
+    → (arm : Arm) × (slice_get arms place ≡ Some arm) × Serves s arm.sort
 place_right s [] place e = absurd (cc (e))
 place_right s (a ∷ []) place e = go (serves s a.sort) refl e
   where
     go : (b : Bool) → serves s a.sort ≡ b → (if b then Some 0 else None) ≡ Some place
-        → (arm : Arm) × (slice_get (a ∷ []) place ≡ Some arm) × (s ≡ arm.sort)
-    go true h k = (a, (let z : 0 ≡ place = cc (k) in let P : ℕ → Type 0 = λ i. slice_get (a ∷ []) i ≡ Some a in subst P z refl), serves_is s a.sort h)
+        → (arm : Arm) × (slice_get (a ∷ []) place ≡ Some arm) × Serves s arm.sort
+    go true h k = (a, (let z : 0 ≡ place = cc (k) in let P : ℕ → Type 0 = λ i. slice_get (a ∷ []) i ≡ Some a in subst P z refl), serves_by_test s a.sort h)
     go false h k = absurd (cc (k))
 place_right s (a ∷ b ∷ others) place e = go (serves s a.sort) (serves s b.sort) refl refl e
   where
     go : (one two : Bool) → serves s a.sort ≡ one → serves s b.sort ≡ two
         → (if one then Some 0 else (if two then Some 1 else None)) ≡ Some place
-        → (arm : Arm) × (slice_get (a ∷ b ∷ others) place ≡ Some arm) × (s ≡ arm.sort)
-    go true two h i k = (a, (let z : 0 ≡ place = cc (k) in let P : ℕ → Type 0 = λ i. slice_get (a ∷ b ∷ others) i ≡ Some a in subst P z refl), serves_is s a.sort h)
-    go false true h i k = (b, (let z : 1 ≡ place = cc (k) in let P : ℕ → Type 0 = λ i. slice_get (a ∷ b ∷ others) i ≡ Some b in subst P z refl), serves_is s b.sort i)
+        → (arm : Arm) × (slice_get (a ∷ b ∷ others) place ≡ Some arm) × Serves s arm.sort
+    go true two h i k = (a, (let z : 0 ≡ place = cc (k) in let P : ℕ → Type 0 = λ i. slice_get (a ∷ b ∷ others) i ≡ Some a in subst P z refl), serves_by_test s a.sort h)
+    go false true h i k = (b, (let z : 1 ≡ place = cc (k) in let P : ℕ → Type 0 = λ i. slice_get (a ∷ b ∷ others) i ≡ Some b in subst P z refl), serves_by_test s b.sort i)
     go false false h i k = absurd (cc (k))
 
 -- the first arm is there, and its empty value has its sort
@@ -68,4 +58,4 @@ chooses_well_shown x arms some = go (arm_for x arms) refl
     go None e = first_there arms some
     go (Some place) e =
         let r = place_right (sort_of (value_at_hand x)) arms place e in
-        (r.0, r.1, wanted_fits x r.0.sort r.2)
+        (r.0, r.1, has_served_sort (value_at_hand x) (sort_of (value_at_hand x)) r.0.sort (wanted_fits x) r.2)

@@ -2,7 +2,7 @@
 
 ghost use Rattle.std.specs.Prelude.{◌≡◌, ◌≢◌, ◌+ℤ◌, ◌-ℤ◌, [], IfOk, OnErr, OnOk};
 ghost use Rattle.rs_model.specs.Serving.{serves, sort_number};
-ghost use Rattle.rs_demos.specs.Acting.{after_sending, butterfly_told, by_demo, arm_place, ring_told, sort_of, actor_behind_value, value_at_hand};
+ghost use Rattle.rs_demos.specs.Acting.{after_sending, butterfly_behind, butterfly_told, by_demo, arm_place, number_told, ring_behind, ring_told, sort_of, actor_behind_value, value_at_hand};
 ghost use Rattle.rs_demos.specs.Choosing.{chooses_well_shown};
 ghost use Rattle.rs_demos.specs.Results.{inverse_bytes, in_64_bits};
 
@@ -58,13 +58,24 @@ impl DemoActor {
     }
 }
 
-/// The first of the first two arms that has the sort.
+/// The first of the first two arms where a value of the sort may stand.
 fn arm_place(sort: Sort, arms: &[Arm]) -> Option<u16>
     ensures { result ≡ arm_place sort arms.now }
 {
     match arms {
         [first, ..] if sort.serves(first.sort) => Some(0),
         [_, second, ..] if sort.serves(second.sort) => Some(1),
+        _ => None,
+    }
+}
+
+/// The number that a value of the sort `int` tells.
+fn number_told(value: &Value) -> Option<i64>
+    ensures { result ≡ number_told value.now }
+{
+    match value {
+        Value::Whole(number) => Some(*number),
+        Value::Natural(number) => i64::try_from(*number).ok(),
         _ => None,
     }
 }
@@ -101,6 +112,16 @@ impl RingMember {
             sum: sum(self.sum, number),
         }
     }
+
+    /// What it is when the value has come.
+    fn behind_value(self, value: &Value) -> RingMember
+        ensures { result ≡ ring_behind self (number_told value.now) }
+    {
+        match number_told(value) {
+            Some(number) => self.with_number(number),
+            None => self,
+        }
+    }
 }
 
 impl ButterflyMember {
@@ -116,6 +137,16 @@ impl ButterflyMember {
         ButterflyMember {
             bits: self.bits / 2,
             held,
+        }
+    }
+
+    /// What it is when the value has come.
+    fn behind_value(self, value: &Value) -> ButterflyMember
+        ensures { result ≡ butterfly_behind self (number_told value.now) }
+    {
+        match number_told(value) {
+            Some(number) => self.with_number(number),
+            None => self,
         }
     }
 }
@@ -144,11 +175,8 @@ impl Actor for DemoActor {
                 kernel.piece = Some(inverse_bytes(alloc, bytes.as_slice())?);
             }
             (DemoActor::Sink(sink), Value::Octets(piece)) => sink.append(piece.as_slice())?,
-            (DemoActor::RingMember(member), Value::Whole(number)) => *member = member.with_number(
-                *number,
-            ),
-            (DemoActor::ButterflyMember(member), Value::Whole(number)) => *member =
-                member.with_number(*number),
+            (DemoActor::RingMember(member), value) => *member = member.behind_value(value),
+            (DemoActor::ButterflyMember(member), value) => *member = member.behind_value(value),
             _ => {}
         }
         Ok(())

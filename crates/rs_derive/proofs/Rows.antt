@@ -3,6 +3,7 @@ use Rattle.std.proofs.Common.{◌≡◌, ℕ, zero, suc, List, [], ◌∷◌, le
 use Rattle.std.proofs.lemmas.Bool.{lt-ltb, and_parts, false≢true}
 use Rattle.std.proofs.lemmas.Option.{none-some, same_Some}
 use Rattle.rs_model.specs.Data.{Machine_data}
+use Rattle.rs_model.proofs.Serving.{serves_by_test, test_by_serves}
 use Rattle.rs_model.specs.Serving.{Serves}
 use Rattle.rs_model.specs.declared.graph.Arm.{Arm}
 use Rattle.rs_model.specs.declared.graph.Role.{Role}
@@ -10,9 +11,8 @@ use Rattle.rs_model.specs.declared.machines.Act.{Act}
 use Rattle.rs_model.specs.declared.machines.Act.TheVariants as act
 use Rattle.rs_model.specs.declared.machines.State.{State}
 use Rattle.rs_model.specs.declared.machines.State.TheVariants.{Done, Puts, Takes}
-use Rattle.rs_derive.proofs.Acts.{sort_is}
 use Rattle.rs_derive.proofs.Mapped.{map_at, map_of}
-use Rattle.rs_derive.proofs.Ruled.{Row, Stopping, PayingSend, SendingBoth, Guessing, SendingAhead, PayingReceive, ReceivingAhead, applies, row_of, serve}
+use Rattle.rs_derive.proofs.Ruled.{Row, Stopping, PayingSend, SendingBoth, Guessing, SendingAhead, PayingReceive, ReceivingAhead, applies, row_of}
 use Rattle.rs_derive.specs.Derivations.{KeepsItsHead}
 use Rattle.rs_derive.specs.Due.{Chosen, Due, both_at, due, due_at, due_by, due_of, nexts_by}
 use Rattle.rs_derive.specs.Moves.{Both, HasMove, Stops, PaysSend, SendsBoth, Guesses, SendsAhead, PaysReceive, ReceivesAhead, Spot, arm_of, owing_receive, owing_send, spot}
@@ -59,7 +59,7 @@ both_serve theirs pending [] (r ∷ rs) b = refl
 both_serve theirs pending (a ∷ later) [] b = absurd b
 both_serve theirs pending (a ∷ later) (r ∷ rs) b =
     let x = b.0 in
-    rw (x.1, serve a.sort x.0.sort x.2, both_serve theirs pending later rs b.1) refl
+    rw (x.1, test_by_serves a.sort x.0.sort x.2, both_serve theirs pending later rs b.1) refl
 
 both_picks : (theirs : List Arm) (pending : List Act) (arms : List Arm) (rs : List Spot) → Both theirs pending arms rs
     → Chosen (map (λ a. both_at pending a (arm_of theirs a.label)) arms) rs
@@ -201,7 +201,7 @@ follow_all p r (b ∷ theirs) (x ∷ rs) h =
 
 pub served : (a : Arm) (o : Option Arm) → serves_some a o ≡ true → (b : Arm) × (o ≡ Some b) × Serves a.sort b.sort
 served a None e = absurd (false≢true e)
-served a (Some b) e = (b, refl, sort_is a.sort b.sort e)
+served a (Some b) e = (b, refl, serves_by_test a.sort b.sort e)
 
 both_of : (theirs : List Arm) (pending : List Act) (arms : List Arm) (rs : List Spot) → all_serve theirs arms ≡ true
     → Chosen (map (λ a. both_at pending a (arm_of theirs a.label)) arms) rs → Both theirs pending arms rs

@@ -2,7 +2,8 @@
 use Rattle.std.proofs.Common.{◌≡◌, ◌≢◌, ℕ, List, [], ◌∷◌, length, slice_get, Bool, true, false, cond, eqb, ◌&&◌, Option, Some, None, IfSome, refl, sym, ap, subst, ◌∙◌, arith}
 use Rattle.std.proofs.lemmas.Bool.{eqb-true, eqb-false, eq-eqb, ne_eqb, and_parts}
 use Rattle.std.proofs.lemmas.Option.{none-some, same_Some, slice_get_within}
-use Rattle.rs_model.specs.Serving.{Serves, serves, sort_number}
+use Rattle.rs_model.proofs.Serving.{serves_by_test, test_by_serves}
+use Rattle.rs_model.specs.Serving.{Serves, serves}
 use Rattle.rs_model.specs.declared.graph.Arm.{Arm}
 use Rattle.rs_model.specs.declared.graph.Label.{Label}
 use Rattle.rs_model.specs.declared.graph.Role.{Role}
@@ -18,7 +19,7 @@ use Rattle.rs_prefix.specs.declared.earliest.Found.{Found}
 use Rattle.rs_prefix.specs.declared.earliest.Found.TheVariants.{At, Blocked, Absent}
 use Rattle.rs_prefix.specs.declared.earliest.ActKind.{ActKind}
 use Rattle.rs_prefix.specs.declared.earliest.ActKind.TheVariants.{Send, Receive}
-use Rattle.rs_derive.proofs.Acts.{label_is, role_is, sort_is}
+use Rattle.rs_derive.proofs.Acts.{label_is, role_is}
 use Rattle.rs_derive.specs.Moves.{arm_of}
 use Rattle.rs_derive.specs.Rules.{RuleFits, all_serve, arms_at, arms_of, end_rule, pay_receive_rule, pay_send_rule, receive_past_rule, receive_rule, rule_at, send_past_rule, send_rule, served_rule}
 use Rattle.rs_derive.specs.Within.{HasLabelsOnce, IsOnceAt}
@@ -37,17 +38,14 @@ pub data Row (pending : List Act) : State → Option State → Rule → Type 0 w
       → slice_get pending place ≡ Some (act.Takes q l so) → arm_of arms l ≡ Some a → Serves so a.sort → Row pending (Takes q arms) t (Pays place a)
   ReceivingAhead : (q r : Role) (arms theirs : List Arm) → IsAbsent pending Receive q → Row pending (Takes q arms) (Some (Takes r theirs)) (Follows r)
 
-pub serve : (a b : Sort) → Serves a b → serves a b ≡ true
-serve a b e = eq-eqb (sort_number a) (sort_number b) (ap sort_number e)
-
 -- in each row its rule applies
 pub applies : (pending : List Act) (s : State) (t : Option State) (rule : Rule) → Row pending s t rule → rule_at pending s t ≡ Some rule
 applies pending _ _ _ (Stopping e) = rw e refl
-applies pending _ _ _ (PayingSend q a place so t found at sv) = rw (is pending Send q (At place) found, at, eq-eqb a.label.0 a.label.0 refl, serve a.sort so sv) refl
+applies pending _ _ _ (PayingSend q a place so t found at sv) = rw (is pending Send q (At place) found, at, eq-eqb a.label.0 a.label.0 refl, test_by_serves a.sort so sv) refl
 applies pending _ _ _ (SendingBoth q arms theirs none all) = rw (is pending Send q Absent none, eq-eqb q.0 q.0 refl, all) refl
 applies pending _ _ _ (Guessing q r arms theirs none ne) = rw (is pending Send q Absent none, ne_eqb r.0 q.0 (λ e. ne (role_is r q (eq-eqb r.0 q.0 e)))) refl
 applies pending _ _ _ (SendingAhead q r arms theirs none) = rw (is pending Send q Absent none) refl
-applies pending _ _ _ (PayingReceive q arms place l so a t found at arm sv) = rw (is pending Receive q (At place) found, at, arm, serve so a.sort sv) refl
+applies pending _ _ _ (PayingReceive q arms place l so a t found at arm sv) = rw (is pending Receive q (At place) found, at, arm, test_by_serves so a.sort sv) refl
 applies pending _ _ _ (ReceivingAhead q r arms theirs none) = rw (is pending Receive q Absent none) refl
 
 -- a rule that applies has a row
@@ -85,13 +83,13 @@ row_pay pending q t place (a ∷ []) (Some (act.Puts r l so)) found e =
     (let k = and_parts (eqb a.label.0 l.0) (serves a.sort so) h in
     let peer : r ≡ q = role_is r q (has_kind pending Send q place (act.Puts r l so) found e) in
     let label : l ≡ a.label = sym (label_is a.label l k.0) in
-    PayingSend q a place so t found (e ∙ ap (λ x. Some (act.Puts x l so)) peer ∙ ap (λ x. Some (act.Puts q x so)) label) (sort_is a.sort so k.1)))
+    PayingSend q a place so t found (e ∙ ap (λ x. Some (act.Puts x l so)) peer ∙ ap (λ x. Some (act.Puts q x so)) label) (serves_by_test a.sort so k.1)))
 
 row_served : (pending : List Act) (q : Role) (t : Option State) (arms : List Arm) (place : ℕ) (l : Label) (so : Sort) (o : Option Arm) → IsFound pending Receive q place
     → slice_get pending place ≡ Some (act.Takes q l so) → arm_of arms l ≡ o → RowOf pending (Takes q arms) t (served_rule place so o)
 row_served pending q t arms place l so None found e arm = tt
 row_served pending q t arms place l so (Some a) found e arm =
-    row_if pending (Takes q arms) t (serves so a.sort) (Pays place a) (λ h. PayingReceive q arms place l so a t found e arm (sort_is so a.sort h))
+    row_if pending (Takes q arms) t (serves so a.sort) (Pays place a) (λ h. PayingReceive q arms place l so a t found e arm (serves_by_test so a.sort h))
 
 row_take : (pending : List Act) (q : Role) (t : Option State) (place : ℕ) (arms : List Arm) (o : Option Act) → IsFound pending Receive q place → slice_get pending place ≡ o
     → RowOf pending (Takes q arms) t (pay_receive_rule place arms o)

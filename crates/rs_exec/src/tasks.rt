@@ -256,7 +256,7 @@ impl<A: Actor> TurnTaker<A> {
     /// What the role offers to send: the choice that was kept, or else what the actor chooses.
     fn offer(&mut self, alloc: Global, arms: &[Arm]) -> Result<(u16, Value), NoMemory>
         requires some { arms.now ≢ [] }
-        requires few { length arms.now ≤ 2 ^ 16 }
+        requires bounded { length arms.now ≤ 2 ^ 16 }
         ensures offers { IfOk result (λ c. offer_of A.behaviour self.old.actor self.old.kept arms.now ≡ ((c.0, c.1), self.new.actor)) }
         ensures kept { OnOk result (self.new.kept ≡ None) }
         ensures others { (self.new.entries ≡ self.old.entries) × (self.new.limit ≡ self.old.limit) × (self.new.failed ≡ self.old.failed) }
@@ -287,7 +287,7 @@ fn sending_arms<'a>(session: &'a Session, stage: &Sending) -> (Role, &'a [Arm])
     requires { IsSending session.now stage.now }
     ensures stands { state_of_stage session.now stage.now ≡ Some (Puts result.0 result.1.now) }
     ensures some { result.1.now ≢ [] }
-    ensures few { length result.1.now ≤ 2 ^ 16 }
+    ensures bounded { length result.1.now ≤ 2 ^ 16 }
 {
     let machine = session.machine(stage.role());
     match &machine.states[stage.state() as usize] {

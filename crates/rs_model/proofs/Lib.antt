@@ -5,3 +5,4 @@ pub mod Order
 pub mod Repeats
 pub mod FirstFailed
 pub mod EmptyValues
+pub mod Serving

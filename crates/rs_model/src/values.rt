@@ -21,12 +21,13 @@ impl Sort {
     ghost use Rattle.rs_model.specs.Serving.{Serves, serves, sort_number};
     ghost use Rattle.rs_model.specs.Values.{empty_value};
 
-    /// Whether a value of this sort may stand where one of the wanted sort is expected.
+    /// Whether a value of this sort may stand where one of the wanted sort is expected: each sort for itself, and
+    /// `Natural` for `Whole`.
     pub fn serves(self, wanted: Sort) -> bool
         ensures test { result ≡ serves self wanted }
         ensures serves { IsTrue result ↔ Serves self wanted }
     {
-        self == wanted
+        self == wanted || (self == Sort::Natural && wanted == Sort::Whole)
     }
 
     /// A value of the sort that says nothing: `false`, 0, or an empty list.
@@ -145,13 +146,13 @@ impl Value {
     ghost use Rattle.std.specs.Prelude.{◌≡◌, IfOk};
     ghost use Rattle.rs_model.specs.Sorts.{fits};
 
-    /// Whether the value has the sort: it is of the sort's own kind, and a `Natural` is at most
-    /// 9,223,372,036,854,775,807.
+    /// Whether the value has the sort: it is of the sort's own kind, or a `Natural` for the sort `Whole`; and a
+    /// `Natural` is at most 9,223,372,036,854,775,807.
     pub fn fits(&self, sort: Sort) -> bool
         ensures { result ≡ fits self.now sort }
     {
         match (self, sort) {
-            (Value::Natural(n), Sort::Natural) => *n <= i64::MAX as u64,
+            (Value::Natural(n), Sort::Natural | Sort::Whole) => *n <= i64::MAX as u64,
             (Value::Unit, Sort::Unit)
             | (Value::Flag(_), Sort::Flag)
             | (Value::Whole(_), Sort::Whole)

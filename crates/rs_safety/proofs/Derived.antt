@@ -6,6 +6,7 @@ use Rattle.std.proofs.lemmas.Bool.Decides.{leb_tells, eqb_tells}
 use Rattle.std.proofs.lemmas.Bool.{false≢true}
 use Rattle.std.proofs.lemmas.Option.{slice_get-map, none-some, same_Some}
 use Rattle.rs_model.specs.Data.{Machine_data}
+use Rattle.rs_model.proofs.Serving.{has_served_sort}
 use Rattle.rs_model.specs.Serving.{Serves}
 use Rattle.rs_model.specs.WellFormed.{IsWellFormedMachine}
 use Rattle.rs_model.specs.declared.graph.Arm.{Arm}
@@ -23,7 +24,7 @@ use Rattle.rs_derive.specs.Data.{DNode_data, Derivation_data}
 use Rattle.rs_derive.specs.Derivations.{spot_of, NameResults, IsDerivation}
 use Rattle.rs_derive.specs.Moves.{Spot, spot, arm_of, Both, HasMove, Stops, PaysSend, SendsBoth, Guesses, SendsAhead, PaysReceive, ReceivesAhead}
 use Rattle.rs_core.proofs.Items as items
-use Rattle.rs_core.proofs.Items.{Item, Give, Get, sends, recvs, Each, subsort_itself}
+use Rattle.rs_core.proofs.Items.{Item, Give, Get, sends, recvs, Each}
 use Rattle.rs_core.proofs.Stands.{Trace, Does, Gives, pick}
 use Rattle.rs_safety.proofs.Kept.{Kept, kept_refl, kept_trans, kept_hop, IsGet, IsGive, Free}
 use Rattle.rs_safety.proofs.Grow.{Follower, Given, Taken, Finishes}
@@ -254,9 +255,9 @@ pick_one (suc a) arm = elim (leb_tells (suc (suc a)) 1) [
   | inr t ↦ (let e : nat_lt (suc a) (length (arm ∷ [])) ≡ false = t.0 in rw e refl)
 ]
 
--- a sort that serves has no other values
+-- a value of a sort that serves is one of the other sort
 values : (a b : Sort) → Serves a b → items.IsSubsort a b
-values a b e = let P : Sort → Type 0 = λ z. items.IsSubsort a z in subst P e (subsort_itself a)
+values a b s v h = has_served_sort v a b h s
 
 -- the machine does the send, or the receive, that it owes
 does_send : (sub : Machine_data) (a s : ℕ) (q : Role) (arm : Arm) (so : Sort) (x : Item)
@@ -264,7 +265,8 @@ does_send : (sub : Machine_data) (a s : ℕ) (q : Role) (arm : Arm) (so : Sort) 
     → Does sub a s x arm.next
 does_send sub a s q arm so (Give k r l so') st e sv =
     let er : r ≡ q = cc (e) in
-    let es : Serves arm.sort so' = cc (sv, e) in
+    let same : so ≡ so' = cc (e) in
+    let es : Serves arm.sort so' = subst (λ (z : Sort). Serves arm.sort z) same sv in
     record { arms = arm ∷ []; arm = arm; puts = cc (st, er); chosen = pick_one a arm; label = cc (e); serves = values arm.sort so' es; next = refl }
 does_send sub a s q arm so (Get k r l so') st e sv = absurd (cc (e))
 
@@ -293,7 +295,8 @@ does_take sub roles a s q l arms arm so (Give k r l' so') isub st e ch sv = absu
 does_take sub roles a s q l arms arm so (Get k r l' so') isub st e ch sv =
     let er : r ≡ q = cc (e) in
     let el : l' ≡ l = cc (e) in
-    let es : Serves so' arm.sort = cc (sv, e) in
+    let same : so ≡ so' = cc (e) in
+    let es : Serves so' arm.sort = subst (λ (z : Sort). Serves z arm.sort) same sv in
     let i = arm_of_is arms l arm ch in
     let once = (isub.takes s q arms st).once in
     record {

@@ -7,7 +7,8 @@ use Rattle.std.proofs.lemmas.List.{length-map, length-replicate}
 use Rattle.std.proofs.lemmas.Option.{none-some, same_Some}
 use Rattle.rs_model.specs.declared.limits.TheConstants.{MOST_CANDIDATES}
 use Rattle.rs_model.specs.Data.{Machine_data}
-use Rattle.rs_model.specs.Serving.{serves, sort_number}
+use Rattle.rs_model.proofs.Serving.{test_by_serves}
+use Rattle.rs_model.specs.Serving.{serves}
 use Rattle.rs_model.specs.declared.graph.Arm.{Arm}
 use Rattle.rs_model.specs.declared.graph.Label.{Label}
 use Rattle.rs_model.specs.declared.graph.Role.{Role}
@@ -75,7 +76,7 @@ arm_of_self (x ∷ xs) once (suc i) a e = elim (eqb_tells x.label.0 a.label.0) [
 ]
 
 serves_self : (s : Sort) → serves s s ≡ true
-serves_self s = eq-eqb (sort_number s) (sort_number s) refl
+serves_self s = test_by_serves s s (inl refl)
 
 and_both : (a b : Bool) → a ≡ true → b ≡ true → (a && b) ≡ true
 and_both a b ea eb = subst (λ (z : Bool). (z && b) ≡ true) (sym ea) eb
@@ -159,7 +160,7 @@ owes_goes bound s i q arms b t once e =
     let found : IsFound p.pending Receive q 0
     = record { act = act.Takes q b.label b.sort; stands = refl; same = eq-eqb q.0 q.0 refl; free = λ i a lt g. (let bad : ⊥ = omega arith in absurd bad) } in
     goes_by bound p (Some (Takes q arms)) t (Takes q arms) (Pays 0 b) (even b.next ∷ []) refl
-    (PayingReceive q arms 0 b.label b.sort b t found refl (arm_of_self arms once i b e) refl) refl
+    (PayingReceive q arms 0 b.label b.sort b t found refl (arm_of_self arms once i b e) (inl refl)) refl
     (λ r m. elim m [ inl h ↦ subst (λ (z : Spot). length z.pending ≤ bound) h (omega arith) | inr h ↦ absurd h ]) refl (λ h. refl)
 
 goes : (m : Machine_data) (bound : ℕ) → IsProper m → 0 < bound → (p : Spot) → IsOfItself m p → Goes (turn_within m m bound p) (nexts_itself m p)
