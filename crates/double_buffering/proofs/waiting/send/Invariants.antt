@@ -1,0 +1,5 @@
+use Rattle.rs_typed.specs.Endpoints.{IsEndpoint}
+use Rattle.double_buffering.proofs.waiting.send.Given as goal
+
+abbrev pub invariant-loop : goal.invariant-loop
+invariant-loop g l = ((goal.iterator-loop g).can_next l.iterator' × (goal.iterator-loop g).is_finite l.iterator') × IsEndpoint l.session g.S.Of.Typing.meaning l.at
