@@ -63,7 +63,7 @@ derived bound bytes s = go (found_first bound s.document.protocol s.projections 
         let k = s.derivable role.0 u.machine u.projection u.runs u.projects in
         let ours = machine_proper s.document.protocol s.projections ms session role.0 u.machine u.runs in
         let theirs = projection_proper s.document.protocol s.projections ms session role.0 u.projection u.projects in
-        let f = (followed_is_found u.machine u.projection.machine bound ours theirs).1 (k.1, k.0) in
+        let f = (followed_is_found u.machine u.projection.machine bound ours theirs).1 k in
         absurd (u.cause (not_both_ways u.machine u.projection.machine bound f.0 fault f.1 u.refused))
 
 -- the answer to such a text is fine

@@ -10,3 +10,4 @@ pub mod SomeAnswer
 pub mod OneSession
 pub mod DemoHeadline
 pub mod DemoComplete
+pub mod NeverFailing

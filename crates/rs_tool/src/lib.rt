@@ -4,12 +4,14 @@
 mod calls;
 mod generating;
 pub mod laws;
+mod never;
 mod pipelines;
 mod preparing;
 mod statuses;
 mod texts;
 
 pub use calls::{command, command_serial};
+pub use never::check_never;
 pub use pipelines::{Pipeline, pipeline_of};
 pub use rs_documents::{Document, print_document, read_document};
 pub use rs_model::DEFAULT_BOUND;
