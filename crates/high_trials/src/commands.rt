@@ -2,9 +2,9 @@
 
 use crate::documents::{BUFFERING, ENDLESS_BUFFERING, TWICE, WAITS};
 use crate::gates::Meeting;
-use rs_io::{MemSink, MemSource};
+use rs_io::{MemSink, MemSource, NeverSink, NeverSource};
 use rs_pool::{Gate, NoGate};
-use rs_tool::{Status, command};
+use rs_tool::{Status, check_never, command};
 use std::alloc::Global;
 use std::sync::Wait;
 use std::test::Fail;
@@ -309,5 +309,80 @@ fn reads_and_writes_that_fail_are_told(rt: HostRuntime) -> Result<(), Fail> {
     let told = answer(&rt, alloc, "check", source, sink, &NoGate)?;
     assert!(rt; told.status == Status::WriteFault);
     assert!(rt; told.written.as_slice() == b"accepted".as_slice());
+    Ok(())
+}
+
+/// The report of double buffering.
+const BUFFERING_REPORT: &[u8] =
+    b"accepted\nK: nodes 13 pending 3 rank 3\nS: nodes 6 pending 1 rank 0\nT: nodes 5 pending 1 rank 0\nroom 16\n";
+
+/// What `check` answers to double buffering, which is read by seven bytes, where this read fails.
+fn answer_by_sevens<R: Threads + Wait + Sync>(
+    rt: &R,
+    alloc: Global,
+    failing: u32,
+) -> Result<Told, Fail> {
+    let source = MemSource::new(BUFFERING.to_vec(alloc)?, 7, [failing].to_vec(alloc)?);
+    let sink = MemSink::new(alloc, 4_096, 4_096, Vec::new(alloc))?;
+    answer(rt, alloc, "check", source, sink, &NoGate)
+}
+
+/// What `check` answers to it, where the report is written by three bytes, and this write fails.
+fn answer_by_threes<R: Threads + Wait + Sync>(
+    rt: &R,
+    alloc: Global,
+    failing: u32,
+) -> Result<Told, Fail> {
+    let source = MemSource::new(BUFFERING.to_vec(alloc)?, 65_536, Vec::new(alloc));
+    let sink = MemSink::new(alloc, 4_096, 3, [failing].to_vec(alloc)?)?;
+    answer(rt, alloc, "check", source, sink, &NoGate)
+}
+
+#[test]
+fn each_read_that_fails_is_told(rt: HostRuntime) -> Result<(), Fail> {
+    // 35 reads give 245 bytes, and the next one tells the end
+    for failing in 1..37 {
+        let told = answer_by_sevens(&rt, rt.alloc(), failing)?;
+        assert!(rt; told.status == Status::ReadFault);
+        assert!(rt; told.written.is_empty());
+    }
+    let told = answer_by_sevens(&rt, rt.alloc(), 37)?;
+    assert!(rt; told.status == Status::Fine);
+    assert!(rt; told.written.as_slice() == BUFFERING_REPORT);
+    Ok(())
+}
+
+#[test]
+fn each_write_that_fails_is_told(rt: HostRuntime) -> Result<(), Fail> {
+    let mut failing: u32 = 1;
+    let mut front = Vec::new(rt.alloc());
+    for piece in BUFFERING_REPORT.chunks(3) {
+        let told = answer_by_threes(&rt, rt.alloc(), failing)?;
+        assert!(rt; told.status == Status::WriteFault);
+        assert!(rt; told.written.as_slice() == front.as_slice());
+        front.extend_from_slice(piece)?;
+        failing = failing.wrapping_add(1);
+    }
+    assert!(rt; failing == 35);
+    let told = answer_by_threes(&rt, rt.alloc(), failing)?;
+    assert!(rt; told.status == Status::Fine);
+    assert!(rt; told.written.as_slice() == BUFFERING_REPORT);
+    Ok(())
+}
+
+/// The status of a `check` of this text, over a source and a sink that never fail.
+fn status_of(alloc: Global, text: &[u8]) -> Result<Status, Fail> {
+    let mut words = Vec::new(alloc);
+    words.push(String::from_str(alloc, "check")?)?;
+    let mut source = NeverSource::new(text.to_vec(alloc)?);
+    let status = check_never(alloc, words.as_slice(), &mut source, &mut NeverSink::new());
+    Ok(status)
+}
+
+#[test]
+fn a_check_without_faults_has_its_status(rt: HostRuntime) -> Result<(), Fail> {
+    assert!(rt; status_of(rt.alloc(), BUFFERING)? == Status::Fine);
+    assert!(rt; status_of(rt.alloc(), WAITS)? == Status::Refused);
+    assert!(rt; status_of(rt.alloc(), b"roles A")? == Status::Malformed);
     Ok(())
 }

@@ -5,9 +5,9 @@ ghost use Rattle.rs_demos.specs.Sessions.{has_session};
 ghost use Rattle.rs_model.specs.declared.demos.Demo.TheVariants as demo;
 
 use crate::runs::{QueueKind, session_run};
-use rs_core::{Outcome, Run};
+use rs_core::{Actor, Outcome, Run};
 use rs_demos::{demo_actors, demo_document, demo_output};
-use rs_model::{Demo, NoMemory};
+use rs_model::{Demo, NoMemory, Value};
 use rs_text::Text;
 use std::alloc::Global;
 use std::test::Fail;
@@ -198,4 +198,46 @@ fn actors_of(alloc: Global, kind: Demo, bytes: &[u8]) -> Option<usize> {
 fn each_role_has_an_actor(rt: HostRuntime) {
     assert!(rt; actors_of(rt.alloc(), Demo::Double, b"x") == Some(3));
     assert!(rt; actors_of(rt.alloc(), Demo::Stream, b"") == Some(2));
+}
+
+/// Whether a demo of two numbers prints this, where this natural number has come to its first role.
+fn is_printed_behind(alloc: Global, kind: Demo, bytes: &[u8], number: u64, wanted: &[u8]) -> bool {
+    let Ok(mut actors) = demo_actors(alloc, kind, bytes) else {
+        return false;
+    };
+    let Some(first) = actors.first_mut() else {
+        return false;
+    };
+    if first.take(alloc, &[], 0, &Value::Natural(number)).is_err() {
+        return false;
+    }
+    match demo_output(alloc, kind, actors.as_slice()) {
+        Ok(text) => text.as_slice() == wanted,
+        Err(NoMemory) => false,
+    }
+}
+
+#[test]
+fn a_nat_is_taken_as_its_number(rt: HostRuntime) {
+    let alloc = rt.alloc();
+    assert!(rt; is_printed_behind(alloc, Demo::Ring, b"-1 2", 5, b"4 2\n"));
+    assert!(rt; is_printed_behind(alloc, Demo::Butterfly, b"-1 2", 5, b"4 2\n"));
+    assert!(rt;
+        is_printed_behind(
+            alloc,
+            Demo::Ring,
+            b"-1 2",
+            9_223_372_036_854_775_807,
+            b"9223372036854775806 2\n"
+        )
+    );
+    assert!(rt;
+        is_printed_behind(
+            alloc,
+            Demo::Ring,
+            b"-1 2",
+            9_223_372_036_854_775_808,
+            b"-1 2\n"
+        )
+    );
 }

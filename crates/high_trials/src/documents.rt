@@ -41,6 +41,10 @@ pub(crate) const LISTS: &[u8] = b"roles A, B\nprotocol A->B:x(list). end\n";
 
 pub(crate) const ONCE: &[u8] = b"roles A, B\nprotocol A->B:x(nat). end\n";
 
+/// A sends a `nat` where an `int` is expected.
+pub(crate) const NAT_FOR_INT: &[u8] =
+    b"roles A, B\nprotocol A->B:x(int). end\nmachine A: B!x(nat). end\n";
+
 /// A goes on for ever, as B does.
 pub(crate) const ENDLESS: &[u8] = b"roles A, B\nprotocol rec X. A->B:x(). B->A:y(). X\n";
 

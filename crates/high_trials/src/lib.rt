@@ -1,5 +1,5 @@
-//! Tests of the high libraries on documents: runs on one thread and by workers, sessions over rings, what is taken, and `command`
-//! over sources and sinks that fail.
+//! Tests of the high libraries: runs on one thread and by workers, sessions over rings, what is taken, `command` over sources and
+//! sinks that fail, and a search whose steps are counted.
 #![tactic(auto)]
 
 #[cfg(test)]
@@ -12,6 +12,10 @@ mod demos;
 mod documents;
 #[cfg(test)]
 mod gates;
+#[cfg(test)]
+mod guesses;
+#[cfg(test)]
+mod held;
 #[cfg(test)]
 mod pipelines;
 #[cfg(test)]

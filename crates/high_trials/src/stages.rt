@@ -39,7 +39,7 @@ fn begun(alloc: Global, accepted: &Accepted, capacity: u16) -> Option<(Session, 
 }
 
 /// The session of a text, and its first stages.
-fn begun_of(alloc: Global, text: &[u8], capacity: u16) -> Option<(Session, Vec<Stage>)>
+pub(crate) fn begun_of(alloc: Global, text: &[u8], capacity: u16) -> Option<(Session, Vec<Stage>)>
     requires { IsCapacity capacity }
     ensures { IfSome result (λ begun. AreFirst begun.0 begun.1.items) }
 {
@@ -178,7 +178,7 @@ fn full_and_empty_rings_are_told(rt: HostRuntime) {
     assert!(rt; over.loose.len() == 1);
 }
 
-fn ended_of(rt: &impl Abort, stage: Stage) -> Ended
+pub(crate) fn ended_of(rt: &impl Abort, stage: Stage) -> Ended
     ensures { stage ≡ kind.Ended result }
 {
     match stage {
@@ -187,7 +187,7 @@ fn ended_of(rt: &impl Abort, stage: Stage) -> Ended
     }
 }
 
-fn push_ended(rt: &impl Abort, ended: &mut Vec<Ended>, one: Ended)
+pub(crate) fn push_ended(rt: &impl Abort, ended: &mut Vec<Ended>, one: Ended)
     ensures { ended.new.items ≡ ended.old.items ++ one ∷ [] }
 {
     match ended.push(one) {

@@ -1,58 +1,48 @@
 -- What `check --derivations` prints is read again as a document whose own derivations show what those that were found show.
-use Rattle.std.proofs.Common.{◌≡◌, ℕ, zero, suc, ◌<◌, Bool, true, false, List, [], ◌∷◌, ◌++◌, length, map, refl, sym, ap, ◌∙◌, subst, arith, Some, None, Option, option_map, slice_get, if◌then◌else◌}
+use Rattle.std.proofs.Common.{◌≡◌, ℕ, suc, ◌<◌, true, false, List, [], ◌∷◌, ◌++◌, length, map, refl, sym, ap, ◌∙◌, subst, arith, Some, None, Option, option_map, slice_get}
 use Rattle.std.proofs.lemmas.List.{length-map}
-use Rattle.std.proofs.lemmas.Option.{get_or_from_slice_get, none-some, same_Some, slice_get_within}
+use Rattle.std.proofs.lemmas.Option.{get_or_from_slice_get, slice_get_within}
 use Rattle.std.specs.List.{flat_map, list_all}
 use Rattle.std.specs.Option.{is_some}
-use Rattle.rs_bodies.proofs.GraphsAgain.{IsReadable, lone_tree_spelt}
+use Rattle.rs_bodies.proofs.GraphsAgain.{lone_tree_spelt}
 use Rattle.rs_bodies.proofs.WrittenNames.{sound_parts}
 use Rattle.rs_bodies.specs.Graph.{labels_of}
-use Rattle.rs_bodies.specs.declared.dialects.Dialect.TheVariants.{Talks, Acts}
-use Rattle.rs_bodies.specs.declared.dialects.Mark.TheVariants as mark
+use Rattle.rs_bodies.specs.declared.dialects.Dialect.TheVariants.{Talks}
 use Rattle.rs_derivations.specs.Numbers.{AreSmall}
 use Rattle.rs_derivations.specs.Printable.{label_number}
-use Rattle.rs_derive.proofs.Mapped.{map_at, map_of}
+use Rattle.rs_derive.proofs.Mapped.{map_of}
 use Rattle.rs_derive.specs.Data.{DNode_data, Derivation_data}
 use Rattle.rs_derive.specs.Derivations.{IsDerivation, Remembers, spot_of}
 use Rattle.rs_documents.proofs.Again.{read_again}
-use Rattle.rs_documents.proofs.MachinesAgain.{Renumbers, machine_again}
-use Rattle.rs_documents.proofs.MoreNames.{back_among, front_among, grown_new, grown_old, name_there, number_kept}
-use Rattle.rs_documents.proofs.ProtocolsAgain.{labels_are_first}
+use Rattle.rs_documents.proofs.OwnLabels.{ActsUse, IsAmong, MachineUses, first_stays, lines_use, there_at, uses_too}
+use Rattle.rs_documents.proofs.MoreNames.{back_among, front_among, grown_new, name_there}
 use Rattle.rs_documents.proofs.SpeltAgain.{spelt_again}
-use Rattle.rs_documents.specs.Again.{CanBeReadAgain, arm_by, derivation_by, document_by_labels, labels_of_lines, labels_of_own, labels_of_text, machine_by, number_among, state_by}
-use Rattle.rs_documents.specs.Canonical.{AreCanonicalMachines, AreShown, IsCanonicalDocument}
+use Rattle.rs_documents.specs.Again.{CanBeReadAgain, derivation_by, document_by_labels, labels_of_lines, labels_of_own, labels_of_text, machine_by, number_among}
+use Rattle.rs_documents.specs.Canonical.{IsCanonicalDocument}
 use Rattle.rs_documents.specs.Data.{Document_data}
 use Rattle.rs_documents.specs.Documents.{SpellsDocument}
 use Rattle.rs_documents.specs.Ready.{DocumentIsReady}
-use Rattle.rs_global.proofs.Canonical.{spelt_enough, taken_stands, written}
+use Rattle.rs_global.proofs.Canonical.{spelt_enough, written}
 use Rattle.rs_global.specs.Enough.{AreEnough}
 use Rattle.rs_global.specs.Graph.{no_names}
 use Rattle.rs_global.specs.Kinds.{names_of, protocols}
 use Rattle.rs_global.specs.Spells.{SpellsProtocol}
 use Rattle.rs_global.specs.Texts.{protocol_text}
 use Rattle.rs_graph.proofs.Growth.{in_at}
-use Rattle.rs_machines.proofs.Canonical as of_machines
-use Rattle.rs_machines.specs.Canonical.{IsCanonicalMachineText, IsMachineTextShaped}
-use Rattle.rs_machines.specs.Enough.{AreEnoughFor}
-use Rattle.rs_machines.specs.Kinds as of_lines
 use Rattle.rs_model.proofs.Faults.{right}
-use Rattle.rs_model.specs.Data.{Machine_data, Names_data, Protocol_data}
+use Rattle.rs_model.specs.Data.{Machine_data, Protocol_data}
 use Rattle.rs_model.specs.Limits.{IsBound}
 use Rattle.rs_model.specs.WellFormed.{IsWellFormedMachine}
-use Rattle.rs_model.specs.declared.graph.Arm.{Arm}
-use Rattle.rs_model.specs.declared.graph.Role.{Role}
 use Rattle.rs_model.specs.declared.machines.Act.{Act}
 use Rattle.rs_model.specs.declared.machines.Act.TheVariants as act
-use Rattle.rs_model.specs.declared.machines.State.{State}
 use Rattle.rs_model.specs.declared.machines.State.TheVariants.{Puts, Takes}
 use Rattle.rs_project.proofs.Machines.{projection_machine}
 use Rattle.rs_project.specs.Data.{Projection_data}
 use Rattle.rs_safety.specs.Sessions.{AreDerivations, IsSession}
 use Rattle.rs_search.proofs.Accepted.{nodes_are_candidates}
-use Rattle.rs_text.proofs.Naming.{at_among, grown_append, grown_differ, place_at}
-use Rattle.rs_text.specs.Names.{differ, is_among, names_with, number_or, place_of}
-use Rattle.rs_text.specs.NamePlaces.{name_at, text_or_none}
-use Rattle.rs_text.specs.Sound.{IsSound}
+use Rattle.rs_text.proofs.Naming.{grown_append, place_at}
+use Rattle.rs_text.specs.Names.{differ, names_with, number_or, place_of}
+use Rattle.rs_text.specs.NamePlaces.{name_at}
 use Rattle.rs_answers.specs.Checks.{Checks, IsAccepted, IsRefused, with_derivations}
 use Rattle.rs_answers.specs.Data.{Answer_data}
 use Rattle.rs_answers.specs.Derivations.{AreCanonical}
@@ -66,101 +56,17 @@ use Rattle.rs_answers.proofs.Derivings.{IsChosen, chosen, derivations_are, each_
 use Rattle.rs_answers.proofs.EachRole.{chosen_small_by, few_states}
 use Rattle.rs_answers.proofs.Owed.{IsActOf, Receives, Sends, owed_acts}
 use Rattle.rs_answers.proofs.Printables.{act_named, can_show_found, there}
-use Rattle.rs_answers.proofs.Renumbered.{ActsUse, MachineUses, Stays, derivation_is, derivation_stays, machine_stays, remembers_too, uses_too, well_formed_by}
+use Rattle.rs_answers.proofs.Renumbered.{Stays, derivation_is, derivation_stays, machine_stays, remembers_too, well_formed_by}
 use Rattle.rs_answers.proofs.SmallNumbers.{small_numbers}
 use Rattle.rs_answers.proofs.Verified.{none_is_blamed}
 
 -- ---- labels by number
-
--- the label of the number is one of these
-pub record IsAmong (names labels : List (List ℕ)) (k : ℕ) : Type 0 where
-  pub named : k < length names
-  pub among : is_among (name_at names k) labels ≡ true
-
-there_at : (names : List (List ℕ)) (k : ℕ) → k < length names → slice_get names k ≡ Some (name_at names k)
-there_at [] k lt = absurd (omega (arith, lt))
-there_at (x ∷ names) zero lt = refl
-there_at (x ∷ names) (suc k) lt = there_at names k (omega (arith, lt))
 
 -- its number is found again
 found_again : (names text : List (List ℕ)) → differ names ≡ true → (k : ℕ) → IsAmong names text k → number_among text names (number_among names text k) ≡ k
 found_again names text apart k w =
     ap (λ (z : List ℕ). number_or (place_of z names)) (name_there text (name_at names k) w.among)
     ∙ ap number_or (place_at names k (name_at names k) apart (there_at names k w.named))
-
--- ---- the labels of a machine are those of its line
-
--- a number, or the next one where its label isn't among these
-abbrev put_out : (names labels : List (List ℕ)) → ℕ → ℕ
-put_out names labels k = if is_among (name_at names k) labels then k else suc k
-
-kept_in : (b : Bool) (k : ℕ) → b ≡ true → (if b then k else suc k) ≡ k
-kept_in true k e = refl
-kept_in false k e = absurd (cc (e))
-
-is_in : (b : Bool) (k : ℕ) → (if b then k else suc k) ≡ k → b ≡ true
-is_in true k e = refl
-is_in false k e = absurd (omega (arith, e))
-
-machine_kept : (names : Names_data) (machine : Machine_data) (line : List ℕ) → IsSound names → IsMachineTextShaped machine → AreEnoughFor names machine
-    → (c : IsCanonicalMachineText names machine line) → machine_by (put_out names.labels (labels_of Acts c.tree.body)) machine ≡ machine
-machine_kept names machine line sound shaped enough c =
-    let labels : List (List ℕ) = labels_of Acts c.tree.body in
-    let w : IsReadable of_lines.machines names names machine c.tree = of_machines.written names machine c.tree shaped sound enough c.canonical in
-    let same : names_with names.labels labels ≡ names.labels = ap (λ (z : Names_data). z.labels) w.names_are in
-    let known : (l : List ℕ) → is_among l labels ≡ true → is_among l names.labels ≡ true = λ l a. subst (λ (z : List (List ℕ)). is_among l z ≡ true) same (grown_new l labels names.labels a) in
-    let stays : Renumbers (put_out names.labels labels) names.labels names.labels labels = λ l a. kept_in (is_among (name_at names.labels (number_or (place_of l names.labels))) labels)
-    (number_or (place_of l names.labels)) (subst (λ (z : List ℕ). is_among z labels ≡ true) (sym (name_there names.labels l (known l a))) a) in
-    machine_again names names machine c.tree (put_out names.labels labels) w.graph_is w.names_are refl
-    (λ l a. stays l a ∙ ap (λ (z : List (List ℕ)). number_or (place_of l z)) (sym same)) ∙ w.graph_is
-
-state_kept : (f : ℕ → ℕ) (m : Machine_data) → machine_by f m ≡ m → (s : ℕ) (x : State) → slice_get m.states s ≡ Some x → state_by f x ≡ x
-state_kept f m e s x at = same_Some (state_by f x) x (sym (map_at (state_by f) m.states s x at) ∙ ap (λ (z : Machine_data). slice_get z.states s) e ∙ at)
-
-arm_kept : (f : ℕ → ℕ) (arms : List Arm) → map (arm_by f) arms ≡ arms → (i : ℕ) (a : Arm) → slice_get arms i ≡ Some a → f a.label.0 ≡ a.label.0
-arm_kept f arms e i a at = ap (λ (z : Arm). z.label.0) (same_Some (arm_by f a) a (sym (map_at (arm_by f) arms i a at) ∙ ap (λ (z : List Arm). slice_get z i) e ∙ at))
-
-puts_kept : (f : ℕ → ℕ) (q : Role) (arms : List Arm) → state_by f (Puts q arms) ≡ Puts q arms → map (arm_by f) arms ≡ arms
-puts_kept f q arms e = cc (e)
-
-takes_kept : (f : ℕ → ℕ) (q : Role) (arms : List Arm) → state_by f (Takes q arms) ≡ Takes q arms → map (arm_by f) arms ≡ arms
-takes_kept f q arms e = cc (e)
-
-line_uses : (names : Names_data) (machine : Machine_data) (line : List ℕ) → IsSound names → IsMachineTextShaped machine → AreEnoughFor names machine
-    → (c : IsCanonicalMachineText names machine line) → MachineUses (IsAmong names.labels (labels_of Acts c.tree.body)) machine
-line_uses names machine line sound shaped enough c =
-    let labels : List (List ℕ) = labels_of Acts c.tree.body in
-    let f : ℕ → ℕ = put_out names.labels labels in
-    let kept : machine_by f machine ≡ machine = machine_kept names machine line sound shaped enough c in
-    record {
-      puts = λ s q arms at i a ea. record {
-        named = enough.labels s i mark.Puts q arms a at ea;
-        among = is_in (is_among (name_at names.labels a.label.0) labels) a.label.0 (arm_kept f arms (puts_kept f q arms (state_kept f machine kept s (Puts q arms) at)) i a ea);
-      };
-      takes = λ s q arms at i a ea. record {
-        named = enough.labels s i mark.Takes q arms a at ea;
-        among = is_in (is_among (name_at names.labels a.label.0) labels) a.label.0 (arm_kept f arms (takes_kept f q arms (state_kept f machine kept s (Takes q arms) at)) i a ea);
-      };
-    }
-
--- the machines of a document use the labels of its lines
-lines_use : (names : Names_data) (machines : List (Option Machine_data)) (text : List ℕ) → IsSound names → AreShown names machines → (lines : AreCanonicalMachines names machines text)
-    → (p : ℕ) (m : Machine_data) → slice_get machines p ≡ Some (Some m) → MachineUses (IsAmong names.labels (labels_of_lines names machines text lines)) m
-lines_use names [] text sound shown lines p m at = absurd (none-some (Some m) at)
-lines_use names (None ∷ machines) text sound shown lines zero m at = absurd (cc (at))
-lines_use names (None ∷ machines) text sound shown lines (suc p) m at = lines_use names machines text sound shown.1 lines p m at
-lines_use names (Some x ∷ machines) text sound shown lines zero m at =
-    let mine : List (List ℕ) = labels_of Acts lines.2.tree.body in
-    let more : List (List ℕ) = labels_of_lines names machines lines.1 lines.3 in
-    let same : x ≡ m = cc (at) in
-    subst (MachineUses (IsAmong names.labels (mine ++ more))) same
-    (uses_too (IsAmong names.labels mine) (IsAmong names.labels (mine ++ more)) (λ k w. record { named = w.named; among = front_among (name_at names.labels k) mine more w.among }) x
-    (line_uses names x lines.0 sound shown.0.0 shown.0.1 lines.2))
-lines_use names (Some x ∷ machines) text sound shown lines (suc p) m at =
-    let mine : List (List ℕ) = labels_of Acts lines.2.tree.body in
-    let more : List (List ℕ) = labels_of_lines names machines lines.1 lines.3 in
-    uses_too (IsAmong names.labels more) (IsAmong names.labels (mine ++ more)) (λ k w. record { named = w.named; among = back_among (name_at names.labels k) mine more w.among }) m
-    (lines_use names machines lines.1 sound shown.1 lines.3 p m at)
 
 -- ---- the machines and the derivations of a document with other numbers
 
@@ -256,19 +162,7 @@ module _ (bound : ℕ) (bytes : List ℕ) (d : Document_data) (ps : List Project
 
     -- a label of the protocol has its number still
     pub first_labels : (k : ℕ) → k < length first → Used k × Stays f k
-    first_labels k lt =
-        let l : List ℕ = name_at first k in
-        let here : slice_get first k ≡ Some l = there_at first k lt in
-        let taken = labels_are_first d.names d.protocol c.front first_again.shown.shaped ready.sound first_again.shown.enough c.protocol in
-        let stands : slice_get names k ≡ Some l = taken_stands names (length first) k l (subst (λ (z : List (List ℕ)). slice_get z k ≡ Some l) taken here) in
-        let same : name_at names k ≡ l = ap text_or_none stands in
-        let among : is_among l first ≡ true = at_among first k l here in
-        let more : is_among l labels ≡ true = subst (λ (z : List (List ℕ)). is_among l z ≡ true) (sym split) (grown_old l rest first among) in
-        let number : number_or (place_of l labels) ≡ k = ap (λ (z : List (List ℕ)). number_or (place_of l z)) split ∙ number_kept first rest l among
-        ∙ ap number_or (place_at first k l (grown_differ (labels_of Talks c.protocol.tree.body) [] refl) here) in (
-          record { named = slice_get_within names k l stands; among = subst (λ (z : List ℕ). is_among z labels ≡ true) (sym same) more },
-          ap (λ (z : List ℕ). number_or (place_of z labels)) same ∙ number,
-        )
+    first_labels k lt = let x = first_stays (with_derivations d ds) text again c k lt in (x.among, x.number)
 
     -- the names that its text has are enough for the protocol
     enough : AreEnough (names_of c.protocol.tree) d.protocol

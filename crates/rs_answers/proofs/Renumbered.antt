@@ -21,22 +21,13 @@ use Rattle.rs_model.specs.declared.machines.State.TheVariants.{Done, Puts, Takes
 use Rattle.rs_prefix.specs.Earliest.{IsAbsent, IsFound, has, may_overtake, without}
 use Rattle.rs_prefix.specs.declared.earliest.ActKind.{ActKind}
 use Rattle.rs_prefix.specs.declared.earliest.ActKind.TheVariants as kind
+use Rattle.rs_documents.proofs.OwnLabels.{ActsUse, ArmsUse, MachineUses}
 use Rattle.rs_documents.specs.Again.{act_by, arm_by, derivation_by, label_by, machine_by, node_by, state_by}
 
 abbrev pub spot_by : (ℕ → ℕ) → Spot → Spot
 spot_by f p = spot p.state (map (act_by f) p.pending) p.above
 
--- ---- which labels are used
-
-abbrev pub ArmsUse : (ℕ → Type 0) → List Arm → Type 0
-ArmsUse U arms = (i : ℕ) (a : Arm) → slice_get arms i ≡ Some a → U a.label.0
-
-abbrev pub ActsUse : (ℕ → Type 0) → List Act → Type 0
-ActsUse U acts = (i : ℕ) (a : Act) → slice_get acts i ≡ Some a → U (label_number a)
-
-pub record MachineUses (U : ℕ → Type 0) (m : Machine_data) : Type 0 where
-  pub puts : (s : ℕ) (peer : Role) (arms : List Arm) → slice_get m.states s ≡ Some (Puts peer arms) → ArmsUse U arms
-  pub takes : (s : ℕ) (peer : Role) (arms : List Arm) → slice_get m.states s ≡ Some (Takes peer arms) → ArmsUse U arms
+-- ---- numbers that are kept apart
 
 -- no two labels that are used get one number
 abbrev pub KeepsApart : (ℕ → Type 0) → (ℕ → ℕ) → Type 0
@@ -422,8 +413,3 @@ module _ (f : ℕ → ℕ) where
 
   pub derivation_stays : (d : Derivation_data) → ((i : ℕ) (n : DNode_data) → slice_get d.nodes i ≡ Some n → ActsUse Stays n.pending) → derivation_by f d ≡ d
   derivation_stays d u = ap (λ (z : List DNode_data). record { role = d.role; bound = d.bound; nodes = z }) (nodes_stay d.nodes u)
-
--- ---- labels that are used in a wider sense
-
-pub uses_too : (U V : ℕ → Type 0) → ((k : ℕ) → U k → V k) → (m : Machine_data) → MachineUses U m → MachineUses V m
-uses_too U V more m u = record { puts = λ s q arms e i a at. more a.label.0 (u.puts s q arms e i a at); takes = λ s q arms e i a at. more a.label.0 (u.takes s q arms e i a at) }

@@ -15,3 +15,4 @@ pub mod PartsAgain
 pub mod Again
 pub mod SpeltAgain
 pub mod OneCanonical
+pub mod OwnLabels

@@ -4,9 +4,12 @@ use Rattle.std.specs.List.{flat_map}
 use Rattle.rs_derivations.specs.Canonical.{tree_of}
 use Rattle.rs_derivations.specs.Derivations.{labels_of_nodes}
 use Rattle.rs_derivations.specs.Numbers.{AreSmall}
+use Rattle.rs_derivations.specs.Printable.{label_number}
 use Rattle.rs_derive.specs.Data.{DNode_data, Derivation_data}
 use Rattle.rs_bodies.specs.Graph as graphs
 use Rattle.rs_bodies.specs.declared.dialects.Dialect.TheVariants.{Talks, Acts}
+use Rattle.rs_bodies.specs.declared.dialects.Mark.{Mark}
+use Rattle.rs_machines.specs.Machines.{state_by_mark}
 use Rattle.rs_model.specs.Data.{Names_data, Protocol_data, Machine_data}
 use Rattle.rs_model.specs.declared.graph.Arm.{Arm}
 use Rattle.rs_model.specs.declared.graph.Label.{Label}
@@ -108,6 +111,13 @@ pub record HasLabel (protocol : Protocol_data) (k : ℕ) : Type 0 where
   pub arm : Arm
   pub stands : slice_get arms place ≡ Some arm
   pub number : arm.label.0 ≡ k
+
+-- an act of a machine, or a pending act of a derivation, has the label of this number
+pub data HasLabelBehind (d : Document_data) (k : ℕ) : Type 0 where
+  InMachine : (role n place : ℕ) (machine : Machine_data) (mark : Mark) (peer : Role) (arms : List Arm) (arm : Arm) → slice_get d.machines role ≡ Some (Some machine)
+      → slice_get machine.states n ≡ Some (state_by_mark mark peer arms) → slice_get arms place ≡ Some arm → arm.label.0 ≡ k → HasLabelBehind d k
+  InDerivation : (role n place : ℕ) (derivation : Derivation_data) (node : DNode_data) (a : Act) → slice_get d.derivations role ≡ Some (Some derivation)
+      → slice_get derivation.nodes n ≡ Some node → slice_get node.pending place ≡ Some a → label_number a ≡ k → HasLabelBehind d k
 
 -- every label that has a name stands in the protocol
 abbrev pub HasAllLabels : Names_data → Protocol_data → Type 0

@@ -1,12 +1,13 @@
 //! Laws about the definitions: each function does nothing, and its contract is the law.
 
 ghost use Rattle.std.specs.Prelude.{◌≡◌, ◌⊎◌, ℕ, List, Option};
-ghost use Rattle.rs_documents.specs.Again.{CanBeReadAgain, HasAllLabels, labels_of_text, document_by_labels};
+ghost use Rattle.rs_documents.specs.Again.{CanBeReadAgain, HasAllLabels, HasLabel, HasLabelBehind, document_by_labels, labels_of_text, number_among};
 ghost use Rattle.rs_documents.specs.Canonical.{CanBeShown, IsCanonicalDocument};
 ghost use Rattle.rs_documents.specs.Data.{Document_data};
 ghost use Rattle.rs_documents.specs.Documents.{FirstFault, SpellsDocument};
 ghost use Rattle.rs_documents.specs.Spells.{SpellsMachines};
 ghost use Rattle.rs_model.specs.Data.{Machine_data, Protocol_data};
+ghost use Rattle.rs_text.specs.NamePlaces.{name_at};
 ghost use Rattle.rs_text.specs.declared.faults.TextKind.{TextKind};
 
 /// A text spells one document at most.
@@ -58,6 +59,15 @@ pub fn spelt_documents_can_be_read_again()
 /// The canonical text of what can be read again spells the document, with its labels in the order of their first places.
 pub fn canonical_text_is_read_again()
     ensures { (d : Document_data) (text : List ℕ) → CanBeReadAgain d → (canonical : IsCanonicalDocument d text) → SpellsDocument text (document_by_labels d (labels_of_text d text canonical)) }
+{}
+
+/// Each label of a document that is read again has the name that it had: the protocol's by their old numbers, those of
+/// machines and derivations by their new ones.
+pub fn labels_keep_their_names()
+    ensures protocol { (d : Document_data) (text : List ℕ) (k : ℕ) → CanBeReadAgain d → (canonical : IsCanonicalDocument d text) → HasLabel d.protocol k
+        → name_at (labels_of_text d text canonical) k ≡ name_at d.names.labels k }
+    ensures behind { (d : Document_data) (text : List ℕ) (k : ℕ) → CanBeReadAgain d → (canonical : IsCanonicalDocument d text) → HasLabelBehind d k
+        → name_at (labels_of_text d text canonical) (number_among d.names.labels (labels_of_text d text canonical) k) ≡ name_at d.names.labels k }
 {}
 
 /// What the canonical text spells has this same canonical text.

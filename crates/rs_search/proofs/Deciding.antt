@@ -30,9 +30,10 @@ use Rattle.rs_search.proofs.Removing.{IsLeft, left}
 use Rattle.rs_search.proofs.Rounds.{all_discovered, ranks_or_cycle}
 use Rattle.rs_search.proofs.Same.{not_spot, spot_is}
 use Rattle.rs_search.proofs.Verdicts.{cut_from, cut_to, dies, less_than, more_than, names_length, rows_within}
-use Rattle.rs_search.specs.Candidates.{start_spot}
-use Rattle.rs_search.specs.Canonical.{IsDerivable, IsCanonical, IsNotFound, SearchRefuses}
+use Rattle.rs_search.specs.Candidates.{AreMoreThan, start_spot}
+use Rattle.rs_search.specs.Canonical.{IsCanonical, IsForgetful, IsNotFound, SearchRefuses}
 use Rattle.rs_search.specs.Nodes.{AreKept, AreNodes, node_at_spot}
+use Rattle.rs_search.specs.Survives.{Survives}
 use Rattle.rs_search.specs.Turns.{is_any, is_cut, is_keeping, nexts_within}
 use Rattle.rs_search.specs.declared.faults.SearchFault.{SearchFault}
 use Rattle.rs_search.specs.declared.faults.SearchFault.TheVariants.{NotFound, Forgets, TooLarge, NoMemory}
@@ -252,15 +253,19 @@ decided sub above bound ws wa = elim (discovered same_spots (nexts_within sub ab
           ])
     ]
 
-pub is_derivable : (sub above : Machine_data) (bound : ℕ) (d : Derivation_data) → IsCanonical sub above bound d → IsDerivable sub above bound
-is_derivable sub above bound d f = record { bounded = f.bounded; survives = starts_survive sub above bound d f.canonical; remembers = no_answer_is_forgetful sub above bound d f }
+-- there aren't too many candidates, the start survives, and nothing is forgotten
+abbrev pub StaysWhole : Machine_data → Machine_data → ℕ → Type 0
+StaysWhole sub above bound = (AreMoreThan sub above bound MOST_CANDIDATES → ⊥) × Survives sub above bound (start_spot sub above) × (IsForgetful sub above bound → ⊥)
 
--- what may be derived isn't refused
-pub not_refused : (sub above : Machine_data) (bound : ℕ) → IsDerivable sub above bound → (fault : SearchFault) → fault ≢ NoMemory → SearchRefuses sub above bound fault → ⊥
-not_refused sub above bound h (NotFound cut) ne r = r.dies h.survives
-not_refused sub above bound h (Forgets node) ne r = h.remembers (is_forgetful sub above bound node r)
-not_refused sub above bound h TooLarge ne r = h.bounded r
+stays_whole : (sub above : Machine_data) (bound : ℕ) (d : Derivation_data) → IsCanonical sub above bound d → StaysWhole sub above bound
+stays_whole sub above bound d f = (f.bounded, starts_survive sub above bound d f.canonical, no_answer_is_forgetful sub above bound d f)
+
+-- where these three hold nothing is refused
+not_refused : (sub above : Machine_data) (bound : ℕ) → StaysWhole sub above bound → (fault : SearchFault) → fault ≢ NoMemory → SearchRefuses sub above bound fault → ⊥
+not_refused sub above bound h (NotFound cut) ne r = r.dies h.1
+not_refused sub above bound h (Forgets node) ne r = h.2 (is_forgetful sub above bound node r)
+not_refused sub above bound h TooLarge ne r = h.0 r
 not_refused sub above bound h NoMemory ne r = ne refl
 
-pub derivable : (sub above : Machine_data) (bound : ℕ) → IsProper sub → IsProper above → ((d : Derivation_data) × IsCanonical sub above bound d) ↔ IsDerivable sub above bound
-derivable sub above bound ws wa = ((λ f. is_derivable sub above bound f.0 f.1), (λ h. elim (decided sub above bound ws wa) [ inl f ↦ f | inr r ↦ absurd (not_refused sub above bound h r.0 r.1 r.2) ]))
+pub derived_where_whole : (sub above : Machine_data) (bound : ℕ) → IsProper sub → IsProper above → ((d : Derivation_data) × IsCanonical sub above bound d) ↔ StaysWhole sub above bound
+derived_where_whole sub above bound ws wa = ((λ f. stays_whole sub above bound f.0 f.1), (λ h. elim (decided sub above bound ws wa) [ inl f ↦ f | inr r ↦ absurd (not_refused sub above bound h r.0 r.1 r.2) ]))

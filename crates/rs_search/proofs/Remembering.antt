@@ -14,13 +14,13 @@ use Rattle.rs_graph.proofs.Growth.{at_short}
 use Rattle.rs_graph.specs.Lists.{Among}
 use Rattle.rs_graph.specs.Walks.{Walk, Here, Further}
 use Rattle.rs_search.proofs.Accepted.{derives, named_result, new_worked, remembers}
-use Rattle.rs_search.proofs.Deciding.{derivable}
+use Rattle.rs_search.proofs.Deciding.{derived_where_whole}
 use Rattle.rs_search.proofs.Determined.{AreGuesses, is_forgetful, two_moves}
 use Rattle.rs_search.proofs.Surviving.{derived_survives}
 use Rattle.rs_search.proofs.Uncut.{move_up, survives_up}
 use Rattle.rs_search.proofs.Twins.{Onto, falls_onto, one_arm, onto}
 use Rattle.rs_search.specs.Candidates.{AreMoreThan}
-use Rattle.rs_search.specs.Canonical.{CanFollow, FollowsTheChoice, HasCanonicalNodes, IsCanonical, IsForgetful, KeepsHead, SearchRefuses}
+use Rattle.rs_search.specs.Canonical.{CanFollow, FollowsTheChoice, HasCanonicalNodes, IsCanonical, IsDerivable, IsForgetful, KeepsHead, SearchRefuses}
 use Rattle.rs_search.specs.Survives.{IsChosen, Survives}
 use Rattle.rs_search.specs.declared.faults.SearchFault.{SearchFault}
 use Rattle.rs_search.specs.declared.faults.SearchFault.TheVariants.{NotFound, Forgets, TooLarge, NoMemory}
@@ -130,26 +130,26 @@ not_forgetful sub above bound d ws wa v rem f =
 
 -- a canonical derivation exists exactly where some derivation within the bound remembers
 pub followed_is_found : (sub above : Machine_data) (bound : ℕ) → IsProper sub → IsProper above
-    → ((d : Derivation_data) × IsCanonical sub above bound d) ↔ ((AreMoreThan sub above bound MOST_CANDIDATES → ⊥) × CanFollow sub above bound)
+    → ((d : Derivation_data) × IsCanonical sub above bound d) ↔ IsDerivable sub above bound
 followed_is_found sub above bound ws wa = (to, from)
   where
-    to : (d : Derivation_data) × IsCanonical sub above bound d → (AreMoreThan sub above bound MOST_CANDIDATES → ⊥) × CanFollow sub above bound
-    to f = (
-      f.1.bounded,
-      record {
+    to : (d : Derivation_data) × IsCanonical sub above bound d → IsDerivable sub above bound
+    to f = record {
+      bounded = f.1.bounded;
+      follows = record {
         derivation = f.0;
         is_derivation = derives sub above bound f.0 ws wa f.1.canonical;
         remembers = remembers sub above bound f.0 f.1;
         within = (let q = f.1.canonical.bound' in omega arith);
-      },
-    )
-
-    from : (AreMoreThan sub above bound MOST_CANDIDATES → ⊥) × CanFollow sub above bound → (d : Derivation_data) × IsCanonical sub above bound d
-    from k = (derivable sub above bound ws wa).1 record {
-      bounded = k.0;
-      survives = derived_survives sub above bound k.1.derivation k.1.is_derivation k.1.within;
-      remembers = not_forgetful sub above bound k.1.derivation ws wa k.1.is_derivation k.1.remembers;
+      };
     }
+
+    from : IsDerivable sub above bound → (d : Derivation_data) × IsCanonical sub above bound d
+    from k = (derived_where_whole sub above bound ws wa).1 (
+      k.bounded,
+      derived_survives sub above bound k.follows.derivation k.follows.is_derivation k.follows.within,
+      not_forgetful sub above bound k.follows.derivation ws wa k.follows.is_derivation k.follows.remembers,
+    )
 
 -- what remembers is refused only where the search gives up
 pub followed_not_refused : (sub above : Machine_data) (bound : ℕ) (fault : SearchFault) → IsProper sub → IsProper above → CanFollow sub above bound → SearchRefuses sub above bound fault

@@ -70,18 +70,17 @@ pub record IsForgetful (sub above : Machine_data) (bound : ℕ) : Type 0 where
   pub node : ℕ
   pub cycle : IsOnCycle (KeepsHead sub above derivation.nodes) node
 
--- there are at most 65,536 candidates, the start survives, and the canonical derivation has no such cycle
-pub record IsDerivable (sub above : Machine_data) (bound : ℕ) : Type 0 where
-  pub bounded : AreMoreThan sub above bound MOST_CANDIDATES → ⊥
-  pub survives : Survives sub above bound (start_spot sub above)
-  pub remembers : IsForgetful sub above bound → ⊥
-
 -- some derivation within the bound forgets nothing that is owed
 pub record CanFollow (sub above : Machine_data) (bound : ℕ) : Type 0 where
   pub derivation : Derivation_data
   pub is_derivation : IsDerivation derivation sub above
   pub remembers : Remembers derivation sub above
   pub within : derivation.bound ≤ bound
+
+-- some derivation within the bound forgets nothing that is owed, and there are at most 65,536 candidates
+pub record IsDerivable (sub above : Machine_data) (bound : ℕ) : Type 0 where
+  pub bounded : AreMoreThan sub above bound MOST_CANDIDATES → ⊥
+  pub follows : CanFollow sub above bound
 
 -- what each fault says; want of memory says nothing
 abbrev pub SearchRefuses : Machine_data → Machine_data → ℕ → SearchFault → Type 0

@@ -49,9 +49,10 @@ pub fn a_derivation_or_a_refusal()
 {}
 
 /// They have one exactly where there aren't too many candidates, the start survives, and nothing is forgotten.
-pub fn a_derivation_where_derivable()
+pub fn a_derivation_where_the_start_survives()
     ensures { (sub above : Machine_data) (bound : ℕ) → IsProper sub → IsProper above
-        → ((d : Derivation_data) × IsCanonical sub above bound d) ↔ IsDerivable sub above bound }
+        → ((d : Derivation_data) × IsCanonical sub above bound d)
+        ↔ ((AreMoreThan sub above bound MOST_CANDIDATES → ⊥) × Survives sub above bound (start_spot sub above) × (IsForgetful sub above bound → ⊥)) }
 {}
 
 /// No derivation is missed: each that lies within the bound makes the start survive, and where the start survives there is
@@ -71,7 +72,7 @@ pub fn derivations_are_not_missed()
 /// the search gives up; and where the canonical derivation forgets, each derivation does, of whatever bound.
 pub fn what_remembers_is_found()
     ensures found { (sub above : Machine_data) (bound : ℕ) → IsProper sub → IsProper above
-        → ((d : Derivation_data) × IsCanonical sub above bound d) ↔ ((AreMoreThan sub above bound MOST_CANDIDATES → ⊥) × CanFollow sub above bound) }
+        → ((d : Derivation_data) × IsCanonical sub above bound d) ↔ IsDerivable sub above bound }
     ensures refused { (sub above : Machine_data) (bound : ℕ) (fault : SearchFault) → IsProper sub → IsProper above → CanFollow sub above bound
         → SearchRefuses sub above bound fault → (fault ≡ TooLarge) ⊎ (fault ≡ NoMemory) }
     ensures forgets { (sub above : Machine_data) (bound : ℕ) (d : Derivation_data) → IsProper sub → IsProper above → IsForgetful sub above bound

@@ -4,11 +4,10 @@ use Rattle.rs_documents.specs.Data.{Document_data}
 use Rattle.rs_documents.specs.Documents.{SpellsDocument}
 use Rattle.rs_model.specs.Data.{Machine_data}
 use Rattle.rs_model.specs.WellFormed.{IsWellFormedMachine}
-use Rattle.rs_model.specs.declared.limits.TheConstants.{MOST_BYTES, MOST_CANDIDATES}
+use Rattle.rs_model.specs.declared.limits.TheConstants.{MOST_BYTES}
 use Rattle.rs_project.specs.Data.{Projection_data}
 use Rattle.rs_project.specs.Numbered.{AreNumberedProjections}
-use Rattle.rs_search.specs.Candidates.{AreMoreThan}
-use Rattle.rs_search.specs.Canonical.{CanFollow}
+use Rattle.rs_search.specs.Canonical.{IsDerivable}
 use Rattle.rs_wellformed.specs.WellFormed.{IsWellFormed}
 use Rattle.rs_answers.specs.Machines.{machines_of}
 use Rattle.rs_tool.specs.Data.{Call}
@@ -24,7 +23,7 @@ EachIsWellFormed roles machines = (p : ℕ) (m : Machine_data) → slice_get mac
 -- are at most 65,536 candidates
 abbrev pub AreDerivable : ℕ → List Machine_data → List Projection_data → Type 0
 AreDerivable bound machines projections = (p : ℕ) (m : Machine_data) (j : Projection_data) → slice_get machines p ≡ Some m → slice_get projections p ≡ Some j
-    → CanFollow m j.machine bound × (AreMoreThan m j.machine bound MOST_CANDIDATES → ⊥)
+    → IsDerivable m j.machine bound
 
 -- the bytes are a text within the limit, and spell a document; its protocol is well formed and has a projection onto each
 -- role; and each role's machine is well formed and may be derived from its projection within the bound

@@ -1,16 +1,10 @@
-use Rattle.std.proofs.Common.{◌≡◌, ◌<◌, ℕ, zero, suc, List, [], ◌∷◌, length, map, Some, slice_get, sym, ap, ◌∙◌, subst, arith}
-use Rattle.std.proofs.lemmas.Option.{slice_get_within}
+use Rattle.std.proofs.Common.{◌≡◌, ℕ, zero, suc, List, [], ◌∷◌, length, map, Some, slice_get, ap}
 use Rattle.rs_rings.specs.Passes.{Rings_data}
-use Rattle.rs_session.specs.Ends.{AreAllThere, AreOf}
-use Rattle.rs_session.specs.Stages.{AreFirst, IsOf, sight_of_stage}
+use Rattle.rs_session.specs.Ends.{AreAllThere}
+use Rattle.rs_session.specs.Stages.{AreFirst, sight_of_stage}
 use Rattle.rs_session.specs.declared.stages.Stage.{Stage}
+use Rattle.high_trials.proofs.First.{are_of}
 use Rattle.high_trials.proofs.stages.given_up.Goals as goal
-
-are_of : (session : Rings_data) (stages : List Stage) → AreFirst session stages → AreOf session stages
-are_of session stages first place stage is =
-    let within : place < length stages = slice_get_within stages place stage is in
-    let at = first.each place (omega (arith, within, first.count)) in
-    subst (IsOf session) (cc (sym at.1 ∙ is)) at.2
 
 map_shown : (stages : List Stage) (r : ℕ) (stage : Stage) → slice_get stages r ≡ Some stage → slice_get (map sight_of_stage stages) r ≡ Some (sight_of_stage stage)
 map_shown [] r stage is = absurd (cc (is))
