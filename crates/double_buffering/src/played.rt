@@ -4,7 +4,7 @@ ghost use Rattle.std.specs.Prelude.{◌≡◌};
 
 use rs_session::Ended;
 
-/// A role that has ended, and whether all went well: nothing was lost for want of memory, or by a fault of input or output.
+/// A role that has ended, and whether all went well: nothing was lost for want of memory.
 pub struct Played {
     pub ended: Ended,
     pub is_whole: bool,
