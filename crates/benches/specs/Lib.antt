@@ -1,3 +1,4 @@
 pub mod Sessions
 pub mod Players
 pub mod Working
+pub mod Acts

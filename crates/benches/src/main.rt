@@ -1,9 +1,12 @@
 //! Sessions over rings, on one thread and on several, and sessions by several workers, whose actors do a stated amount of work
 //! at each act: how many parcels came in order and how far the workers came; with the word `rings` how many parcels came in a
-//! second, and with the word `workers` how many acts were made. Without a word it ends with 1 where one of some further sessions
-//! doesn't go as it should.
+//! second, and with the word `workers` how many acts were made. With the word `opening`, `stages` or `endpoints` it plays a
+//! session of no acts, by stages or by endpoints. Without a word it ends with 1 where one of some further sessions doesn't go as
+//! it should.
 #![tactic(auto)]
 
+mod act_sessions;
+mod endpoint_acts;
 mod ring_machines;
 mod ring_players;
 mod ring_runs;
@@ -11,11 +14,14 @@ mod ring_sessions;
 mod ring_threads;
 mod ring_times;
 mod ring_trials;
+mod stage_acts;
+mod stream_types;
 mod worker_actors;
 mod worker_runs;
 mod worker_sessions;
 mod worker_times;
 
+use act_sessions::Way;
 use rs_model::NoMemory;
 use std::alloc::{Alloc, Global};
 use std::env::{self, Env};
@@ -36,6 +42,9 @@ const WORKERS: [u8; 3] = [1, 2, 4];
 /// The rounds of work at each act that are timed.
 const ROUNDS: [u32; 5] = [0, 100, 300, 1000, 3000];
 
+/// How many numbers go from A to B in the sessions whose instructions are counted.
+const NUMBERS: u32 = 100_000;
+
 /// What is asked for.
 enum Asked {
     /// Whether all goes as it should.
@@ -44,6 +53,8 @@ enum Asked {
     RingTimes,
     /// How fast workers make acts.
     WorkerTimes,
+    /// A session of so many numbers, played in that way.
+    Acts(Way, u32),
 }
 
 /// What the first word behind the program's name asks for.
@@ -55,6 +66,15 @@ fn what_is_asked<R: Env + Alloc<A = Global>>(rt: &R) -> io::Result<Asked> {
             }
             if word.as_str() == "workers" {
                 return Ok(Asked::WorkerTimes);
+            }
+            if word.as_str() == "opening" {
+                return Ok(Asked::Acts(Way::Stages, 0));
+            }
+            if word.as_str() == "stages" {
+                return Ok(Asked::Acts(Way::Stages, NUMBERS));
+            }
+            if word.as_str() == "endpoints" {
+                return Ok(Asked::Acts(Way::Endpoints, NUMBERS));
             }
         }
     }
@@ -103,6 +123,18 @@ fn tell_numbers<R: Threads + Wait + Sync + Print + Alloc<A = Global>>(rt: &R) ->
     Ok(())
 }
 
+/// Tells how many numbers came in order in a session that is played in that way.
+fn tell_acts<R: Print + Alloc<A = Global>>(rt: &R, way: Way, count: u32) -> io::Result<()> {
+    let by = match way {
+        Way::Stages => "stages",
+        Way::Endpoints => "endpoints",
+    };
+    match act_sessions::right_of(rt.alloc(), way, count) {
+        Some(right) => println!(rt; "by {by}: {right} of {count} numbers came in order"),
+        None => println!(rt; "by {by}: no session"),
+    }
+}
+
 /// Tells how many parcels came in a second.
 fn tell_ring_times<R: Threads + Wait + Sync + Clock + Print + Alloc<A = Global>>(
     rt: &R,
@@ -147,9 +179,15 @@ fn run<R: Threads + Wait + Sync + Clock + Print + Env + Alloc<A = Global>>(
             tell_worker_times(rt)?;
             Ok(true)
         }
+        Asked::Acts(way, count) => {
+            tell_acts(rt, way, count)?;
+            Ok(true)
+        }
         Asked::Trials => {
             tell_orders(rt)?;
             tell_numbers(rt)?;
+            tell_acts(rt, Way::Stages, 1000)?;
+            tell_acts(rt, Way::Endpoints, 1000)?;
             told(ring_trials::are_right(rt, rt.alloc()))
         }
     }

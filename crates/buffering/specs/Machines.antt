@@ -4,16 +4,16 @@ use Rattle.rs_model.specs.Data.{Machine_data}
 use Rattle.rs_model.specs.declared.graph.Arm.{Arm}
 use Rattle.rs_model.specs.declared.machines.State.TheVariants.{Done, Puts, Takes}
 use Rattle.rs_model.specs.declared.values.Sort.TheVariants as sort
-use Rattle.buffering.specs.declared.names.TheConstants.{KERNEL_ROLE, SOURCE_ROLE, SINK_ROLE, READY_LABEL, COPY_LABEL, STOP_LABEL}
+use Rattle.buffering.specs.declared.names.TheConstants.{KERNEL_ROLE, SOURCE_ROLE, SINK_ROLE}
 
 abbrev pub ready_then : ℕ → Arm
-ready_then next = record { label = READY_LABEL; sort = sort.Unit; next = next }
+ready_then next = record { label = record { 0 = 0 }; sort = sort.Unit; next = next }
 
 abbrev pub copy_then : ℕ → Arm
-copy_then next = record { label = COPY_LABEL; sort = sort.Octets; next = next }
+copy_then next = record { label = record { 0 = 1 }; sort = sort.Octets; next = next }
 
 abbrev pub stop_then : ℕ → Arm
-stop_then next = record { label = STOP_LABEL; sort = sort.Unit; next = next }
+stop_then next = record { label = record { 0 = 2 }; sort = sort.Unit; next = next }
 
 -- machine K: S!ready(). rec X. S!ready(). T?ready(). S?{copy(bytes). T!copy(bytes). X, stop(). T!stop(). end}
 abbrev pub kernel : Machine_data

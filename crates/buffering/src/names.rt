@@ -1,6 +1,7 @@
-//! The roles and labels of the text, by their places in it.
+//! The roles and messages of the text, by their places in it.
 
-use rs_model::{Label, Role};
+use rs_model::{Octets, Role};
+use rs_typed::{Message, Party};
 
 /// The kernel, K in the text.
 pub const KERNEL_ROLE: Role = Role(0);
@@ -11,11 +12,20 @@ pub const SOURCE_ROLE: Role = Role(1);
 /// The sink, T in the text.
 pub const SINK_ROLE: Role = Role(2);
 
-/// `ready`, by which copies are asked for.
-pub const READY_LABEL: Label = Label(0);
+/// K, with whom a role has to do.
+pub type KernelParty = Party<0>;
 
-/// `copy`, which carries bytes.
-pub const COPY_LABEL: Label = Label(1);
+/// S, with whom a role has to do.
+pub type SourceParty = Party<1>;
 
-/// `stop`, behind which no copies come.
-pub const STOP_LABEL: Label = Label(2);
+/// T, with whom a role has to do.
+pub type SinkParty = Party<2>;
+
+/// `ready()`, by which copies are asked for.
+pub type ReadyMessage = Message<0, ()>;
+
+/// `copy(bytes)`.
+pub type CopyMessage = Message<1, Octets>;
+
+/// `stop()`, behind which no copies come.
+pub type StopMessage = Message<2, ()>;

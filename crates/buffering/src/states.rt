@@ -1,44 +1,9 @@
 //! The states of the three machines.
 
 ghost use Rattle.std.specs.Prelude.{◌≡◌, [], ◌∷◌, IfOk};
-ghost use Rattle.buffering.specs.Machines as spec;
 
-use crate::names::{COPY_LABEL, READY_LABEL, STOP_LABEL};
-use rs_model::{Arm, Arms, NoMemory, Role, Sort, State};
+use rs_model::{Arm, Arms, NoMemory, Role, State};
 use std::alloc::Global;
-
-/// `ready()`, and then the state with that number.
-pub fn ready_then(next: u32) -> Arm
-    ensures { result ≡ spec.ready_then next }
-{
-    Arm {
-        label: READY_LABEL,
-        sort: Sort::Unit,
-        next,
-    }
-}
-
-/// `copy(bytes)`, and then the state with that number.
-pub fn copy_then(next: u32) -> Arm
-    ensures { result ≡ spec.copy_then next }
-{
-    Arm {
-        label: COPY_LABEL,
-        sort: Sort::Octets,
-        next,
-    }
-}
-
-/// `stop()`, and then the state with that number.
-pub fn stop_then(next: u32) -> Arm
-    ensures { result ≡ spec.stop_then next }
-{
-    Arm {
-        label: STOP_LABEL,
-        sort: Sort::Unit,
-        next,
-    }
-}
 
 /// A state that sends by one arm.
 pub fn sends_one(alloc: Global, peer: Role, arm: Arm) -> State

@@ -72,9 +72,9 @@ fn last_stage(stages: &mut Vec<Stage>) -> Stage
 fn three_stages(session: &Session, stages: Vec<Stage>) -> (Stage, Stage, Stage)
     requires machines { session.now.machines ≡ spec.all_machines }
     requires first { AreFirst session.now stages.items }
-    ensures kernel { IsOf session.now result.0 × CanEnter session.now spec.kernel KERNEL_ROLE 0 result.0 }
-    ensures source { IsOf session.now result.1 × CanEnter session.now spec.source SOURCE_ROLE 0 result.1 }
-    ensures sink { IsOf session.now result.2 × CanEnter session.now spec.sink SINK_ROLE 0 result.2 }
+    ensures kernel { IsOf session.now result.0 × CanEnter session.now spec.kernel 0 result.0 }
+    ensures source { IsOf session.now result.1 × CanEnter session.now spec.source 0 result.1 }
+    ensures sink { IsOf session.now result.2 × CanEnter session.now spec.sink 0 result.2 }
 {
     let mut stages = stages;
     let sink = last_stage(&mut stages);
@@ -88,7 +88,7 @@ fn three_stages(session: &Session, stages: Vec<Stage>) -> (Stage, Stage, Stage)
 fn entered<S: Spot>(session: &Session, machine: &Machine, stage: Stage) -> At<S>
     requires of { IsOf session.now stage }
     requires machine { machine.now ≡ S.Of.meaning }
-    requires stands { CanEnter session.now S.Of.meaning S.Of.ROLE S.AT stage }
+    requires stands { CanEnter session.now S.Of.meaning S.AT stage }
     ensures { IsEndpoint session.now S.Of.meaning result }
 {
     match At::<S>::enter(session, machine, stage) {

@@ -4,7 +4,9 @@ ghost use Rattle.rs_typed.specs.Endpoints.{IsEndpoint};
 ghost use Rattle.double_buffering.specs.Waiting.{ComesTo};
 
 use rs_session::Session;
-use rs_typed::{At, Payload, Puts, Spot, TakesOne, TakesTwo, TypedOne, TypedSent, TypedTwo};
+use rs_typed::{
+    At, HasLabel, Payload, Puts, Spot, TakesOne, TakesTwo, TypedOne, TypedSent, TypedTwo,
+};
 use std::sync::Wait;
 use std::thread;
 
@@ -24,7 +26,7 @@ pub fn send<const ARM: u16, S: Puts<ARM>, R: Wait>(
     rt: &R,
     session: &Session,
     at: At<S>,
-    value: <S as Puts<ARM>>::Carries,
+    value: <<S as Puts<ARM>>::Message as HasLabel>::Carries,
 ) -> At<<S as Puts<ARM>>::Next>
     requires { IsEndpoint session.now S.Of.meaning at }
     ensures { IsEndpoint session.now S.Of.meaning result }
@@ -56,7 +58,10 @@ pub fn receive<S: TakesOne, R: Wait>(
     rt: &R,
     session: &Session,
     at: At<S>,
-) -> (<S as TakesOne>::Carries, At<<S as TakesOne>::Next>)
+) -> (
+    <<S as TakesOne>::Message as HasLabel>::Carries,
+    At<<S as TakesOne>::Next>,
+)
     requires { IsEndpoint session.now S.Of.meaning at }
     ensures { IsEndpoint session.now S.Of.meaning result.1 }
 {
@@ -80,9 +85,9 @@ pub fn receive_two<S: TakesTwo, R: Wait>(
     at: At<S>,
 ) -> Came<
     <S as TakesTwo>::FirstNext,
-    <S as TakesTwo>::First,
+    <<S as TakesTwo>::First as HasLabel>::Carries,
     <S as TakesTwo>::SecondNext,
-    <S as TakesTwo>::Second,
+    <<S as TakesTwo>::Second as HasLabel>::Carries,
 >
     requires { IsEndpoint session.now S.Of.meaning at }
     ensures { ComesTo session.now S.Of.meaning result }

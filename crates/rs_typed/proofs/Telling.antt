@@ -24,7 +24,7 @@ module _ (session : Rings_data) (machine : Machine_data) (old : Stage) (of : IsE
     runs = ap (λ (r : Role). slice_get session.machines r.0) role ∙ of.runs;
   }
 
-  module _ (role : Role) (at : ℕ) (stands : StandsAt machine role at old) where
+  module _ (at : ℕ) (stands : StandsAt machine at old) where
     -- the state of the session's machine at which it stands is that of the spot
     stands_in : state_of_stage session (sight_of_stage old) ≡ slice_get machine.states at
     stands_in = ap (λ o. state_of o (sight_of_stage old).part.state) of.runs ∙ ap (λ (s : ℕ). slice_get machine.states s) stands.state_is
@@ -91,11 +91,11 @@ two_places a b c zero e other = absurd (other refl)
 two_places a b c (suc zero) e other = refl
 two_places a b c (suc (suc n)) e other = cc (e)
 
-module _ (session : Rings_data) (machine : Machine_data) (old : Stage) (of : IsEndpoint session machine old) (role : Role) (at : ℕ) (stands : StandsAt machine role at old) where
+module _ (session : Rings_data) (machine : Machine_data) (old : Stage) (of : IsEndpoint session machine old) (at : ℕ) (stands : StandsAt machine at old) where
   picked_from : (peer : Role) (arms : List Arm) (place : ℕ) (before : Stage_data) (value : Value) (new : Stage) → slice_get machine.states at ≡ Some (Takes peer arms) → sight_of_stage old ≡ before
       → (got : IsGot session before place value new) → slice_get arms place ≡ Some got.by.arm
   picked_from peer arms place before value new takes sight got =
-      let both : Some (Takes got.by.peer got.by.arms) ≡ Some (Takes peer arms) = sym got.by.stands ∙ ap (state_of_stage session) (sym sight) ∙ stands_in session machine old of role at stands ∙ takes in
+      let both : Some (Takes got.by.peer got.by.arms) ≡ Some (Takes peer arms) = sym got.by.stands ∙ ap (state_of_stage session) (sym sight) ∙ stands_in session machine old of at stands ∙ takes in
       let same : arms ≡ got.by.arms = cc (both) in
       ap (λ (l : List Arm). slice_get l place) same ∙ got.by.picks
 
@@ -103,13 +103,13 @@ module _ (session : Rings_data) (machine : Machine_data) (old : Stage) (of : IsE
       → IsGot session before place value new → GetsAt session machine peer 0 arm value old new
   gets_one peer arm takes place before value new sight told =
       let zeroth : place ≡ 0 = one_place arm told.by.arm place (picked_from peer (arm ∷ []) place before value new takes sight told) in
-      gets session machine old of role at stands peer (arm ∷ []) takes 0 arm before value new refl sight (subst (λ (n : ℕ). IsGot session before n value new) zeroth told)
+      gets session machine old of at stands peer (arm ∷ []) takes 0 arm before value new refl sight (subst (λ (n : ℕ). IsGot session before n value new) zeroth told)
 
   pub gets_second : (peer : Role) (first second : Arm) → slice_get machine.states at ≡ Some (Takes peer (first ∷ second ∷ [])) → (place : ℕ) (before : Stage_data) (value : Value) (new : Stage) → sight_of_stage old ≡ before → place ≢ 0
       → IsGot session before place value new → GetsAt session machine peer 1 second value old new
   gets_second peer first second takes place before value new sight other told =
       let last : place ≡ 1 = two_places first second told.by.arm place (picked_from peer (first ∷ second ∷ []) place before value new takes sight told) other in
-      gets session machine old of role at stands peer (first ∷ second ∷ []) takes 1 second before value new refl sight (subst (λ (n : ℕ). IsGot session before n value new) last told)
+      gets session machine old of at stands peer (first ∷ second ∷ []) takes 1 second before value new refl sight (subst (λ (n : ℕ). IsGot session before n value new) last told)
 
 -- the state of the session's machine at which a stage stands, as a state of the machine
 state_in : (session : Rings_data) (machine : Machine_data) (s : ℕ) (stage : Stage) → IsEndpoint session machine stage → (sight_of_stage stage).part.state ≡ s → state_of_stage session (sight_of_stage stage) ≡ slice_get machine.states s
@@ -121,8 +121,8 @@ kind_of session machine s (Receiving stage) of is at = (of.peer, of.arms, sym (s
 kind_of session machine s (Ended stage) of is at = sym (state_in session machine s (Ended stage) is at) ∙ of.stands
 
 -- where the new stage stands
-pub sends_on : (session : Rings_data) (machine : Machine_data) (peer role : Role) (place s : ℕ) (arm : Arm) (value : Value) (old new : Stage) → StandsAt machine role s old → SendsAt session machine peer place arm value old new → StandsAt machine role arm.next new
-sends_on session machine peer role place s arm value old new stands told =
+pub sends_on : (session : Rings_data) (machine : Machine_data) (peer : Role) (place s : ℕ) (arm : Arm) (value : Value) (old new : Stage) → StandsAt machine s old → SendsAt session machine peer place arm value old new → StandsAt machine arm.next new
+sends_on session machine peer place s arm value old new stands told =
     let at : (sight_of_stage new).part.state ≡ arm.next = ap (λ (z : Stage_data). z.part.state) told.sent.sent.becomes ∙ ap (λ (a : Arm). a.next) told.by in
     record {
       role_is = ap (λ (z : Stage_data). z.role) told.sent.sent.becomes ∙ stands.role_is;
@@ -130,8 +130,8 @@ sends_on session machine peer role place s arm value old new stands told =
       kind = kind_of session machine arm.next new told.sent.of told.is at;
     }
 
-pub gets_on : (session : Rings_data) (machine : Machine_data) (peer role : Role) (place s : ℕ) (arm : Arm) (value : Value) (old new : Stage) → StandsAt machine role s old → GetsAt session machine peer place arm value old new → StandsAt machine role arm.next new
-gets_on session machine peer role place s arm value old new stands told =
+pub gets_on : (session : Rings_data) (machine : Machine_data) (peer : Role) (place s : ℕ) (arm : Arm) (value : Value) (old new : Stage) → StandsAt machine s old → GetsAt session machine peer place arm value old new → StandsAt machine arm.next new
+gets_on session machine peer place s arm value old new stands told =
     let at : (sight_of_stage new).part.state ≡ arm.next = ap (λ (z : Stage_data). z.part.state) told.got.got.becomes ∙ ap (λ (a : Arm). a.next) told.by in
     record {
       role_is = ap (λ (z : Stage_data). z.role) told.got.got.becomes ∙ stands.role_is;
@@ -140,8 +140,8 @@ gets_on session machine peer role place s arm value old new stands told =
     }
 
 -- an ended stage at a spot of the session's machine has ended in the session
-pub ends_in : (session : Rings_data) (machine : Machine_data) (role : Role) (s : ℕ) (ended : Stage_data) → StandsAt machine role s (Ended ended) → IsEndpoint session machine (Ended ended) → IsEnded session ended
-ends_in session machine role s ended stands is = record {
+pub ends_in : (session : Rings_data) (machine : Machine_data) (s : ℕ) (ended : Stage_data) → StandsAt machine s (Ended ended) → IsEndpoint session machine (Ended ended) → IsEnded session ended
+ends_in session machine s ended stands is = record {
   table = is.table;
   stands = state_in session machine s (Ended ended) is stands.state_is ∙ stands.kind;
 }

@@ -15,9 +15,9 @@ IsOfKind machine s (Sending stage) = (peer : Role) × (arms : List Arm) × (slic
 IsOfKind machine s (Receiving stage) = (peer : Role) × (arms : List Arm) × (slice_get machine.states s ≡ Some (Takes peer arms))
 IsOfKind machine s (Ended stage) = slice_get machine.states s ≡ Some Done
 
--- the stage is of that role, and stands in state s of the machine
-pub record StandsAt (machine : Machine_data) (role : Role) (s : ℕ) (stage : Stage) : Type 0 where
-  pub role_is : (sight_of_stage stage).role ≡ role
+-- the stage is of the machine's role, and stands in state s of the machine
+pub record StandsAt (machine : Machine_data) (s : ℕ) (stage : Stage) : Type 0 where
+  pub role_is : (sight_of_stage stage).role ≡ machine.role
   pub state_is : (sight_of_stage stage).part.state ≡ s
   pub kind : IsOfKind machine s stage
 
@@ -26,9 +26,9 @@ pub record IsEndpoint (session : Rings_data) (machine : Machine_data) (stage : S
   pub table : (sight_of_stage stage).table ≡ session.table
   pub runs : slice_get session.machines (sight_of_stage stage).role.0 ≡ Some machine
 
--- the stage is of that role and stands in state s, and the session's machine of the role is this
-pub record CanEnter (session : Rings_data) (machine : Machine_data) (role : Role) (s : ℕ) (stage : Stage) : Type 0 where
-  pub role_is : (sight_of_stage stage).role ≡ role
+-- the stage is of the machine's role and stands in state s, and the session's machine of the role is this
+pub record CanEnter (session : Rings_data) (machine : Machine_data) (s : ℕ) (stage : Stage) : Type 0 where
+  pub role_is : (sight_of_stage stage).role ≡ machine.role
   pub state_is : (sight_of_stage stage).part.state ≡ s
   pub runs : slice_get session.machines (sight_of_stage stage).role.0 ≡ Some machine
 

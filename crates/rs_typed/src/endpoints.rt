@@ -9,7 +9,7 @@ ghost use Rattle.rs_typed.specs.Tells.{SentTells, OneTells, TwoTells};
 
 use crate::answers::{TypedOne, TypedSent, TypedTwo};
 use crate::payloads::Payload;
-use crate::spots::{Finishes, Puts, Spot, TakesOne, TakesTwo, Typing};
+use crate::spots::{Finishes, HasLabel, Puts, Spot, TakesOne, TakesTwo};
 use rs_model::Machine;
 use rs_session::{Ended, Sent, Session, Stage, Taken};
 use std::marker::{Model, PhantomData};
@@ -32,7 +32,7 @@ impl<S: Spot> Model for At<S> {
 
     ghost view = { λ a. a.stage };
 
-    ghost invariant = { λ a. StandsAt S.Of.meaning S.Of.ROLE S.AT a.stage };
+    ghost invariant = { λ a. StandsAt S.Of.meaning S.AT a.stage };
 }
 
 impl<S: Spot> At<S> {
@@ -43,12 +43,12 @@ impl<S: Spot> At<S> {
     pub fn enter(session: &Session, machine: &Machine, stage: Stage) -> Result<At<S>, Stage>
         requires of { IsOf session.now stage }
         requires machine { machine.now ≡ S.Of.meaning }
-        ensures ok { IfOk result (λ at. (at ≡ stage) × CanEnter session.now S.Of.meaning S.Of.ROLE S.AT stage) }
+        ensures ok { IfOk result (λ at. (at ≡ stage) × CanEnter session.now S.Of.meaning S.AT stage) }
         ensures is { IfOk result (IsEndpoint session.now S.Of.meaning) }
-        ensures err { IfErr result (λ back. (back ≡ stage) × (CanEnter session.now S.Of.meaning S.Of.ROLE S.AT stage → ⊥)) }
+        ensures err { IfErr result (λ back. (back ≡ stage) × (CanEnter session.now S.Of.meaning S.AT stage → ⊥)) }
     {
         let role = stage.role();
-        if role == <<S as Spot>::Of as Typing>::ROLE
+        if role == machine.role
             && state_of(&stage) == <S as Spot>::AT
             && session.machine(role).same(machine)
         {
@@ -78,13 +78,13 @@ impl<S: Spot> At<S> {
     pub fn send<const ARM: u16>(
         self,
         session: &Session,
-        value: <S as Puts<ARM>>::Carries,
-    ) -> TypedSent<S, <S as Puts<ARM>>::Next, <S as Puts<ARM>>::Carries>
+        value: <<S as Puts<ARM>>::Message as HasLabel>::Carries,
+    ) -> TypedSent<S, <S as Puts<ARM>>::Next, <<S as Puts<ARM>>::Message as HasLabel>::Carries>
     where
         S: Puts<ARM>,
         requires of { IsEndpoint session.now S.Of.meaning self }
         requires acts { length (sight_of_stage self).part.history < 2 ^ 63 }
-        ensures told { SentTells session.now S.Of.meaning S.PEER self S.Carries.packed ARM (record { label = S.LABEL; sort = S.Carries.SORT; next = S.Next.AT }) value result }
+        ensures told { SentTells session.now S.Of.meaning S.Peer.ROLE self S.Message.Carries.packed ARM (record { label = S.Message.LABEL; sort = S.Message.Carries.SORT; next = S.Next.AT }) value result }
     {
         let At { stage, spot: _ } = self;
         match stage {
@@ -103,7 +103,9 @@ impl<S: Spot> At<S> {
                         stage: Stage::Sending(stage),
                         spot: PhantomData,
                     },
-                    value: <<S as Puts<ARM>>::Carries as Payload>::unpack(value),
+                    value: <<<S as Puts<ARM>>::Message as HasLabel>::Carries as Payload>::unpack(
+                        value,
+                    ),
                     sent,
                     taken,
                 },
@@ -119,12 +121,12 @@ impl<S: Spot> At<S> {
     pub fn receive(
         self,
         session: &Session,
-    ) -> TypedOne<S, <S as TakesOne>::Next, <S as TakesOne>::Carries>
+    ) -> TypedOne<S, <S as TakesOne>::Next, <<S as TakesOne>::Message as HasLabel>::Carries>
     where
         S: TakesOne,
         requires of { IsEndpoint session.now S.Of.meaning self }
         requires acts { length (sight_of_stage self).part.history < 2 ^ 63 }
-        ensures told { OneTells session.now S.Of.meaning S.PEER self S.Carries.unpacked (record { label = S.LABEL; sort = S.Carries.SORT; next = S.Next.AT }) result }
+        ensures told { OneTells session.now S.Of.meaning S.Peer.ROLE self S.Message.Carries.unpacked (record { label = S.Message.LABEL; sort = S.Message.Carries.SORT; next = S.Next.AT }) result }
     {
         let At { stage, spot: _ } = self;
         match stage {
@@ -134,7 +136,7 @@ impl<S: Spot> At<S> {
                     value,
                     stage,
                 } => TypedOne::Got(
-                    <<S as TakesOne>::Carries as Payload>::unpack(value),
+                    <<<S as TakesOne>::Message as HasLabel>::Carries as Payload>::unpack(value),
                     At {
                         stage,
                         spot: PhantomData,
@@ -162,15 +164,15 @@ impl<S: Spot> At<S> {
     ) -> TypedTwo<
         S,
         <S as TakesTwo>::FirstNext,
-        <S as TakesTwo>::First,
+        <<S as TakesTwo>::First as HasLabel>::Carries,
         <S as TakesTwo>::SecondNext,
-        <S as TakesTwo>::Second,
+        <<S as TakesTwo>::Second as HasLabel>::Carries,
     >
     where
         S: TakesTwo,
         requires of { IsEndpoint session.now S.Of.meaning self }
         requires acts { length (sight_of_stage self).part.history < 2 ^ 63 }
-        ensures told { TwoTells session.now S.Of.meaning S.PEER self S.First.unpacked (record { label = S.FIRST_LABEL; sort = S.First.SORT; next = S.FirstNext.AT }) S.Second.unpacked (record { label = S.SECOND_LABEL; sort = S.Second.SORT; next = S.SecondNext.AT }) result }
+        ensures told { TwoTells session.now S.Of.meaning S.Peer.ROLE self S.First.Carries.unpacked (record { label = S.First.LABEL; sort = S.First.Carries.SORT; next = S.FirstNext.AT }) S.Second.Carries.unpacked (record { label = S.Second.LABEL; sort = S.Second.Carries.SORT; next = S.SecondNext.AT }) result }
     {
         let At { stage, spot: _ } = self;
         match stage {
@@ -180,7 +182,7 @@ impl<S: Spot> At<S> {
                     value,
                     stage,
                 } => TypedTwo::First(
-                    <<S as TakesTwo>::First as Payload>::unpack(value),
+                    <<<S as TakesTwo>::First as HasLabel>::Carries as Payload>::unpack(value),
                     At {
                         stage,
                         spot: PhantomData,
@@ -191,7 +193,7 @@ impl<S: Spot> At<S> {
                     value,
                     stage,
                 } => TypedTwo::Second(
-                    <<S as TakesTwo>::Second as Payload>::unpack(value),
+                    <<<S as TakesTwo>::Second as HasLabel>::Carries as Payload>::unpack(value),
                     At {
                         stage,
                         spot: PhantomData,
@@ -214,7 +216,7 @@ impl<S: Spot> At<S> {
     where
         S: Finishes,
         ensures same { self ≡ stage.Ended result }
-        ensures role { result.role ≡ S.Of.ROLE }
+        ensures role { result.role ≡ S.Of.meaning.role }
         ensures ended { (session : Rings_data) → IsEndpoint session S.Of.meaning self → IsEnded session result }
     {
         let At { stage, spot: _ } = self;

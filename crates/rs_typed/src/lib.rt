@@ -13,4 +13,6 @@ pub use answers::{TypedOne, TypedSent, TypedTwo};
 pub use endpoints::At;
 pub use numbers::Nat;
 pub use payloads::Payload;
-pub use spots::{Finishes, Puts, Spot, TakesOne, TakesTwo, Typing};
+pub use spots::{
+    Finishes, HasLabel, HasRole, Message, Party, Puts, Spot, TakesOne, TakesTwo, Typing,
+};
