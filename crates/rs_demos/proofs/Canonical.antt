@@ -27,6 +27,8 @@ use Rattle.rs_bodies.specs.declared.dialects.Mark.{Mark}
 use Rattle.rs_bodies.specs.declared.dialects.Mark.TheVariants as mark
 use Rattle.rs_demos.specs.Sessions.{role, arm, double_protocol, double_kernel, stream_protocol, stream_source, demo_names}
 use Rattle.rs_documents.proofs.Lines.{without}
+use Rattle.rs_documents.specs.Canonical.{IsLine}
+use Rattle.rs_demos.proofs.Printable.{demos_are_shaped}
 use Rattle.rs_demos.specs.Texts.{IsDemoText}
 use Rattle.rs_demos.specs.declared.documents.TheConstants.{DOUBLE, STREAM}
 
@@ -213,7 +215,13 @@ double_is n text e = record {
   front = protocol_texts.protocol_text double_tree;
   back = machine_texts.machine_text double_kernel_tree;
   protocol = record { tree = double_tree; canonical = double_front; whole = refl };
-  machines = (machine_texts.machine_text double_kernel_tree, [], record { tree = double_kernel_tree; canonical = double_back; whole = refl }, refl, refl);
+  machines = (
+    machine_texts.machine_text double_kernel_tree,
+    [],
+    IsLine (machine_texts.machine_text double_kernel_tree) (demos_are_shaped demo.Double n refl).0 (record { tree = double_kernel_tree; canonical = double_back; whole = refl }),
+    refl,
+    refl,
+  );
   whole = e ∙ without (demo_names demo.Double n) (demo_names demo.Double n).roles (protocol_texts.protocol_text double_tree) (machine_texts.machine_text double_kernel_tree);
 }
 
@@ -318,6 +326,12 @@ stream_is n text e = record {
   front = protocol_texts.protocol_text stream_tree;
   back = machine_texts.machine_text stream_source_tree;
   protocol = record { tree = stream_tree; canonical = stream_front; whole = refl };
-  machines = (machine_texts.machine_text stream_source_tree, [], record { tree = stream_source_tree; canonical = stream_back; whole = refl }, refl, refl);
+  machines = (
+    machine_texts.machine_text stream_source_tree,
+    [],
+    IsLine (machine_texts.machine_text stream_source_tree) (demos_are_shaped demo.Stream n refl).0 (record { tree = stream_source_tree; canonical = stream_back; whole = refl }),
+    refl,
+    refl,
+  );
   whole = e ∙ without (demo_names demo.Stream n) (demo_names demo.Stream n).roles (protocol_texts.protocol_text stream_tree) (machine_texts.machine_text stream_source_tree);
 }

@@ -18,6 +18,7 @@ use Rattle.rs_text.specs.Sound.{are_sound}
 use Rattle.rs_text.proofs.Naming.{decides_sound}
 use Rattle.rs_global.specs.Shapes.{is_shaped}
 use Rattle.rs_global.proofs.ShapeWhole as protocols
+use Rattle.rs_machines.specs.Canonical.{IsMachineTextShaped}
 use Rattle.rs_machines.specs.Enough.{AreEnoughFor}
 use Rattle.rs_machines.specs.Machines.{state_by_mark}
 use Rattle.rs_machines.specs.Shapes as machine_shapes
@@ -91,6 +92,20 @@ enough_for names m r h = record {
       (peer_below (length names.roles) (length names.labels) k peer arms (at_all (state_named (length names.roles) (length names.labels)) m.states n (state_by_mark k peer arms) h e)).1 s;
 }
 
+-- each machine that is there is read from a body of acts
+abbrev pub AreShaped : List (Option Machine_data) → Type 0
+AreShaped [] = Unit {0}
+AreShaped (None ∷ ms) = AreShaped ms
+AreShaped (Some m ∷ ms) = IsMachineTextShaped m × AreShaped ms
+
+shaped_by : (names : Names_data) (ms : List (Option Machine_data)) → list_all (machine_test names) ms ≡ true → AreShaped ms
+shaped_by names [] h = tt
+shaped_by names (None ∷ ms) h = shaped_by names ms h
+shaped_by names (Some m ∷ ms) h =
+    let p = and_parts (machine_test names (Some m)) (list_all (machine_test names) ms) h in
+    let q = and_parts (machine_shapes.is_shaped m) (nat_lt m.role.0 (length names.roles) && list_all (state_named (length names.roles) (length names.labels)) m.states) p.0 in
+    (machines.walked_is_shaped m q.0, shaped_by names ms p.1)
+
 shown : (names : Names_data) (ms : List (Option Machine_data)) → list_all (machine_test names) ms ≡ true → AreShown names ms
 shown names [] h = tt
 shown names (None ∷ ms) h = (tt, shown names ms h)
@@ -98,7 +113,7 @@ shown names (Some m ∷ ms) h =
     let p = and_parts (machine_test names (Some m)) (list_all (machine_test names) ms) h in
     let q = and_parts (machine_shapes.is_shaped m) (nat_lt m.role.0 (length names.roles) && list_all (state_named (length names.roles) (length names.labels)) m.states) p.0 in
     let e = and_parts (nat_lt m.role.0 (length names.roles)) (list_all (state_named (length names.roles) (length names.labels)) m.states) q.1 in
-    ((machines.walked_is_shaped m q.0, enough_for names m e.0 e.1), shown names ms p.1)
+    (record { enough = enough_for names m e.0 e.1; shaped = inl (machines.walked_is_shaped m q.0) }, shown names ms p.1)
 
 eq_by : (x y : ℕ) → (x == y) ≡ true → x ≡ y
 eq_by x y h = elim (eqb_tells x y) [ inl t ↦ t.1 | inr t ↦ absurd (false≢true (sym t.0 ∙ h)) ]
@@ -190,6 +205,14 @@ tests demo.Butterfly n s =
       | inl k ↦ elim (either (n == 2) (n == 4) k) [ inl f ↦ subst P (sym (eq_by n 2 f)) butterfly_2 | inr f ↦ subst P (sym (eq_by n 4 f)) butterfly_4 ]
       | inr k ↦ elim (either (n == 8) (n == 16) k) [ inl f ↦ subst P (sym (eq_by n 8 f)) butterfly_8 | inr f ↦ subst P (sym (eq_by n 16 f)) butterfly_16 ]
     ]
+
+pub demos_are_shaped : (kind : Demo) (n : ℕ) → has_session kind n ≡ true → AreShaped (written_machines kind n)
+demos_are_shaped kind n s =
+    let names : Names_data = demo_names kind n in
+    let p : Protocol_data = demo_protocol kind n in
+    let all = list_all (machine_test names) (written_machines kind n) in
+    let named = (length names.roles == p.roles) && list_all (node_named (length names.labels)) p.nodes in
+    shaped_by names (written_machines kind n) (and_parts named all (and_parts (are_sound names && is_shaped p) (named && all) (tests kind n s)).1).1
 
 pub printable : (kind : Demo) (n : ℕ) → has_session kind n ≡ true → CanBeShown (document_of kind n)
 printable kind n s = can_be_shown kind n (tests kind n s)

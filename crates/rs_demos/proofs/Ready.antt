@@ -6,7 +6,7 @@ use Rattle.std.proofs.lemmas.Bool.Decides.{eqb_tells}
 use Rattle.rs_documents.proofs.Parts.{none_there}
 use Rattle.rs_documents.specs.Ready.{AreShort, DocumentIsReady}
 use Rattle.rs_model.specs.Data.{Machine_data}
-use Rattle.rs_model.specs.declared.limits.TheConstants.{MOST_ACTS, MOST_ROLES, MOST_TALKS}
+use Rattle.rs_model.specs.declared.limits.TheConstants.{MOST_ROLES, MOST_STATES, MOST_TALKS}
 use Rattle.rs_model.specs.declared.demos.Demo.{Demo}
 use Rattle.rs_model.specs.declared.demos.Demo.TheVariants as demo
 use Rattle.rs_demos.specs.Sessions.{demo_names, demo_protocol, has_session, written_machines}
@@ -17,7 +17,7 @@ use Rattle.rs_demos.proofs.SpeltDocuments.{can_be_read}
 
 short : Option Machine_data → Bool
 short None = true
-short (Some m) = nat_le (length m.states) (MOST_ACTS + 1)
+short (Some m) = nat_le (length m.states) MOST_STATES
 
 abbrev size_test : Demo → ℕ → Bool
 size_test kind n =
@@ -63,7 +63,7 @@ sizes demo.Butterfly n s =
 
 are_short : (machines : List (Option Machine_data)) → list_all short machines ≡ true → AreShort machines
 unfolding short
-are_short machines h k m e = leb-true (length m.states) (MOST_ACTS + 1) (at_all short machines k (Some m) h e)
+are_short machines h k m e = leb-true (length m.states) MOST_STATES (at_all short machines k (Some m) h e)
 
 -- there are as many names of roles as roles
 pub role_names : (kind : Demo) (n : ℕ) → has_session kind n ≡ true → length (demo_names kind n).roles ≡ (demo_protocol kind n).roles

@@ -35,8 +35,9 @@ use Rattle.rs_bodies.specs.Dialects.{with_mark}
 use Rattle.rs_machines.specs.Canonical.{IsCanonicalMachineText}
 use Rattle.rs_bodies.specs.declared.dialects.Mark.TheVariants as mark
 use Rattle.rs_demos.specs.Sessions.{demo_names, Exchange, role, arm, machine, demo_role_name, numbers_from, nodes_from, states_from, protocol_of, has_session, ring_exchanges, ring_pairs}
-use Rattle.rs_demos.specs.Sessions.{butterfly_exchanges, butterfly_pairs, machine_with_line}
-use Rattle.rs_documents.specs.Canonical.{AreCanonicalMachines}
+use Rattle.rs_demos.specs.Sessions.{butterfly_exchanges, butterfly_pairs, machine_with_line, written_machines}
+use Rattle.rs_documents.specs.Canonical.{AreCanonicalMachines, IsLine}
+use Rattle.rs_demos.proofs.Printable.{AreShaped, demos_are_shaped}
 use Rattle.rs_documents.proofs.Lines.{without}
 use Rattle.rs_demos.specs.Texts.{IsDemoText}
 use Rattle.rs_demos.specs.Writing.{exchanges_text, pairs_text, other_name, machine_line, front_text, ring_line, butterfly_line, ring_text, butterfly_text}
@@ -218,16 +219,26 @@ line_is n p xs lt w = record {
 
 -- the lines of all roles but the first
 
+abbrev AreLines : Names_data → List (Option Machine_data) → List ℕ → Type 0
+AreLines names [] text = text ≡ []
+AreLines names (None ∷ ms) text = AreLines names ms text
+AreLines names (Some m ∷ ms) text = (line : List ℕ) × (later : List ℕ) × IsCanonicalMachineText names m line × AreLines names ms later × (text ≡ line ++ later)
+
+own_lines : (names : Names_data) (ms : List (Option Machine_data)) (text : List ℕ) → AreShaped ms → AreLines names ms text → AreCanonicalMachines names ms text
+own_lines names [] text s h = h
+own_lines names (None ∷ ms) text s h = own_lines names ms text s h
+own_lines names (Some m ∷ ms) text s h = (h.0, h.1, IsLine h.0 s.0 h.2, own_lines names ms h.1 s.1 h.3, h.4)
+
 lines : (kind : Demo) (n : ℕ) (pairs : ℕ → List Exchange) (k a : ℕ) → 0 < a → a + k ≤ n → ((i : ℕ) → i < n → are_within n (pairs i) ≡ true)
     → ((m : Machine_data) → m.role.0 ≢ 0 → machine_with_line kind m ≡ Some m)
-    → AreCanonicalMachines (names_for n) (map (machine_with_line kind) (map (λ (i : ℕ). machine i (states_from 0 (pairs i))) (range_with_len a k)))
+    → AreLines (names_for n) (map (machine_with_line kind) (map (λ (i : ℕ). machine i (states_from 0 (pairs i))) (range_with_len a k)))
     (flat_map (λ (i : ℕ). machine_line i (pairs i)) (range_with_len a k))
 lines kind n pairs zero a low le w is = refl
 lines kind n pairs (suc k) a low le w is =
     let m : Machine_data = machine a (states_from 0 (pairs a)) in
     let later = lines kind n pairs k (a + 1) (omega arith) (omega arith) w is in
     let P : Option Machine_data → Type 0 = λ o.
-    AreCanonicalMachines (names_for n) (o ∷ map (machine_with_line kind) (map (λ (i : ℕ). machine i (states_from 0 (pairs i))) (range_with_len (a + 1) k)))
+    AreLines (names_for n) (o ∷ map (machine_with_line kind) (map (λ (i : ℕ). machine i (states_from 0 (pairs i))) (range_with_len (a + 1) k)))
     (machine_line a (pairs a) ++ flat_map (λ (i : ℕ). machine_line i (pairs i)) (range_with_len (a + 1) k)) in
     subst P (sym (is (machine a (states_from 0 (pairs a))) (λ e. (let z : a ≡ 0 = e in omega arith))))
     (machine_line a (pairs a), flat_map (λ (i : ℕ). machine_line i (pairs i)) (range_with_len (a + 1) k), line_is n a (pairs a) (omega arith) (w a (omega arith)), later, refl)
@@ -288,29 +299,33 @@ ring_written m ne = ap (λ (b : Bool). if b then Some m else None) (not_first m 
 butterfly_written : (m : Machine_data) → m.role.0 ≢ 0 → machine_with_line demo.Butterfly m ≡ Some m
 butterfly_written m ne = ap (λ (b : Bool). if b then Some m else None) (not_first m ne)
 
-ring_at : (k : ℕ) (text : List ℕ) → tests ring_exchanges ring_pairs (suc (suc k)) ≡ true → text ≡ ring_text (suc (suc k)) → IsDemoText demo.Ring (suc (suc k)) text
-ring_at k text t e =
+ring_at : (k : ℕ) (text : List ℕ) → has_session demo.Ring (suc (suc k)) ≡ true → tests ring_exchanges ring_pairs (suc (suc k)) ≡ true → text ≡ ring_text (suc (suc k)) → IsDemoText demo.Ring (suc (suc k)) text
+ring_at k text s t e =
     let p = and_parts (are_within (suc (suc k)) (ring_exchanges (suc (suc k)))) (list_all (λ (i : ℕ). are_within (suc (suc k)) (ring_pairs (suc (suc k)) i)) (range_with_len 0 (suc (suc k)))) t in
     record {
       front = front_text (suc (suc k)) (ring_exchanges (suc (suc k)));
       back = flat_map (ring_line (suc (suc k))) (range_with_len 1 (suc k));
       protocol = front_is k (ring_exchanges (suc (suc k))) p.0;
-      machines = lines demo.Ring (suc (suc k)) (ring_pairs (suc (suc k))) (suc k) 1 (omega arith) (omega arith) (pairs_within ring_pairs (suc (suc k)) p.1) ring_written;
+      machines = own_lines (demo_names demo.Ring (suc (suc k))) (written_machines demo.Ring (suc (suc k))) (flat_map (ring_line (suc (suc k))) (range_with_len 1 (suc k)))
+          (demos_are_shaped demo.Ring (suc (suc k)) s)
+          (lines demo.Ring (suc (suc k)) (ring_pairs (suc (suc k))) (suc k) 1 (omega arith) (omega arith) (pairs_within ring_pairs (suc (suc k)) p.1) ring_written);
       whole = e ∙ ap (λ (z : ℕ). front_text (suc (suc k)) (ring_exchanges (suc (suc k))) ++ flat_map (ring_line (suc (suc k))) (range_with_len 1 z)) (less k)
           ∙ without (demo_names demo.Ring (suc (suc k))) (demo_names demo.Ring (suc (suc k))).roles (front_text (suc (suc k)) (ring_exchanges (suc (suc k))))
           (flat_map (ring_line (suc (suc k))) (range_with_len 1 (suc k)));
     }
 
-butterfly_at : (k : ℕ) (text : List ℕ) → tests butterfly_exchanges butterfly_pairs (suc (suc k)) ≡ true → text ≡ butterfly_text (suc (suc k))
+butterfly_at : (k : ℕ) (text : List ℕ) → has_session demo.Butterfly (suc (suc k)) ≡ true → tests butterfly_exchanges butterfly_pairs (suc (suc k)) ≡ true → text ≡ butterfly_text (suc (suc k))
     → IsDemoText demo.Butterfly (suc (suc k)) text
-butterfly_at k text t e =
+butterfly_at k text s t e =
     let p = and_parts (are_within (suc (suc k)) (butterfly_exchanges (suc (suc k)))) (list_all (λ (i : ℕ). are_within (suc (suc k)) (butterfly_pairs (suc (suc k)) i)) (range_with_len 0 (suc (suc k))))
     t in
     record {
       front = front_text (suc (suc k)) (butterfly_exchanges (suc (suc k)));
       back = flat_map (butterfly_line (suc (suc k))) (range_with_len 1 (suc k));
       protocol = front_is k (butterfly_exchanges (suc (suc k))) p.0;
-      machines = lines demo.Butterfly (suc (suc k)) (butterfly_pairs (suc (suc k))) (suc k) 1 (omega arith) (omega arith) (pairs_within butterfly_pairs (suc (suc k)) p.1) butterfly_written;
+      machines = own_lines (demo_names demo.Butterfly (suc (suc k))) (written_machines demo.Butterfly (suc (suc k))) (flat_map (butterfly_line (suc (suc k))) (range_with_len 1 (suc k)))
+          (demos_are_shaped demo.Butterfly (suc (suc k)) s)
+          (lines demo.Butterfly (suc (suc k)) (butterfly_pairs (suc (suc k))) (suc k) 1 (omega arith) (omega arith) (pairs_within butterfly_pairs (suc (suc k)) p.1) butterfly_written);
       whole = e ∙ ap (λ (z : ℕ). front_text (suc (suc k)) (butterfly_exchanges (suc (suc k))) ++ flat_map (butterfly_line (suc (suc k))) (range_with_len 1 z)) (less k)
           ∙ without (demo_names demo.Butterfly (suc (suc k))) (demo_names demo.Butterfly (suc (suc k))).roles (front_text (suc (suc k)) (butterfly_exchanges (suc (suc k))))
           (flat_map (butterfly_line (suc (suc k))) (range_with_len 1 (suc k)));
@@ -332,7 +347,8 @@ ring_is n text h e =
         let f : 2 + k ≡ suc (suc k) = omega arith in
         let P : ℕ → Type 0 = λ z. tests ring_exchanges ring_pairs z ≡ true in
         let Q : ℕ → Type 0 = λ z. IsDemoText demo.Ring z text in
-        subst Q (sym is) (ring_at k text (subst P f t) (e ∙ ap ring_text is))
+        let S : ℕ → Type 0 = λ z. has_session demo.Ring z ≡ true in
+        subst Q (sym is) (ring_at k text (subst S is h) (subst P f t) (e ∙ ap ring_text is))
 
 either : (a b : Bool) → (a || b) ≡ true → (a ≡ true) ⊎ (b ≡ true)
 either true b h = inl refl
@@ -346,11 +362,11 @@ butterfly_is n text h e =
     let Q : ℕ → Type 0 = λ z. IsDemoText demo.Butterfly z text in
     elim (either ((n == 2) || (n == 4)) ((n == 8) || (n == 16)) h) [
       | inl k ↦ elim (either (n == 2) (n == 4) k) [
-        | inl f ↦ subst Q (sym (eq_by n 2 f)) (butterfly_at 0 text refl (e ∙ ap butterfly_text (eq_by n 2 f)))
-        | inr f ↦ subst Q (sym (eq_by n 4 f)) (butterfly_at 2 text refl (e ∙ ap butterfly_text (eq_by n 4 f)))
+        | inl f ↦ subst Q (sym (eq_by n 2 f)) (butterfly_at 0 text refl refl (e ∙ ap butterfly_text (eq_by n 2 f)))
+        | inr f ↦ subst Q (sym (eq_by n 4 f)) (butterfly_at 2 text refl refl (e ∙ ap butterfly_text (eq_by n 4 f)))
       ]
       | inr k ↦ elim (either (n == 8) (n == 16) k) [
-        | inl f ↦ subst Q (sym (eq_by n 8 f)) (butterfly_at 6 text refl (e ∙ ap butterfly_text (eq_by n 8 f)))
-        | inr f ↦ subst Q (sym (eq_by n 16 f)) (butterfly_at 14 text refl (e ∙ ap butterfly_text (eq_by n 16 f)))
+        | inl f ↦ subst Q (sym (eq_by n 8 f)) (butterfly_at 6 text refl refl (e ∙ ap butterfly_text (eq_by n 8 f)))
+        | inr f ↦ subst Q (sym (eq_by n 16 f)) (butterfly_at 14 text refl refl (e ∙ ap butterfly_text (eq_by n 16 f)))
       ]
     ]

@@ -22,22 +22,24 @@ use Rattle.rs_text.proofs.Standing.{StopsAtEnd}
 use Rattle.rs_derivations.specs.declared.reading.Mode.{Mode}
 use Rattle.rs_text.specs.declared.messages.MessagePlace.TheVariants as place
 use Rattle.rs_derivations.specs.declared.reading.Mode.TheVariants as mode
-use Rattle.rs_derivations.specs.Cuts.{behind_peer, behind_mark, behind_label, behind_paren, behind_sort, NodeCut, at_number, at_colon, at_act, in_act, Cut, at_begin, at_role, in_nodes, at_end}
-use Rattle.rs_derivations.specs.Cuts.{cut_signs, wanted_of, IsPlace}
 use Rattle.rs_derivations.specs.Data.{Reader_data}
-use Rattle.rs_derivations.specs.Derivations.{labels_of_acts, labels_of_nodes, derivation_of}
 use Rattle.rs_text.specs.Names.{names_with}
-use Rattle.rs_derivations.specs.Faults.{Begins, IsInDerivation, StandsAt, IsMisplaced, FaultAt, number_value, fault_of_role, fault_of_label, fault_of_node, fault_of, fault_in_node}
-use Rattle.rs_derivations.specs.Feeding.{Fed, start_of_derivation, feed_at, is_read, feeding, names_read}
 use Rattle.rs_derivations.proofs.ReadDerivations.{derivation_read}
 use Rattle.rs_derivations.specs.Spells.{IsFormed, Fits, SpellsDerivation}
 use Rattle.rs_derivations.specs.Trees.{ActTree, NodeTree, DerivationTree}
 use Rattle.rs_derivations.proofs.Changes.{Change, change}
-use Rattle.rs_derivations.proofs.Fitting.{FitsSo, fits_first, fits_on, fits_back}
-use Rattle.rs_derivations.proofs.Grows.{Grown, stays, number_step, act_step, label_step, grown_to, role_step, node_grows, grows, GoesOn, goes_on}
 use Rattle.rs_derivations.proofs.Paths.{along, path, one_place, completes, stuck, no_further}
 use Rattle.rs_derivations.proofs.Standings.{stand, told, says}
 use Rattle.rs_text.proofs.Nexts.{lexed_are}
+use Rattle.rs_derivations.specs.declared.formats.Format.{Format}
+use Rattle.rs_derivations.specs.declared.formats.Format.TheVariants.{One, Two}
+use Rattle.rs_derivations.specs.Cuts.{behind_peer, behind_mark, behind_label, behind_paren, behind_sort, ActsCut, at_act, in_act, behind_act, NodeCut, at_number, at_colon, at_state, at_pending, at_above}
+use Rattle.rs_derivations.specs.Cuts.{at_rank_word, at_rank, at_next_word, at_nexts, at_next, behind_next, Head, ActsHome, of_node, of_list, Cut, at_begin, at_role, in_acts, in_node, at_end, cut_signs, wanted_of, IsPlace}
+use Rattle.rs_derivations.specs.Derivations.{written_lists, labels_of_acts, derivation_of}
+use Rattle.rs_derivations.specs.Faults.{Begins, IsInDerivation, StandsAt, IsMisplaced, FaultAt, number_value, fault_of_role, fault_of_label, fault_of_node, fault_of_peer, acts_before, fault_in_acts, fault_in_node, fault_of}
+use Rattle.rs_derivations.specs.Feeding.{Fed, start_of_derivation, feed_no_act, feed_behind_acts, feed_at, is_read, feeding, names_read}
+use Rattle.rs_derivations.proofs.Fitting.{FitsSo, fits_first, few_lists, lists_few, fits_on, fits_back}
+use Rattle.rs_derivations.proofs.Grows.{number_step, act_step, label_step, role_step, acts_grow, node_grows, grows, GoesOn, goes_on}
 
 -- ---- what is known of the reader
 
@@ -58,16 +60,32 @@ LeavesAny xs r = Unit {0}
 
 -- ---- places
 
-unread_in : (old : Names_data) (x : List ℕ) (b : ℕ) (ns : List NodeTree) (p : NodeCut) → is_read (stand old (in_nodes x b ns p)) ≡ false
-unread_in old x b ns (in_act s acts (behind_peer q)) = refl
-unread_in old x b ns (in_act s acts (behind_mark q k)) = refl
-unread_in old x b ns (in_act s acts (behind_label q k l)) = refl
-unread_in old x b ns (in_act s acts (behind_paren q k l)) = refl
-unread_in old x b ns (in_act s acts (behind_sort q k l o)) = refl
-unread_in old x b ns _ = refl
+unread_acts : (old : Names_data) (home : ActsHome) (c : ActsCut) → is_read (stand old (in_acts home c)) ≡ false
+unread_acts old home (in_act acts (behind_peer q)) = refl
+unread_acts old home (in_act acts (behind_mark q k)) = refl
+unread_acts old home (in_act acts (behind_label q k l)) = refl
+unread_acts old home (in_act acts (behind_paren q k l)) = refl
+unread_acts old home (in_act acts (behind_sort q k l o)) = refl
+unread_acts old home (at_act acts) = refl
+unread_acts old home (behind_act y ys) = refl
+
+unread_node : (old : Names_data) (f : Format) (h : Head f) (ns : List (NodeTree f)) (p : NodeCut f) → is_read (stand old (in_node f h ns p)) ≡ false
+unread_node old One h ns (at_pending s) = refl
+unread_node old Two h ns (at_pending s) = refl
+unread_node old f h ns at_number = refl
+unread_node old f h ns at_colon = refl
+unread_node old f h ns at_state = refl
+unread_node old f h ns (at_above s p) = refl
+unread_node old f h ns (at_rank_word s p a) = refl
+unread_node old f h ns (at_rank s p a) = refl
+unread_node old f h ns (at_next_word s p a r) = refl
+unread_node old f h ns (at_nexts s p a r) = refl
+unread_node old f h ns (at_next s p a r next) = refl
+unread_node old f h ns (behind_next s p a r y ys) = refl
 
 unread : (old : Names_data) (c : Cut) → IsInDerivation c → is_read (stand old c) ≡ false
-unread old (in_nodes x b ns p) h = unread_in old x b ns p
+unread old (in_acts home c) h = unread_acts old home c
+unread old (in_node f head ns p) h = unread_node old f head ns p
 unread old (at_end t) h = absurd h
 unread old _ h = refl
 
@@ -77,65 +95,94 @@ within old _ h = tt
 
 end_of : (old : Names_data) (c : Cut) → is_read (stand old c) ≡ true → (tree : DerivationTree) × (c ≡ at_end tree)
 end_of old (at_end t) h = (t, refl)
-end_of old (in_nodes x b ns p) h = absurd (cc (sym (unread_in old x b ns p) ∙ h))
+end_of old (in_acts home c) h = absurd (cc (sym (unread_acts old home c) ∙ h))
+end_of old (in_node f head ns p) h = absurd (cc (sym (unread_node old f head ns p) ∙ h))
 end_of old _ h = absurd (cc h)
 
-no_map : (x : List ℕ) (b : ℕ) (ns : List NodeTree) (o : Option Grown) → option_map (grown_to x b ns) o ≡ None → o ≡ None
-no_map x b ns None h = refl
-no_map x b ns (Some g) h = absurd (cc h)
+no_map : (home : ActsHome) (o : Option ActsCut) → option_map (in_acts home) o ≡ None → o ≡ None
+no_map home None h = refl
+no_map home (Some g) h = absurd (cc h)
 
 unfit_role : (old : Names_data) (o : Option (List ℕ)) → role_step o ≡ None → fault_of_role old o ≡ None
 unfit_role old None h = refl
 unfit_role old (Some w) h = absurd (cc h)
 
-by_test : (b : Bool) (full : Option TextKind) → (if b then Some (stays at_colon) else None) ≡ None → (if b then full else None) ≡ None
-by_test true full h = absurd (cc h)
-by_test false full h = refl
+by_test : (b : Bool) (d : Cut) (full : Option TextKind) → (if b then Some d else None) ≡ None → (if b then full else None) ≡ None
+by_test true d full h = absurd (cc h)
+by_test false d full h = refl
 
-unfit_label : (labels : List (List ℕ)) (s : ℕ) (acts : List ActTree) (p : List ℕ) (k : ActKind) (o : Option (List ℕ)) → label_step s acts p k o ≡ None → fault_of_label labels o ≡ None
-unfit_label labels s acts p k None h = refl
-unfit_label labels s acts p k (Some w) h = absurd (cc h)
+unfit_label : (labels : List (List ℕ)) (acts : List ActTree) (p : List ℕ) (k : ActKind) (o : Option (List ℕ)) → label_step acts p k o ≡ None → fault_of_label labels o ≡ None
+unfit_label labels acts p k None h = refl
+unfit_label labels acts p k (Some w) h = absurd (cc h)
 
-unfit_number : (ns : List NodeTree) (o : Option ℕ) (c : Bool) → number_step ns o c ≡ None → fault_of_node (length ns) o ≡ None
-unfit_number ns None c h = refl
-unfit_number ns (Some n) c h = by_test (n == length ns) _ h
+unfit_number : (f : Format) (head : Head f) (ns : List (NodeTree f)) (o : Option ℕ) (c : Bool) → number_step f head ns o c ≡ None → fault_of_node (length ns) o ≡ None
+unfit_number f head ns None c h = refl
+unfit_number f head ns (Some n) c h = by_test (n == length ns) (in_node f head ns at_colon) _ h
 
-unfit_peer : (old : Names_data) (s : ℕ) (acts : List ActTree) (o : Option (List ℕ)) (c : Bool) → act_step s acts o c ≡ None → fault_of_role old o ≡ None
-unfit_peer old s acts None c h = refl
-unfit_peer old s acts (Some w) c h = absurd (cc h)
+unfit_peer : (old : Names_data) (home : ActsHome) (acts : List ActTree) (o : Option (List ℕ)) (c : Bool) → act_step home acts o c ≡ None → fault_of_peer old (length acts) o ≡ None
+unfit_peer old home acts None c h = refl
+unfit_peer old home acts (Some w) c h = absurd (cc h)
 
-unfit_in : (old : Names_data) (ns : List NodeTree) (p : NodeCut) (t : Sign) → node_grows ns p t ≡ None → fault_in_node old ns p t ≡ None
-unfit_in old ns at_number t h = unfit_number ns (number_value t) _ h
-unfit_in old ns (at_act s acts) t h = unfit_peer old s acts (plain_text t) _ h
-unfit_in old ns (in_act s acts (behind_mark p k)) t h = unfit_label (names_with old.labels (labels_of_nodes ns ++ labels_of_acts acts)) s acts p k (word_text t) h
-unfit_in old ns (in_act s acts _) t h = refl
-unfit_in old ns _ t h = refl
+unfit_acts : (old : Names_data) (home : ActsHome) (c : ActsCut) (t : Sign) → acts_grow home c t ≡ None → fault_in_acts old home c t ≡ None
+unfit_acts old home (at_act acts) t h = unfit_peer old home acts (plain_text t) _ h
+unfit_acts old home (in_act acts (behind_mark p k)) t h =
+    unfit_label (names_with old.labels (labels_of_acts (acts_before home) ++ labels_of_acts acts)) acts p k (word_text t) (no_map home (label_step acts p k (word_text t)) h)
+unfit_acts old home (in_act acts _) t h = refl
+unfit_acts old home (behind_act y ys) t h = refl
+
+unfit_node : (f : Format) (head : Head f) (ns : List (NodeTree f)) (p : NodeCut f) (t : Sign) → node_grows f head ns p t ≡ None → fault_in_node ns p t ≡ None
+unfit_node f head ns at_number t h = unfit_number f head ns (number_value t) _ h
+unfit_node f head ns _ t h = refl
 
 -- a token by which a place doesn't go on breaks no rule there
 unfit : (old : Names_data) (c : Cut) (t : Sign) → grows c t ≡ None → fault_of old c t ≡ None
 unfit old at_role t h = unfit_role old (plain_text t) h
-unfit old (in_nodes x b ns p) t h = unfit_in old ns p t (no_map x b ns (node_grows ns p t) h)
+unfit old (in_acts home c) t h = unfit_acts old home c t h
+unfit old (in_node f head ns p) t h = unfit_node f head ns p t h
 unfit old _ t h = refl
 
-unfaulty_in : (old : Names_data) (ns : List NodeTree) (p : NodeCut) (j : FaultKind) → fault_in_node old ns p (broken j) ≡ None
-unfaulty_in old ns (in_act s acts (behind_mark p k)) j = refl
-unfaulty_in old ns (in_act s acts _) j = refl
-unfaulty_in old ns _ j = refl
+unfaulty_acts : (old : Names_data) (home : ActsHome) (c : ActsCut) (j : FaultKind) → fault_in_acts old home c (broken j) ≡ None
+unfaulty_acts old home (in_act acts (behind_mark p k)) j = refl
+unfaulty_acts old home (in_act acts _) j = refl
+unfaulty_acts old home _ j = refl
+
+unfaulty_node : (f : Format) (ns : List (NodeTree f)) (p : NodeCut f) (j : FaultKind) → fault_in_node ns p (broken j) ≡ None
+unfaulty_node f ns at_number j = refl
+unfaulty_node f ns _ j = refl
 
 unfaulty : (old : Names_data) (c : Cut) (j : FaultKind) → fault_of old c (broken j) ≡ None
-unfaulty old (in_nodes x b ns p) j = unfaulty_in old ns p j
+unfaulty old (in_acts home c) j = unfaulty_acts old home c j
+unfaulty old (in_node f head ns p) j = unfaulty_node f ns p j
 unfaulty old _ j = refl
 
-broken_stuck_in : (ns : List NodeTree) (p : NodeCut) (j : FaultKind) → node_grows ns p (broken j) ≡ None
-broken_stuck_in ns (in_act s acts (behind_peer q)) j = refl
-broken_stuck_in ns (in_act s acts (behind_mark q k)) j = refl
-broken_stuck_in ns (in_act s acts (behind_label q k l)) j = refl
-broken_stuck_in ns (in_act s acts (behind_paren q k l)) j = refl
-broken_stuck_in ns (in_act s acts (behind_sort q k l o)) j = refl
-broken_stuck_in ns _ j = refl
+broken_stuck_acts : (home : ActsHome) (c : ActsCut) (j : FaultKind) → acts_grow home c (broken j) ≡ None
+broken_stuck_acts (of_node head ns s) (at_act acts) j = refl
+broken_stuck_acts (of_list head) (at_act acts) j = refl
+broken_stuck_acts (of_node head ns s) (behind_act y ys) j = refl
+broken_stuck_acts (of_list head) (behind_act y ys) j = refl
+broken_stuck_acts home (in_act acts (behind_peer q)) j = refl
+broken_stuck_acts home (in_act acts (behind_mark q k)) j = refl
+broken_stuck_acts home (in_act acts (behind_label q k l)) j = refl
+broken_stuck_acts home (in_act acts (behind_paren q k l)) j = refl
+broken_stuck_acts home (in_act acts (behind_sort q k l o)) j = refl
+
+broken_stuck_node : (f : Format) (head : Head f) (ns : List (NodeTree f)) (p : NodeCut f) (j : FaultKind) → node_grows f head ns p (broken j) ≡ None
+broken_stuck_node One head ns (at_pending s) j = refl
+broken_stuck_node Two head ns (at_pending s) j = refl
+broken_stuck_node f head ns at_number j = refl
+broken_stuck_node f head ns at_colon j = refl
+broken_stuck_node f head ns at_state j = refl
+broken_stuck_node f head ns (at_above s p) j = refl
+broken_stuck_node f head ns (at_rank_word s p a) j = refl
+broken_stuck_node f head ns (at_rank s p a) j = refl
+broken_stuck_node f head ns (at_next_word s p a r) j = refl
+broken_stuck_node f head ns (at_nexts s p a r) j = refl
+broken_stuck_node f head ns (at_next s p a r next) j = refl
+broken_stuck_node f head ns (behind_next s p a r y ys) j = refl
 
 broken_stuck : (c : Cut) (j : FaultKind) → grows c (broken j) ≡ None
-broken_stuck (in_nodes x b ns p) j = ap (option_map (grown_to x b ns)) (broken_stuck_in ns p j)
+broken_stuck (in_acts home c) j = broken_stuck_acts home c j
+broken_stuck (in_node f head ns p) j = broken_stuck_node f head ns p j
 broken_stuck _ j = refl
 
 goes_whole : (c d : Cut) (t : Sign) → Wholeness t → grows c t ≡ Some d → IsWhole t
@@ -271,7 +318,17 @@ abbrev IsRefused : Fed → Type 0
 IsRefused (Ok d) = ⊥
 IsRefused (Err e) = Unit {0}
 
+no_act_refused : (f : Format) (at : ℕ) (r : Reader_data) → IsRefused (feed_no_act f false at r)
+no_act_refused One at r = tt
+no_act_refused Two at r = tt
+
+behind_acts_refused : (f : Format) (at : ℕ) (r : Reader_data) → IsRefused (feed_behind_acts f finish at r)
+behind_acts_refused One at r = tt
+behind_acts_refused Two at r = tt
+
 end_refused : (m : Mode) (at : ℕ) (r : Reader_data) → IsRefused (feed_at m finish at r)
+end_refused mode.AtAct at r = no_act_refused r.format at r
+end_refused mode.BehindAct at r = behind_acts_refused r.format at r
 end_refused mode.Derivation at r = tt
 end_refused (mode.InMessage p m place.Label) at r = tt
 end_refused _ at r = tt
@@ -321,10 +378,21 @@ begins old h t = record { place = at_begin; right = tt; signs = refl; reader_is 
 
 -- what is read at the end of a derivation
 fits_of : (old : Names_data) (tree : DerivationTree) → IsFormed tree → FitsSo old (at_end tree) → Fits old tree
-fits_of old tree formed f = record { formed = formed; roles = f.roles; labels = f.labels; nodes = f.count }
+fits_of old tree formed f = record {
+  formed = formed;
+  roles = f.roles;
+  labels = f.labels;
+  acts = few_lists (written_lists tree.format tree.lists tree.nodes) f.acts;
+  nodes = f.count;
+}
 
 pub fits_so : (old : Names_data) (tree : DerivationTree) → Fits old tree → FitsSo old (at_end tree)
-fits_so old tree f = record { roles = f.roles; labels = f.labels; count = f.nodes }
+fits_so old tree f = record {
+  roles = f.roles;
+  labels = f.labels;
+  acts = lists_few (written_lists tree.format tree.lists tree.nodes) f.acts;
+  count = f.nodes;
+}
 
 spelt_by : (old : Names_data) (bytes : List ℕ) (at : ℕ) (ls : List Lexeme) (x : Reading Reader_data) → Lexed bytes at ls → Halt feeding (At old) [] ls x
     → SpellsDerivation bytes at old (names_read x.reader) (derivation_read x.reader) x.until

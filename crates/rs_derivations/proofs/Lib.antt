@@ -8,7 +8,11 @@ pub mod Standings
 pub mod Judged
 pub mod Placing
 pub mod Sounding
+pub mod KnownNames
+pub mod Listed
+pub mod Filing
 pub mod Writable
 pub mod Spelt
 pub mod Printed
 pub mod Again
+pub mod PrintedAgain

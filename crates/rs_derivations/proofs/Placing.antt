@@ -1,8 +1,8 @@
 -- Faults stand at the token that is read.
-use Rattle.std.proofs.Common.{ℕ, ◌≤◌, List, length, Bool, true, false, ◌==◌, ◌&&◌, nat_le, if◌then◌else◌, Option, Some, None, Result, Ok, Err}
+use Rattle.std.proofs.Common.{ℕ, suc, ◌≤◌, List, length, Bool, true, false, ◌==◌, ◌&&◌, nat_le, if◌then◌else◌, Option, Some, None, Result, Ok, Err}
 use Rattle.std.specs.Prelude.{IfErr}
 use Rattle.rs_model.specs.declared.graph.Role.{Role}
-use Rattle.rs_model.specs.declared.limits.TheConstants.{MOST_CANDIDATES}
+use Rattle.rs_model.specs.declared.limits.TheConstants.{MOST_BOUND, MOST_CANDIDATES}
 use Rattle.rs_prefix.specs.declared.earliest.ActKind.{ActKind}
 use Rattle.rs_text.specs.declared.faults.TextFault.{TextFault}
 use Rattle.rs_text.specs.declared.faults.TextKind.TheVariants as kind
@@ -14,13 +14,16 @@ use Rattle.rs_text.specs.Signs.{Sign, broken}
 use Rattle.rs_text.proofs.Keeping.{StaysBelow, Below}
 use Rattle.rs_text.proofs.MessageLaws.{message_below}
 use Rattle.rs_text.specs.Messages.{MessageFed, goes_on, ends, feed_message}
+use Rattle.rs_derivations.specs.declared.formats.Format.{Format}
+use Rattle.rs_derivations.specs.declared.formats.Format.TheVariants.{One, Two}
+use Rattle.rs_derivations.specs.Derivations.{acts_of_number}
 use Rattle.rs_derivations.specs.declared.reading.Mode.{Mode}
 use Rattle.rs_derivations.specs.declared.reading.Mode.TheVariants as mode
 use Rattle.rs_derivations.specs.Data.{Reader_data}
 use Rattle.rs_derivations.specs.Faults.{number_value}
-use Rattle.rs_derivations.specs.Feeding.{Fed, in_mode, passes, feed_derivation_role, feed_role, feed_bound, feed_node, feed_state, feed_peer, feed_act, feed_mark, in_message, feed_behind_act}
-use Rattle.rs_derivations.specs.Feeding.{feed_above, feed_rank, feed_node_end, feed_next, feed_behind_next, feed_rest, feed_at, feeding, is_bound, is_some_of, is_none_of, is_comma, is_close_bracket}
-use Rattle.rs_derivations.specs.Feeding.{is_close_brace, mark_kind}
+use Rattle.rs_derivations.specs.Feeding.{Fed, in_mode, passes, feed_derivation_role, feed_role, feed_behind_role, feed_format, feed_bound, behind_brace, beginning, feed_beginning, feed_list_number, feed_node, feed_state}
+use Rattle.rs_derivations.specs.Feeding.{feed_pending_number, feed_acts_end, feed_peer, feed_no_act, feed_act, feed_mark, in_message, feed_list_end, feed_behind_acts, feed_behind_act, feed_above, feed_rank, feed_node_end, feed_next}
+use Rattle.rs_derivations.specs.Feeding.{feed_behind_next, feed_rest, feed_middle, feed_at, feeding, is_bound, is_some_of, is_none_of, is_comma, is_close_bracket, is_close_brace, mark_kind}
 
 -- the fault stands there
 abbrev Stays : ℕ → Fed → Type 0
@@ -42,9 +45,25 @@ role : (n : ℕ) (o : Option (List ℕ)) (at : ℕ) (r : Reader_data) → at ≤
 role n None at r h = h
 role n (Some w) at r h = played n (place_of w r.roles) at r h
 
+behind_role : (n : ℕ) (b f : Bool) (at : ℕ) (r : Reader_data) → at ≤ n → Stays n (feed_behind_role b f at r)
+behind_role n true f at r h = tt
+behind_role n false f at r h = passed n f _ mode.AtFormatNumber at r h
+
+format : (n : ℕ) (o : Option ℕ) (at : ℕ) (r : Reader_data) → at ≤ n → Stays n (feed_format o at r)
+format n None at r h = h
+format n (Some k) at r h = either n (k == 2) (Ok (record r { format = Two; mode = mode.BehindFormat })) (expected _ at) tt h
+
 bound : (n : ℕ) (o : Option ℕ) (at : ℕ) (r : Reader_data) → at ≤ n → Stays n (feed_bound o at r)
 bound n None at r h = h
 bound n (Some k) at r h = either n (is_bound k) (Ok (record r { bound = k; mode = mode.AtBrace })) (expected _ at) tt h
+
+begin : (n : ℕ) (o : Option Mode) (at : ℕ) (r : Reader_data) → at ≤ n → Stays n (feed_beginning o at r)
+begin n None at r h = h
+begin n (Some m) at r h = tt
+
+list_number : (n : ℕ) (o : Option ℕ) (at : ℕ) (r : Reader_data) → at ≤ n → Stays n (feed_list_number o at r)
+list_number n None at r h = h
+list_number n (Some k) at r h = passed n (k == suc (length r.lists)) _ mode.AtListColon at r h
 
 node : (n : ℕ) (o : Option ℕ) (c : Bool) (at : ℕ) (r : Reader_data) → at ≤ n → Stays n (feed_node o c at r)
 node n None c at r h = passed n (c && is_some_of r.nodes) _ mode.Behind at r h
@@ -55,12 +74,20 @@ state : (n : ℕ) (o : Option ℕ) (at : ℕ) (r : Reader_data) → at ≤ n →
 state n None at r h = h
 state n (Some k) at r h = tt
 
+pending_number : (n : ℕ) (o : Option ℕ) (at : ℕ) (r : Reader_data) → at ≤ n → Stays n (feed_pending_number o at r)
+pending_number n None at r h = h
+pending_number n (Some k) at r h = either n (nat_le k (length r.lists)) (Ok (record r { node = record r.node { pending = acts_of_number r.lists k }; mode = mode.AtAboveWord })) (expected _ at) tt h
+
 met : (n : ℕ) (o : Option ℕ) (at : ℕ) (r : Reader_data) → at ≤ n → Stays n (feed_peer o at r)
 met n None at r h = h
-met n (Some k) at r h = tt
+met n (Some k) at r h = either n (nat_le MOST_BOUND (length r.acts)) (fault kind.TooManyActs at) (in_mode (mode.AtMark (record { 0 = k })) r) h tt
+
+no_act : (n : ℕ) (f : Format) (c : Bool) (at : ℕ) (r : Reader_data) → at ≤ n → Stays n (feed_no_act f c at r)
+no_act n One c at r h = either n (c && is_none_of r.acts) (feed_acts_end r) (expected _ at) tt h
+no_act n Two c at r h = h
 
 act : (n : ℕ) (o : Option (List ℕ)) (c : Bool) (at : ℕ) (r : Reader_data) → at ≤ n → Stays n (feed_act o c at r)
-act n None c at r h = passed n (c && is_none_of r.node.pending) _ mode.AtAbove at r h
+act n None c at r h = no_act n r.format c at r h
 act n (Some w) c at r h = met n (place_of w r.roles) at r h
 
 mark : (n : ℕ) (p : Role) (o : Option ActKind) (at : ℕ) (r : Reader_data) → at ≤ n → Stays n (feed_mark p o at r)
@@ -72,10 +99,16 @@ message n p m (Err e) r h = h
 message n p m (Ok (goes_on labels x)) r h = tt
 message n p m (Ok (ends l s)) r h = tt
 
-behind_act : (n : ℕ) (g c : Bool) (at : ℕ) (r : Reader_data) → at ≤ n → Stays n (feed_behind_act g c at r)
-behind_act n true c at r h = tt
-behind_act n false true at r h = tt
-behind_act n false false at r h = h
+list_end : (n : ℕ) (o : Option Mode) (at : ℕ) (r : Reader_data) → at ≤ n → Stays n (feed_list_end o at r)
+list_end n None at r h = h
+list_end n (Some m) at r h = tt
+
+behind_acts : (n : ℕ) (f : Format) (t : Sign) (at : ℕ) (r : Reader_data) → at ≤ n → Stays n (feed_behind_acts f t at r)
+behind_acts n One t at r h = either n (is_close_bracket t) (feed_acts_end r) (expected _ at) tt h
+behind_acts n Two t at r h = list_end n (beginning t) at r h
+
+behind_act : (n : ℕ) (t : Sign) (at : ℕ) (r : Reader_data) → at ≤ n → Stays n (feed_behind_act t at r)
+behind_act n t at r h = either n (is_comma t) (in_mode mode.AtAct r) (feed_behind_acts r.format t at r) tt (behind_acts n r.format t at r h)
 
 above : (n : ℕ) (o : Option ℕ) (at : ℕ) (r : Reader_data) → at ≤ n → Stays n (feed_above o at r)
 above n None at r h = h
@@ -95,7 +128,6 @@ behind_next n false true at r h = tt
 behind_next n false false at r h = h
 
 rest : (n : ℕ) (m : Mode) (t : Sign) (at : ℕ) (r : Reader_data) → at ≤ n → Stays n (feed_rest m t at r)
-rest n mode.BehindAct t at r h = behind_act n (is_comma t) (is_close_bracket t) at r h
 rest n mode.AtAbove t at r h = above n (number_value t) at r h
 rest n mode.AtRankWord t at r h = passed n _ _ mode.AtRank at r h
 rest n mode.AtRank t at r h = rank n (number_value t) at r h
@@ -105,20 +137,32 @@ rest n mode.AtNext t at r h = next n (number_value t) (is_close_bracket t) at r 
 rest n mode.BehindNext t at r h = behind_next n (is_comma t) (is_close_bracket t) at r h
 rest n _ t at r h = h
 
+middle : (n : ℕ) (m : Mode) (t : Sign) (at : ℕ) (r : Reader_data) → at ≤ n → Stays n (feed_middle m t at r)
+middle n mode.AtNode t at r h = node n (number_value t) (is_close_brace t) at r h
+middle n mode.AtColon t at r h = passed n _ _ mode.AtState at r h
+middle n mode.AtState t at r h = state n (number_value t) at r h
+middle n mode.AtActs t at r h = passed n _ _ mode.AtAct at r h
+middle n mode.AtWith t at r h = passed n _ _ mode.AtPendingNumber at r h
+middle n mode.AtPendingNumber t at r h = pending_number n (number_value t) at r h
+middle n mode.AtAboveWord t at r h = passed n _ _ mode.AtAbove at r h
+middle n mode.AtAct t at r h = act n (plain_text t) (is_close_bracket t) at r h
+middle n (mode.AtMark p) t at r h = mark n p (mark_kind t) at r h
+middle n (mode.InMessage p m x) t at r h = message n p m (feed_message x t at r.labels) r (message_below n x t at r.labels h)
+middle n mode.BehindAct t at r h = behind_act n t at r h
+middle n m t at r h = rest n m t at r h
+
 fed : (n : ℕ) (m : Mode) (t : Sign) (at : ℕ) (r : Reader_data) → at ≤ n → Stays n (feed_at m t at r)
 fed n mode.Derivation t at r h = passed n _ _ mode.AtRole at r h
 fed n mode.AtRole t at r h = role n (plain_text t) at r h
-fed n mode.AtBoundWord t at r h = passed n _ _ mode.AtBound at r h
+fed n mode.BehindRole t at r h = behind_role n _ _ at r h
+fed n mode.AtFormatNumber t at r h = format n (number_value t) at r h
+fed n mode.BehindFormat t at r h = passed n _ _ mode.AtBound at r h
 fed n mode.AtBound t at r h = bound n (number_value t) at r h
-fed n mode.AtBrace t at r h = passed n _ _ mode.AtNode at r h
-fed n mode.AtNode t at r h = node n (number_value t) (is_close_brace t) at r h
-fed n mode.AtColon t at r h = passed n _ _ mode.AtState at r h
-fed n mode.AtState t at r h = state n (number_value t) at r h
-fed n mode.AtActs t at r h = passed n _ _ mode.AtAct at r h
-fed n mode.AtAct t at r h = act n (plain_text t) (is_close_bracket t) at r h
-fed n (mode.AtMark p) t at r h = mark n p (mark_kind t) at r h
-fed n (mode.InMessage p m x) t at r h = message n p m (feed_message x t at r.labels) r (message_below n x t at r.labels h)
-fed n m t at r h = rest n m t at r h
+fed n mode.AtBrace t at r h = passed n _ _ (behind_brace r.format) at r h
+fed n mode.AtLists t at r h = begin n (beginning t) at r h
+fed n mode.AtListNumber t at r h = list_number n (number_value t) at r h
+fed n mode.AtListColon t at r h = passed n _ _ mode.AtAct at r h
+fed n m t at r h = middle n m t at r h
 
 -- no fault stands further on
 pub stays_below : StaysBelow feeding

@@ -1,9 +1,9 @@
 -- The names stay sound, and those that were there stay in their places.
-use Rattle.std.proofs.Common.{◌≡◌, ◌∙◌, ℕ, List, length, Bool, true, false, ◌==◌, ◌&&◌, nat_le, if◌then◌else◌, Option, Some, None, Result, Ok, Err, IfOk, refl, sym, ap, subst}
+use Rattle.std.proofs.Common.{◌≡◌, ◌∙◌, ℕ, suc, List, length, Bool, true, false, ◌==◌, ◌&&◌, nat_le, if◌then◌else◌, Option, Some, None, Result, Ok, Err, IfOk, refl, sym, ap, subst}
 use Rattle.std.specs.List.{list_all}
 use Rattle.rs_model.specs.Data.{Names_data}
 use Rattle.rs_model.specs.declared.graph.Role.{Role}
-use Rattle.rs_model.specs.declared.limits.TheConstants.{MOST_CANDIDATES}
+use Rattle.rs_model.specs.declared.limits.TheConstants.{MOST_BOUND, MOST_CANDIDATES}
 use Rattle.rs_prefix.specs.declared.earliest.ActKind.{ActKind}
 use Rattle.rs_text.specs.declared.faults.TextKind.TheVariants as kind
 use Rattle.rs_text.specs.declared.faults.Wanted.{Wanted}
@@ -22,14 +22,17 @@ use Rattle.rs_text.proofs.Naming.{decides_sound}
 use Rattle.rs_text.specs.Messages.{MessageFed, goes_on, ends, feed_message}
 use Rattle.rs_text.proofs.Keeping.{if_ok}
 use Rattle.rs_text.specs.declared.faults.TextFault.{TextFault}
+use Rattle.rs_derivations.specs.declared.formats.Format.{Format}
+use Rattle.rs_derivations.specs.declared.formats.Format.TheVariants.{One, Two}
+use Rattle.rs_derivations.specs.Derivations.{acts_of_number}
 use Rattle.rs_derivations.specs.declared.reading.Mode.{Mode}
 use Rattle.rs_derivations.specs.declared.reading.Mode.TheVariants as mode
 use Rattle.rs_derivations.specs.Data.{Reader_data}
 use Rattle.rs_derivations.specs.Faults.{number_value}
 use Rattle.rs_text.specs.Kept.{Keeps}
-use Rattle.rs_derivations.specs.Feeding.{Fed, in_mode, passes, feed_derivation_role, feed_role, feed_bound, feed_node, feed_state, feed_peer, feed_act, feed_mark, in_message, feed_behind_act}
-use Rattle.rs_derivations.specs.Feeding.{feed_above, feed_rank, feed_node_end, feed_next, feed_behind_next, feed_rest, feed_at, feed_of, names_read, is_bound, is_some_of, is_none_of, is_comma}
-use Rattle.rs_derivations.specs.Feeding.{is_close_bracket, is_close_brace, mark_kind, feeding}
+use Rattle.rs_derivations.specs.Feeding.{Fed, in_mode, passes, feed_derivation_role, feed_role, feed_behind_role, feed_format, feed_bound, behind_brace, beginning, feed_beginning, feed_list_number, feed_node, feed_state}
+use Rattle.rs_derivations.specs.Feeding.{feed_pending_number, feed_acts_end, feed_peer, feed_no_act, feed_act, feed_mark, in_message, feed_list_end, feed_behind_acts, feed_behind_act, feed_above, feed_rank, feed_node_end, feed_next}
+use Rattle.rs_derivations.specs.Feeding.{feed_behind_next, feed_rest, feed_middle, feed_at, feeding, is_bound, is_some_of, is_none_of, is_comma, is_close_bracket, is_close_brace, mark_kind, feed_of, names_read}
 
 -- names that are still sound, with further labels behind the old ones
 pub record GoodNames (old : Names_data) (roles labels : List (List ℕ)) : Type 0 where
@@ -58,9 +61,25 @@ role : (old : Names_data) (o : Option (List ℕ)) (at : ℕ) (r : Reader_data) �
 role old None at r h = tt
 role old (Some w) at r h = played old (place_of w r.roles) at r h
 
+behind_role : (old : Names_data) (b f : Bool) (at : ℕ) (r : Reader_data) → Good old r → Stays old (feed_behind_role b f at r)
+behind_role old true f at r h = h
+behind_role old false f at r h = passed old f _ mode.AtFormatNumber at r h
+
+format : (old : Names_data) (o : Option ℕ) (at : ℕ) (r : Reader_data) → Good old r → Stays old (feed_format o at r)
+format old None at r h = tt
+format old (Some k) at r h = either old (k == 2) (Ok (record r { format = Two; mode = mode.BehindFormat })) (expected _ at) h tt
+
 bound : (old : Names_data) (o : Option ℕ) (at : ℕ) (r : Reader_data) → Good old r → Stays old (feed_bound o at r)
 bound old None at r h = tt
 bound old (Some k) at r h = either old (is_bound k) (Ok (record r { bound = k; mode = mode.AtBrace })) (expected _ at) h tt
+
+begin : (old : Names_data) (o : Option Mode) (at : ℕ) (r : Reader_data) → Good old r → Stays old (feed_beginning o at r)
+begin old None at r h = tt
+begin old (Some m) at r h = h
+
+list_number : (old : Names_data) (o : Option ℕ) (at : ℕ) (r : Reader_data) → Good old r → Stays old (feed_list_number o at r)
+list_number old None at r h = tt
+list_number old (Some k) at r h = passed old (k == suc (length r.lists)) _ mode.AtListColon at r h
 
 node : (old : Names_data) (o : Option ℕ) (c : Bool) (at : ℕ) (r : Reader_data) → Good old r → Stays old (feed_node o c at r)
 node old None c at r h = passed old (c && is_some_of r.nodes) _ mode.Behind at r h
@@ -71,12 +90,20 @@ state : (old : Names_data) (o : Option ℕ) (at : ℕ) (r : Reader_data) → Goo
 state old None at r h = tt
 state old (Some k) at r h = h
 
+pending_number : (old : Names_data) (o : Option ℕ) (at : ℕ) (r : Reader_data) → Good old r → Stays old (feed_pending_number o at r)
+pending_number old None at r h = tt
+pending_number old (Some k) at r h = either old (nat_le k (length r.lists)) (Ok (record r { node = record r.node { pending = acts_of_number r.lists k }; mode = mode.AtAboveWord })) (expected _ at) h tt
+
 met : (old : Names_data) (o : Option ℕ) (at : ℕ) (r : Reader_data) → Good old r → Stays old (feed_peer o at r)
 met old None at r h = tt
-met old (Some k) at r h = h
+met old (Some k) at r h = either old (nat_le MOST_BOUND (length r.acts)) (fault kind.TooManyActs at) (in_mode (mode.AtMark (record { 0 = k })) r) tt h
+
+no_act : (old : Names_data) (f : Format) (c : Bool) (at : ℕ) (r : Reader_data) → Good old r → Stays old (feed_no_act f c at r)
+no_act old One c at r h = either old (c && is_none_of r.acts) (feed_acts_end r) (expected _ at) h tt
+no_act old Two c at r h = tt
 
 act : (old : Names_data) (o : Option (List ℕ)) (c : Bool) (at : ℕ) (r : Reader_data) → Good old r → Stays old (feed_act o c at r)
-act old None c at r h = passed old (c && is_none_of r.node.pending) _ mode.AtAbove at r h
+act old None c at r h = no_act old r.format c at r h
 act old (Some w) c at r h = met old (place_of w r.roles) at r h
 
 mark : (old : Names_data) (p : Role) (o : Option ActKind) (at : ℕ) (r : Reader_data) → Good old r → Stays old (feed_mark p o at r)
@@ -88,10 +115,16 @@ message old p m (Err e) r k h = tt
 message old p m (Ok (goes_on labels x)) r k h = record { roles_are = h.roles_are; labels_good = k }
 message old p m (Ok (ends l s)) r k h = h
 
-behind_act : (old : Names_data) (g c : Bool) (at : ℕ) (r : Reader_data) → Good old r → Stays old (feed_behind_act g c at r)
-behind_act old true c at r h = h
-behind_act old false true at r h = h
-behind_act old false false at r h = tt
+list_end : (old : Names_data) (o : Option Mode) (at : ℕ) (r : Reader_data) → Good old r → Stays old (feed_list_end o at r)
+list_end old None at r h = tt
+list_end old (Some m) at r h = h
+
+behind_acts : (old : Names_data) (f : Format) (t : Sign) (at : ℕ) (r : Reader_data) → Good old r → Stays old (feed_behind_acts f t at r)
+behind_acts old One t at r h = either old (is_close_bracket t) (feed_acts_end r) (expected _ at) h tt
+behind_acts old Two t at r h = list_end old (beginning t) at r h
+
+behind_act : (old : Names_data) (t : Sign) (at : ℕ) (r : Reader_data) → Good old r → Stays old (feed_behind_act t at r)
+behind_act old t at r h = either old (is_comma t) (in_mode mode.AtAct r) (feed_behind_acts r.format t at r) h (behind_acts old r.format t at r h)
 
 above : (old : Names_data) (o : Option ℕ) (at : ℕ) (r : Reader_data) → Good old r → Stays old (feed_above o at r)
 above old None at r h = tt
@@ -111,7 +144,6 @@ behind_next old false true at r h = h
 behind_next old false false at r h = tt
 
 rest : (old : Names_data) (m : Mode) (t : Sign) (at : ℕ) (r : Reader_data) → Good old r → Stays old (feed_rest m t at r)
-rest old mode.BehindAct t at r h = behind_act old (is_comma t) (is_close_bracket t) at r h
 rest old mode.AtAbove t at r h = above old (number_value t) at r h
 rest old mode.AtRankWord t at r h = passed old _ _ mode.AtRank at r h
 rest old mode.AtRank t at r h = rank old (number_value t) at r h
@@ -121,20 +153,32 @@ rest old mode.AtNext t at r h = next old (number_value t) (is_close_bracket t) a
 rest old mode.BehindNext t at r h = behind_next old (is_comma t) (is_close_bracket t) at r h
 rest old _ t at r h = tt
 
+middle : (old : Names_data) (m : Mode) (t : Sign) (at : ℕ) (r : Reader_data) → IsNamed t → Good old r → Stays old (feed_middle m t at r)
+middle old mode.AtNode t at r n h = node old (number_value t) (is_close_brace t) at r h
+middle old mode.AtColon t at r n h = passed old _ _ mode.AtState at r h
+middle old mode.AtState t at r n h = state old (number_value t) at r h
+middle old mode.AtActs t at r n h = passed old _ _ mode.AtAct at r h
+middle old mode.AtWith t at r n h = passed old _ _ mode.AtPendingNumber at r h
+middle old mode.AtPendingNumber t at r n h = pending_number old (number_value t) at r h
+middle old mode.AtAboveWord t at r n h = passed old _ _ mode.AtAbove at r h
+middle old mode.AtAct t at r n h = act old (plain_text t) (is_close_bracket t) at r h
+middle old (mode.AtMark p) t at r n h = mark old p (mark_kind t) at r h
+middle old (mode.InMessage p m x) t at r n h = message old p m (feed_message x t at r.labels) r (message_good old.labels r.labels x t at n h.labels_good) h
+middle old mode.BehindAct t at r n h = behind_act old t at r h
+middle old m t at r n h = rest old m t at r h
+
 fed : (old : Names_data) (m : Mode) (t : Sign) (at : ℕ) (r : Reader_data) → IsNamed t → Good old r → Stays old (feed_at m t at r)
 fed old mode.Derivation t at r n h = passed old _ _ mode.AtRole at r h
 fed old mode.AtRole t at r n h = role old (plain_text t) at r h
-fed old mode.AtBoundWord t at r n h = passed old _ _ mode.AtBound at r h
+fed old mode.BehindRole t at r n h = behind_role old _ _ at r h
+fed old mode.AtFormatNumber t at r n h = format old (number_value t) at r h
+fed old mode.BehindFormat t at r n h = passed old _ _ mode.AtBound at r h
 fed old mode.AtBound t at r n h = bound old (number_value t) at r h
-fed old mode.AtBrace t at r n h = passed old _ _ mode.AtNode at r h
-fed old mode.AtNode t at r n h = node old (number_value t) (is_close_brace t) at r h
-fed old mode.AtColon t at r n h = passed old _ _ mode.AtState at r h
-fed old mode.AtState t at r n h = state old (number_value t) at r h
-fed old mode.AtActs t at r n h = passed old _ _ mode.AtAct at r h
-fed old mode.AtAct t at r n h = act old (plain_text t) (is_close_bracket t) at r h
-fed old (mode.AtMark p) t at r n h = mark old p (mark_kind t) at r h
-fed old (mode.InMessage p m x) t at r n h = message old p m (feed_message x t at r.labels) r (message_good old.labels r.labels x t at n h.labels_good) h
-fed old m t at r n h = rest old m t at r h
+fed old mode.AtBrace t at r n h = passed old _ _ (behind_brace r.format) at r h
+fed old mode.AtLists t at r n h = begin old (beginning t) at r h
+fed old mode.AtListNumber t at r n h = list_number old (number_value t) at r h
+fed old mode.AtListColon t at r n h = passed old _ _ mode.AtAct at r h
+fed old m t at r n h = middle old m t at r n h
 
 good_on : (old : Names_data) (t : Sign) (at : ℕ) (next : Lexeme) (r d : Reader_data) → IsNamed t → feed_sign feeding t at next r ≡ Ok d → Good old r → Good old d
 good_on old (broken k) at next r d name f h = absurd (cc f)

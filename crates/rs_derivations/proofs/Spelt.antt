@@ -19,11 +19,9 @@ use Rattle.rs_derivations.specs.Faults.{FaultAt, FirstFault}
 use Rattle.rs_text.specs.Kept.{Keeps}
 use Rattle.rs_derivations.specs.Feeding.{start_of_derivation, feeding, names_read}
 use Rattle.rs_derivations.proofs.ReadDerivations.{derivation_read}
-use Rattle.rs_derivations.specs.Printable.{IsPrintable}
 use Rattle.rs_derivations.specs.Spells.{SpellsDerivation}
 use Rattle.rs_derivations.proofs.Judged.{LeavesAny, judges, begins, sound, complete}
 use Rattle.rs_derivations.proofs.Standings.{stand}
-use Rattle.rs_derivations.proofs.Writable.{printable}
 
 -- ---- as read_derivation needs it
 
@@ -33,9 +31,6 @@ begins_with o old roles labels e r l = e ∙ ap (λ z. start_of_derivation (reco
 
 abbrev names : List (List ℕ) → List (List ℕ) → Names_data
 names roles labels = record { roles = roles; labels = labels }
-
-abbrev derived : Names_data → Reader_data → Derivation_data
-derived old r = derivation_read r
 
 pub reads_spelt : (old new : Names_data) (bytes : List ℕ) (at : ℕ) (o r : Reader_data) (until : ℕ) (d : Derivation_data) → o ≡ start_of_derivation old → at ≤ length bytes
     → length old.labels ≤ MOST_LABELS → ReadsBy feeding o bytes at (Ok (record { reader = r; until = until }))
@@ -47,11 +42,6 @@ reads_spelt old new bytes at o r until d e within few h roles kept labels p =
     let t = tokens bytes at within in
     subst (λ (z : Names_data). SpellsDerivation bytes at old z d until) (sym same)
     (subst (λ (z : Derivation_data). SpellsDerivation bytes at old (names_read r) z until) (sym p) (sound old few bytes at t.0 (record { reader = r; until = until }) t.1 (reads t.0 t.1)))
-
-pub spelt_printable : (old new : Names_data) (bytes : List ℕ) (at until : ℕ) (d : Derivation_data) → SpellsDerivation bytes at old new d until → IsPrintable new d
-spelt_printable old new bytes at until d s =
-    subst (λ (z : Derivation_data). IsPrintable new z) (sym s.derivation_is)
-    (subst (λ (z : Names_data). IsPrintable z (derivation_of z s.tree)) (sym s.names_are) (printable old s.tree s.fits))
 
 -- ---- laws
 

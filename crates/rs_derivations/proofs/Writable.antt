@@ -1,17 +1,18 @@
 -- What is spelt can be printed.
-use Rattle.std.proofs.Common.{◌≡◌, ◌⊎◌, inl, inr, ℕ, ◌<◌, ◌≤◌, List, [], ◌∷◌, length, map, Bool, true, false, ◌||◌, eqb, cond, Option, Some, None, refl, sym, ap, ◌∙◌, subst, arith}
+use Rattle.std.proofs.Common.{◌≡◌, ◌⊎◌, inl, inr, ℕ, zero, suc, slice_index_or, ◌<◌, ◌≤◌, List, [], ◌∷◌, length, map, Bool, true, false, ◌||◌, eqb, cond, Option, Some, None, refl, sym, ap, ◌∙◌, subst, arith}
 use Rattle.std.proofs.lemmas.Bool.{eqb-true}
-use Rattle.std.proofs.lemmas.List.{length-map}
-use Rattle.std.proofs.lemmas.List.Elements.{All-append, All-cons, All-head, All-tail}
+use Rattle.std.proofs.lemmas.List.{length-map, map-append}
+use Rattle.std.proofs.lemmas.List.Elements.{All-append, All-cons, All-head, All-tail, All-from_recursion}
 use Rattle.std.specs.List.{All, flat_map, list_all, list_any}
 use Rattle.std.specs.Set.{distinct_count}
 use Rattle.rs_model.specs.Data.{Names_data}
+use Rattle.rs_model.specs.declared.limits.TheConstants.{MOST_BOUND}
 use Rattle.rs_model.specs.declared.machines.Act.{Act}
 use Rattle.rs_prefix.specs.declared.earliest.ActKind.TheVariants as act
-use Rattle.rs_text.specs.Names.{names_with, is_among, place_of, number_or}
+use Rattle.rs_text.specs.Names.{is_among, place_of, number_or}
 use Rattle.rs_text.proofs.Naming.{not_among}
 use Rattle.rs_text.proofs.Numbers.{place_below}
-use Rattle.rs_derivations.proofs.Standings.{grown_known as known_grown, Known, known_parts}
+use Rattle.rs_derivations.proofs.KnownNames.{grown_known, Known, known_parts}
 use Rattle.std.proofs.lemmas.Map.Keys.{IsDistinct-cons}
 use Rattle.std.proofs.lemmas.Map.Steps.{length-le_from_distinct_below}
 use Rattle.std.specs.List.{IsDistinct, AllByRecursion}
@@ -22,12 +23,14 @@ use Rattle.rs_model.specs.declared.values.Sort.{Sort}
 use Rattle.rs_prefix.specs.declared.earliest.ActKind.{ActKind}
 use Rattle.rs_text.proofs.Basics.{both}
 use Rattle.rs_text.specs.Arms.{sort_or_unit}
-use Rattle.rs_derive.specs.Data.{DNode_data}
-use Rattle.rs_derivations.specs.Derivations.{act_of_kind, role_named, label_named, labels_of_acts, labels_of_node, labels_of_nodes, peers_of_acts, peers_of_node, peers_of_nodes, act_of_tree}
+use Rattle.rs_derive.specs.Data.{DNode_data, Derivation_data}
+use Rattle.rs_derivations.specs.declared.formats.Format.{Format}
+use Rattle.rs_derivations.specs.declared.formats.Format.TheVariants.{One, Two}
+use Rattle.rs_derivations.specs.Derivations.{acts_of, acts_of_number, acts_of_pending, written_lists, act_of_kind, role_named, label_named, labels_of_acts, peers_of_acts, act_of_tree}
 use Rattle.rs_derivations.specs.Derivations.{node_of_tree, derivation_of, names_of}
 use Rattle.rs_derivations.specs.Printable.{peer_of, label_number, IsPrintable}
-use Rattle.rs_derivations.specs.Spells.{Fits}
-use Rattle.rs_derivations.specs.Trees.{ActTree, NodeTree, DerivationTree}
+use Rattle.rs_derivations.specs.Spells.{Fits, SpellsDerivation}
+use Rattle.rs_derivations.specs.Trees.{ActTree, ListsTree, NodeTree, DerivationTree}
 
 -- ---- places
 
@@ -74,20 +77,77 @@ labels_below names (a ∷ acts) h =
     (subst (λ (z : ℕ). z < length names.labels) (sym (label_is names a)) (below names.labels a.label k.0))
     (labels_below names acts k.1)
 
-abbrev acts_in : Names_data → List NodeTree → List Act
-acts_in names ns = flat_map (λ (n : DNode_data). n.pending) (map (node_of_tree names) ns)
+-- what a text needs of acts
+abbrev AreFine : Names_data → List ActTree → Type 0
+AreFine names acts = Known names.roles (peers_of_acts acts) × Known names.labels (labels_of_acts acts) × (length acts ≤ MOST_BOUND)
 
-all_peers : (names : Names_data) (ns : List NodeTree) → Known names.roles (peers_of_nodes ns) → All (λ a. peer_of a < length names.roles) (acts_in names ns)
-all_peers names [] h = nothing (λ a. peer_of a < length names.roles)
-all_peers names (n ∷ ns) h =
-    let k = known_parts names.roles (peers_of_node n) (peers_of_nodes ns) h in
-    All-append (λ a. peer_of a < length names.roles) (map (act_of_tree names) n.pending) (acts_in names ns) (peers_below names n.pending k.0) (all_peers names ns k.1)
+abbrev all_acts : List (List ActTree) → List ActTree
+all_acts lists = flat_map (λ acts. acts) lists
 
-all_labels : (names : Names_data) (ns : List NodeTree) → Known names.labels (labels_of_nodes ns) → All (λ a. label_number a < length names.labels) (acts_in names ns)
-all_labels names [] h = nothing (λ a. label_number a < length names.labels)
-all_labels names (n ∷ ns) h =
-    let k = known_parts names.labels (labels_of_node n) (labels_of_nodes ns) h in
-    All-append (λ a. label_number a < length names.labels) (map (act_of_tree names) n.pending) (acts_in names ns) (labels_below names n.pending k.0) (all_labels names ns k.1)
+-- each list of a text is fine where all its acts are known and none is long
+lists_fine : (names : Names_data) (lists : List (List ActTree)) → Known names.roles (peers_of_acts (all_acts lists)) → Known names.labels (labels_of_acts (all_acts lists))
+    → All (λ acts. length acts ≤ MOST_BOUND) lists → AllByRecursion (AreFine names) lists
+lists_fine names [] p l s = tt
+lists_fine names (acts ∷ lists) p l s =
+    let ps = known_parts names.roles (peers_of_acts acts) (peers_of_acts (all_acts lists)) (subst (λ (z : List (List ℕ)). Known names.roles z) (map-append (λ (t : ActTree). t.peer) acts (all_acts lists)) p) in
+    let ls = known_parts names.labels (labels_of_acts acts) (labels_of_acts (all_acts lists)) (subst (λ (z : List (List ℕ)). Known names.labels z) (map-append (λ (t : ActTree). t.label) acts (all_acts lists)) l) in (
+      (ps.0, ls.0, All-head (λ acts. length acts ≤ MOST_BOUND) acts lists s),
+      lists_fine names lists ps.1 ls.1 (All-tail (λ acts. length acts ≤ MOST_BOUND) acts lists s),
+    )
+
+-- what holds of no acts and of each of these lists holds of the list with any number
+each_place : (P : List ActTree → Type 0) (lists : List (List ActTree)) (k : ℕ) → P [] → AllByRecursion P lists → P (slice_index_or lists k [])
+each_place P [] k none h = none
+each_place P (acts ∷ lists) zero none h = h.0
+each_place P (acts ∷ lists) (suc k) none h = each_place P lists k none h.1
+
+pub each_number : (P : List ActTree → Type 0) (lists : List (List ActTree)) (n : ℕ) → P [] → AllByRecursion P lists → P (acts_of_number lists n)
+each_number P lists zero none h = none
+each_number P lists (suc k) none h = each_place P lists k none h
+
+each_node_with : (P : List ActTree → Type 0) (lists : List (List ActTree)) (ns : List (NodeTree Two)) → P [] → AllByRecursion P lists
+    → AllByRecursion (λ (n : NodeTree Two). P (acts_of_number lists n.pending)) ns
+each_node_with P lists [] none h = tt
+each_node_with P lists (n ∷ ns) none h = (each_number P lists n.pending none h, each_node_with P lists ns none h)
+
+each_node_has : (P : List ActTree → Type 0) (ns : List (NodeTree One)) → AllByRecursion P (map (λ (n : NodeTree One). n.pending) ns) → AllByRecursion (λ (n : NodeTree One). P n.pending) ns
+each_node_has P [] h = tt
+each_node_has P (n ∷ ns) h = (h.0, each_node_has P ns h.1)
+
+-- what holds of no acts and of each list that a text writes out holds of the acts of each node
+each_node : (P : List ActTree → Type 0) (f : Format) (lists : ListsTree f) (ns : List (NodeTree f)) → P [] → AllByRecursion P (written_lists f lists ns)
+    → AllByRecursion (λ (n : NodeTree f). P (acts_of_pending f lists n.pending)) ns
+each_node P One lists ns none h = each_node_has P ns h
+each_node P Two lists ns none h = each_node_with P lists ns none h
+
+abbrev acts_in : Names_data → (f : Format) → ListsTree f → List (NodeTree f) → List Act
+acts_in names f lists ns = flat_map (λ (n : DNode_data). n.pending) (map (node_of_tree names f lists) ns)
+
+abbrev NodesFine : Names_data → (f : Format) → ListsTree f → List (NodeTree f) → Type 0
+NodesFine names f lists ns = AllByRecursion (λ (n : NodeTree f). AreFine names (acts_of_pending f lists n.pending)) ns
+
+all_peers : (names : Names_data) (f : Format) (lists : ListsTree f) (ns : List (NodeTree f)) → NodesFine names f lists ns → All (λ a. peer_of a < length names.roles) (acts_in names f lists ns)
+all_peers names f lists [] h = nothing (λ a. peer_of a < length names.roles)
+all_peers names f lists (n ∷ ns) h =
+    let acts : List ActTree = acts_of_pending f lists n.pending in
+    All-append (λ a. peer_of a < length names.roles) (map (act_of_tree names) acts) (acts_in names f lists ns) (peers_below names acts h.0.0) (all_peers names f lists ns h.1)
+
+all_labels : (names : Names_data) (f : Format) (lists : ListsTree f) (ns : List (NodeTree f)) → NodesFine names f lists ns
+    → All (λ a. label_number a < length names.labels) (acts_in names f lists ns)
+all_labels names f lists [] h = nothing (λ a. label_number a < length names.labels)
+all_labels names f lists (n ∷ ns) h =
+    let acts : List ActTree = acts_of_pending f lists n.pending in
+    All-append (λ a. label_number a < length names.labels) (map (act_of_tree names) acts) (acts_in names f lists ns) (labels_below names acts h.0.1) (all_labels names f lists ns h.1)
+
+abbrev IsShort : DNode_data → Type 0
+IsShort n = length n.pending ≤ MOST_BOUND
+
+all_short : (names : Names_data) (f : Format) (lists : ListsTree f) (ns : List (NodeTree f)) → NodesFine names f lists ns → AllByRecursion IsShort (map (node_of_tree names f lists) ns)
+all_short names f lists [] h = tt
+all_short names f lists (n ∷ ns) h =
+    let size = length-map (acts_of_pending f lists n.pending) (act_of_tree names) in
+    let short = h.0.2 in
+    (omega arith, all_short names f lists ns h.1)
 
 -- ---- few labels
 
@@ -138,24 +198,30 @@ label_there (a ∷ acts) n q h e = elim (or_first (eqb q (label_number a)) (list
 
 -- ---- the whole
 
-grown_known : (old : Names_data) (labels : List (List ℕ)) → Known (names_with old.labels labels) labels
-grown_known old labels = known_grown labels old.labels
-
-pub printable : (old : Names_data) (t : DerivationTree) → Fits old t → IsPrintable (names_of old t) (derivation_of (names_of old t) t)
+printable : (old : Names_data) (t : DerivationTree) → Fits old t → IsPrintable (names_of old t) (derivation_of (names_of old t) t)
 printable old t f =
     let names : Names_data = names_of old t in
-    let k = both (is_among t.role old.roles) (list_all (λ x. is_among x old.roles) (peers_of_nodes t.nodes)) f.roles in
-    let labels = all_labels names t.nodes (grown_known old (labels_of_nodes t.nodes)) in
-    let few = few_below (map label_number (acts_in names t.nodes)) (length names.labels) (λ q e. label_there (acts_in names t.nodes) (length names.labels) q labels e) in
+    let k = both (is_among t.role old.roles) (list_all (λ x. is_among x old.roles) (peers_of_acts (acts_of t))) f.roles in
+    let fine : NodesFine names t.format t.lists t.nodes = each_node (AreFine names) t.format t.lists t.nodes (refl, refl, omega arith)
+    (lists_fine names (written_lists t.format t.lists t.nodes) k.1 (grown_known (labels_of_acts (acts_of t)) old.labels) f.acts) in
+    let acts : List Act = acts_in names t.format t.lists t.nodes in
+    let labels = all_labels names t.format t.lists t.nodes fine in
+    let few = few_below (map label_number acts) (length names.labels) (λ q e. label_there acts (length names.labels) q labels e) in
     let most = f.labels in
-    let size = length-map t.nodes (node_of_tree names) in
+    let size = length-map t.nodes (node_of_tree names t.format t.lists) in
     let some = f.formed.some in
     let all = f.nodes in
     record {
-      roles = record { role = below old.roles t.role k.0; peers = all_peers names t.nodes k.1 };
+      roles = record { role = below old.roles t.role k.0; peers = all_peers names t.format t.lists t.nodes fine };
       labels = labels;
       few_labels = omega arith;
+      short_lists = All-from_recursion IsShort (map (node_of_tree names t.format t.lists) t.nodes) (all_short names t.format t.lists t.nodes fine);
       bound = f.formed.bound;
       some = omega arith;
       nodes = omega arith;
     }
+
+pub spelt_printable : (old new : Names_data) (bytes : List ℕ) (at until : ℕ) (d : Derivation_data) → SpellsDerivation bytes at old new d until → IsPrintable new d
+spelt_printable old new bytes at until d s =
+    subst (λ (z : Derivation_data). IsPrintable new z) (sym s.derivation_is)
+    (subst (λ (z : Names_data). IsPrintable z (derivation_of z s.tree)) (sym s.names_are) (printable old s.tree s.fits))

@@ -11,6 +11,8 @@ use Rattle.rs_prefix.specs.declared.earliest.ActKind.TheVariants as act
 use Rattle.rs_derive.specs.Data.{DNode_data, Derivation_data}
 use Rattle.rs_text.specs.NamePlaces.{name_at}
 use Rattle.rs_text.specs.Shown.{shown_sort}
+use Rattle.rs_derivations.specs.declared.formats.Format.TheVariants.{Two}
+use Rattle.rs_derivations.specs.PendingLists.{lists_of, list_number}
 use Rattle.rs_derivations.specs.Trees.{ActTree, NodeTree, DerivationTree}
 use Rattle.rs_derivations.specs.Texts.{derivation_text}
 
@@ -23,13 +25,19 @@ abbrev pub tree_of_act : Names_data → Act → ActTree
 tree_of_act names (Puts peer label sort) = shown_act names act.Send peer label sort
 tree_of_act names (Takes peer label sort) = shown_act names act.Receive peer label sort
 
--- the tree of a node
-abbrev pub tree_of_node : Names_data → DNode_data → NodeTree
-tree_of_node names n = record { state = n.state; pending = map (tree_of_act names) n.pending; above = n.above; rank = n.rank; next = n.next }
+-- the tree of a node, where these lists stand before it
+abbrev pub tree_of_node : List (List Act) → DNode_data → NodeTree Two
+tree_of_node lists n = record { state = n.state; pending = list_number lists n.pending; above = n.above; rank = n.rank; next = n.next }
 
--- the tree that the canonical text has
+-- the tree that the canonical text has: format 2, each list of pending acts once
 abbrev pub tree_of : Names_data → Derivation_data → DerivationTree
-tree_of names d = record { role = name_at names.roles d.role.0; bound = d.bound; nodes = map (tree_of_node names) d.nodes }
+tree_of names d = record {
+  role = name_at names.roles d.role.0;
+  format = Two;
+  bound = d.bound;
+  lists = map (λ acts. map (tree_of_act names) acts) (lists_of d);
+  nodes = map (tree_of_node (lists_of d)) d.nodes;
+}
 
 -- the text of it
 abbrev pub canonical_text : Names_data → Derivation_data → List ℕ

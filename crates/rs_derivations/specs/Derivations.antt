@@ -1,5 +1,5 @@
 -- Public: the names and the derivation that a tree spells.
-use Rattle.std.specs.Prelude.{ℕ, List, map}
+use Rattle.std.specs.Prelude.{ℕ, zero, suc, List, [], map, slice_index_or}
 use Rattle.std.specs.List.{flat_map}
 use Rattle.rs_model.specs.Data.{Names_data}
 use Rattle.rs_model.specs.declared.graph.Label.{Label}
@@ -12,31 +12,36 @@ use Rattle.rs_prefix.specs.declared.earliest.ActKind.TheVariants as act
 use Rattle.rs_derive.specs.Data.{DNode_data, Derivation_data}
 use Rattle.rs_text.specs.Arms.{sort_or_unit}
 use Rattle.rs_text.specs.Names.{place_of, names_with, number_or}
-use Rattle.rs_derivations.specs.Trees.{ActTree, NodeTree, DerivationTree}
+use Rattle.rs_derivations.specs.declared.formats.Format.{Format}
+use Rattle.rs_derivations.specs.declared.formats.Format.TheVariants.{One, Two}
+use Rattle.rs_derivations.specs.Trees.{ActTree, ListsTree, PendingTree, NodeTree, DerivationTree}
 
--- the labels of acts, in order of text
+-- the acts of the list with that number; 0 stands for no acts
+abbrev pub acts_of_number : {A : Type 0} → List (List A) → ℕ → List A
+acts_of_number lists zero = []
+acts_of_number lists (suc k) = slice_index_or lists k []
+
+-- the pending acts that a node has behind these lists
+abbrev pub acts_of_pending : (f : Format) → ListsTree f → PendingTree f → List ActTree
+acts_of_pending One none acts = acts
+acts_of_pending Two lists n = acts_of_number lists n
+
+-- the lists of acts that a text writes out: in format 1 one a node
+abbrev pub written_lists : (f : Format) → ListsTree f → List (NodeTree f) → List (List ActTree)
+written_lists One none nodes = map (λ n. n.pending) nodes
+written_lists Two lists nodes = lists
+
+-- all acts of a derivation's text, in order of text
+abbrev pub acts_of : DerivationTree → List ActTree
+acts_of t = flat_map (λ acts. acts) (written_lists t.format t.lists t.nodes)
+
+-- the labels of acts
 abbrev pub labels_of_acts : List ActTree → List (List ℕ)
 labels_of_acts acts = map (λ a. a.label) acts
 
--- the labels of a node
-abbrev pub labels_of_node : NodeTree → List (List ℕ)
-labels_of_node t = labels_of_acts t.pending
-
--- the labels of nodes
-abbrev pub labels_of_nodes : List NodeTree → List (List ℕ)
-labels_of_nodes nodes = flat_map labels_of_node nodes
-
--- the same of the peers of acts
+-- the peers of acts
 abbrev pub peers_of_acts : List ActTree → List (List ℕ)
 peers_of_acts acts = map (λ a. a.peer) acts
-
--- the peers of a node
-abbrev pub peers_of_node : NodeTree → List (List ℕ)
-peers_of_node t = peers_of_acts t.pending
-
--- the peers of nodes
-abbrev pub peers_of_nodes : List NodeTree → List (List ℕ)
-peers_of_nodes nodes = flat_map peers_of_node nodes
 
 -- the names that were there, with the labels that are new behind them in order of their first places
 abbrev pub with_new_labels : Names_data → List (List ℕ) → Names_data
@@ -44,7 +49,7 @@ with_new_labels old labels = record { roles = old.roles; labels = names_with old
 
 -- the names with the labels of a tree
 abbrev pub names_of : Names_data → DerivationTree → Names_data
-names_of old t = with_new_labels old (labels_of_nodes t.nodes)
+names_of old t = with_new_labels old (labels_of_acts (acts_of t))
 
 -- roles and labels are known by the places of their names
 abbrev pub role_named : Names_data → List ℕ → Role
@@ -63,10 +68,10 @@ act_of_kind act.Receive peer label sort = Takes peer label sort
 abbrev pub act_of_tree : Names_data → ActTree → Act
 act_of_tree names a = act_of_kind a.kind (role_named names a.peer) (label_named names a.label) (sort_or_unit a.sort)
 
--- the node that a tree spells, with these names
-abbrev pub node_of_tree : Names_data → NodeTree → DNode_data
-node_of_tree names t = record { state = t.state; pending = map (act_of_tree names) t.pending; above = t.above; rank = t.rank; next = t.next }
+-- the node that a tree spells behind these lists, with these names
+abbrev pub node_of_tree : Names_data → (f : Format) → ListsTree f → NodeTree f → DNode_data
+node_of_tree names f lists t = record { state = t.state; pending = map (act_of_tree names) (acts_of_pending f lists t.pending); above = t.above; rank = t.rank; next = t.next }
 
 -- the derivation that a tree spells, with these names
 abbrev pub derivation_of : Names_data → DerivationTree → Derivation_data
-derivation_of names t = record { role = role_named names t.role; bound = t.bound; nodes = map (node_of_tree names) t.nodes }
+derivation_of names t = record { role = role_named names t.role; bound = t.bound; nodes = map (node_of_tree names t.format t.lists) t.nodes }

@@ -1,7 +1,8 @@
 -- Public: the first fault of a text.
 use Rattle.std.specs.Prelude.{◌≡◌, ℕ, ◌⊎◌, List, [], ◌∷◌, ◌++◌, length, Option, Some, None, nat_le, ◌==◌, if◌then◌else◌}
+use Rattle.std.specs.List.{flat_map}
 use Rattle.rs_model.specs.Data.{Names_data}
-use Rattle.rs_model.specs.declared.limits.TheConstants.{MOST_LABELS, MOST_CANDIDATES}
+use Rattle.rs_model.specs.declared.limits.TheConstants.{MOST_BOUND, MOST_LABELS, MOST_CANDIDATES}
 use Rattle.rs_text.specs.declared.tokens.FaultKind.{FaultKind}
 use Rattle.rs_text.specs.declared.faults.Wanted.{Wanted}
 use Rattle.rs_text.specs.declared.faults.TextKind.{TextKind}
@@ -11,10 +12,12 @@ use Rattle.rs_text.specs.FirstFaults.{IsWhole, FirstFaultBy}
 use Rattle.rs_text.specs.Names.{names_with, is_among}
 use Rattle.rs_text.specs.Seen.{plain_text, word_text}
 use Rattle.rs_text.specs.Signs.{Sign, number, broken}
-use Rattle.rs_derivations.specs.Cuts.{NodeCut, at_number, at_act, in_act, behind_mark, Cut, at_role, in_nodes, at_end, cut_signs, wanted_of, IsPlace}
-use Rattle.rs_derivations.specs.Derivations.{labels_of_acts, labels_of_nodes}
+use Rattle.rs_derivations.specs.declared.formats.Format.{Format}
+use Rattle.rs_derivations.specs.declared.formats.Format.TheVariants.{One, Two}
+use Rattle.rs_derivations.specs.Cuts.{behind_mark, ActsCut, at_act, in_act, NodeCut, at_number, ActsHome, of_node, of_list, Cut, at_role, in_acts, in_node, at_end, cut_signs, wanted_of, IsPlace}
+use Rattle.rs_derivations.specs.Derivations.{written_lists, labels_of_acts}
 use Rattle.rs_derivations.specs.Spells.{IsFormed}
-use Rattle.rs_derivations.specs.Trees.{NodeTree, DerivationTree, derivation_signs}
+use Rattle.rs_derivations.specs.Trees.{ActTree, NodeTree, DerivationTree, derivation_signs}
 
 -- the value of a number
 abbrev pub number_value : Sign → Option ℕ
@@ -36,17 +39,32 @@ abbrev pub fault_of_node : ℕ → Option ℕ → Option TextKind
 fault_of_node count None = None
 fault_of_node count (Some n) = if n == count then (if nat_le MOST_CANDIDATES count then Some kind.TooManyNodes else None) else None
 
--- the rule of names or limits that a token breaks at its place in a node
-abbrev pub fault_in_node : Names_data → List NodeTree → NodeCut → Sign → Option TextKind
-fault_in_node old nodes at_number t = fault_of_node (length nodes) (number_value t)
-fault_in_node old nodes (at_act s acts) t = fault_of_role old (plain_text t)
-fault_in_node old nodes (in_act s acts (behind_mark p k)) t = fault_of_label (names_with old.labels (labels_of_nodes nodes ++ labels_of_acts acts)) (word_text t)
-fault_in_node old nodes _ t = None
+-- the peer of an act is known, and there is room for the act behind so many of its list
+abbrev pub fault_of_peer : Names_data → ℕ → Option (List ℕ) → Option TextKind
+fault_of_peer old count None = None
+fault_of_peer old count (Some name) = if is_among name old.roles then (if nat_le MOST_BOUND count then Some kind.TooManyActs else None) else Some kind.UnknownRole
+
+-- all acts that are written out before these
+abbrev pub acts_before : ActsHome → List ActTree
+acts_before (of_node h nodes s) = flat_map (λ acts. acts) (written_lists One h.lists nodes)
+acts_before (of_list h) = flat_map (λ acts. acts) (written_lists Two h.lists [])
+
+-- the rule of names or limits that a token breaks at its place in acts
+abbrev pub fault_in_acts : Names_data → ActsHome → ActsCut → Sign → Option TextKind
+fault_in_acts old home (at_act acts) t = fault_of_peer old (length acts) (plain_text t)
+fault_in_acts old home (in_act acts (behind_mark p k)) t = fault_of_label (names_with old.labels (labels_of_acts (acts_before home) ++ labels_of_acts acts)) (word_text t)
+fault_in_acts old home _ t = None
+
+-- the same in a node
+abbrev pub fault_in_node : {f : Format} → List (NodeTree f) → NodeCut f → Sign → Option TextKind
+fault_in_node nodes at_number t = fault_of_node (length nodes) (number_value t)
+fault_in_node nodes _ t = None
 
 -- the same at any place
 abbrev pub fault_of : Names_data → Cut → Sign → Option TextKind
 fault_of old at_role t = fault_of_role old (plain_text t)
-fault_of old (in_nodes x b nodes p) t = fault_in_node old nodes p t
+fault_of old (in_acts home c) t = fault_in_acts old home c t
+fault_of old (in_node f h nodes c) t = fault_in_node nodes c t
 fault_of old _ t = None
 
 -- the tokens begin a derivation

@@ -1,5 +1,5 @@
 -- Steps: how the reader goes on, token by token.
-use Rattle.std.specs.Prelude.{◌≡◌, ℕ, List, [], ◌∷◌, ◌++◌, codes, length, Option, Some, None, Bool, true, false, ◌&&◌, nat_le, ◌==◌, if◌then◌else◌, Result, Ok, Err}
+use Rattle.std.specs.Prelude.{◌≡◌, ℕ, suc, List, [], ◌∷◌, ◌++◌, codes, length, Option, Some, None, Bool, true, false, ◌&&◌, nat_le, ◌==◌, if◌then◌else◌, Result, Ok, Err}
 use Rattle.rs_model.specs.Data.{Names_data}
 use Rattle.rs_model.specs.declared.graph.Label.{Label}
 use Rattle.rs_model.specs.declared.graph.Role.{Role}
@@ -19,11 +19,13 @@ use Rattle.rs_text.specs.Readings.{Automaton, fault, expected, Fails}
 use Rattle.rs_text.specs.declared.reading.Stop.{Stop}
 use Rattle.rs_text.specs.Seen.{is_text, plain_text}
 use Rattle.rs_text.specs.Signs.{Sign, bang, question, colon, comma, open_brace, close_brace, open_bracket, close_bracket}
+use Rattle.rs_derivations.specs.declared.formats.Format.{Format}
+use Rattle.rs_derivations.specs.declared.formats.Format.TheVariants.{One, Two}
 use Rattle.rs_derivations.specs.declared.reading.Mode.{Mode}
 use Rattle.rs_derivations.specs.declared.reading.Mode.TheVariants as mode
 use Rattle.rs_derivations.specs.Cuts.{node_wanted, act_wanted, next_wanted}
 use Rattle.rs_derivations.specs.Data.{Reader_data}
-use Rattle.rs_derivations.specs.Derivations.{act_of_kind}
+use Rattle.rs_derivations.specs.Derivations.{acts_of_number, act_of_kind}
 use Rattle.rs_derivations.specs.Faults.{number_value}
 
 -- ---- which token it is
@@ -94,7 +96,7 @@ no_node = record { state = 0; pending = []; above = 0; rank = 0; next = [] }
 
 -- before the first token
 abbrev pub start_of_derivation : Names_data → Reader_data
-start_of_derivation old = record { roles = old.roles; labels = old.labels; role = record { 0 = 0 }; bound = 0; nodes = []; node = no_node; mode = mode.Derivation }
+start_of_derivation old = record { roles = old.roles; labels = old.labels; role = record { 0 = 0 }; format = One; bound = 0; lists = []; acts = []; nodes = []; node = no_node; mode = mode.Derivation }
 
 -- the reader goes on in that mode
 abbrev pub in_mode : Mode → Reader_data → Fed
@@ -107,17 +109,50 @@ passes right w m at r = if right then in_mode m r else expected w at
 -- the role of the derivation
 abbrev pub feed_derivation_role : Option ℕ → ℕ → Reader_data → Fed
 feed_derivation_role None at r = fault kind.UnknownRole at
-feed_derivation_role (Some k) at r = Ok (record r { role = record { 0 = k }; mode = mode.AtBoundWord })
+feed_derivation_role (Some k) at r = Ok (record r { role = record { 0 = k }; mode = mode.BehindRole })
 
 -- the role of the derivation, by its name
 abbrev pub feed_role : Option (List ℕ) → ℕ → Reader_data → Fed
 feed_role None at r = expected wanted.Role at
 feed_role (Some word) at r = feed_derivation_role (place_of word r.roles) at r
 
+-- the bound of format 1, or the format
+abbrev pub feed_behind_role : (bound format : Bool) → ℕ → Reader_data → Fed
+feed_behind_role bound format at r = if bound then in_mode mode.AtBound r else passes format wanted.BoundOrFormat mode.AtFormatNumber at r
+
+-- the number of the format
+abbrev pub feed_format : Option ℕ → ℕ → Reader_data → Fed
+feed_format None at r = expected wanted.FormatNumber at
+feed_format (Some n) at r = if n == 2 then Ok (record r { format = Two; mode = mode.BehindFormat }) else expected wanted.FormatNumber at
+
 -- the number of the bound
 abbrev pub feed_bound : Option ℕ → ℕ → Reader_data → Fed
 feed_bound None at r = expected wanted.BoundNumber at
 feed_bound (Some n) at r = if is_bound n then Ok (record r { bound = n; mode = mode.AtBrace }) else expected wanted.BoundNumber at
+
+-- the mode behind the open brace
+abbrev pub behind_brace : Format → Mode
+behind_brace One = mode.AtNode
+behind_brace Two = mode.AtLists
+
+-- the mode behind a token by which the first node of format 2 begins
+abbrev pub first_node : Option ℕ → Option Mode
+first_node None = None
+first_node (Some n) = if n == 0 then Some mode.AtColon else None
+
+-- the mode behind a token by which a list or the first node of format 2 begins
+abbrev pub beginning : Sign → Option Mode
+beginning t = if is_keyword (codes "pending") t then Some mode.AtListNumber else first_node (number_value t)
+
+-- the first list or node of format 2 begins
+abbrev pub feed_beginning : Option Mode → ℕ → Reader_data → Fed
+feed_beginning None at r = expected wanted.PendingOrNode at
+feed_beginning (Some m) at r = in_mode m r
+
+-- the number of a list
+abbrev pub feed_list_number : Option ℕ → ℕ → Reader_data → Fed
+feed_list_number None at r = expected wanted.PendingNumber at
+feed_list_number (Some n) at r = passes (n == suc (length r.lists)) wanted.PendingNumber mode.AtListColon at r
 
 -- a further node, by its number, or the end
 abbrev pub feed_node : Option ℕ → Bool → ℕ → Reader_data → Fed
@@ -125,20 +160,40 @@ feed_node (Some n) closes at r =
     if n == length r.nodes then (if nat_le MOST_CANDIDATES (length r.nodes) then fault kind.TooManyNodes at else in_mode mode.AtColon r) else expected (node_wanted r.nodes) at
 feed_node None closes at r = passes (closes && is_some_of r.nodes) (node_wanted r.nodes) mode.Behind at r
 
+-- the mode behind the state
+abbrev pub behind_state : Format → Mode
+behind_state One = mode.AtActs
+behind_state Two = mode.AtWith
+
 -- the number of the machine's state
 abbrev pub feed_state : Option ℕ → ℕ → Reader_data → Fed
 feed_state None at r = expected wanted.Number at
-feed_state (Some n) at r = Ok (record r { node = record r.node { state = n }; mode = mode.AtActs })
+feed_state (Some n) at r = Ok (record r { node = record r.node { state = n }; mode = behind_state r.format })
 
--- a further act, by its peer, or the end of the acts
+-- the number of the node's list
+abbrev pub feed_pending_number : Option ℕ → ℕ → Reader_data → Fed
+feed_pending_number None at r = expected wanted.PendingNumber at
+feed_pending_number (Some n) at r =
+    if nat_le n (length r.lists) then Ok (record r { node = record r.node { pending = acts_of_number r.lists n }; mode = mode.AtAboveWord }) else expected wanted.PendingNumber at
+
+-- the acts of the node are read
+abbrev pub feed_acts_end : Reader_data → Fed
+feed_acts_end r = Ok (record r { acts = []; node = record r.node { pending = r.acts }; mode = mode.AtAbove })
+
+-- a further act, by its peer
 abbrev pub feed_peer : Option ℕ → ℕ → Reader_data → Fed
 feed_peer None at r = fault kind.UnknownRole at
-feed_peer (Some k) at r = in_mode (mode.AtMark (record { 0 = k })) r
+feed_peer (Some k) at r = if nat_le MOST_BOUND (length r.acts) then fault kind.TooManyActs at else in_mode (mode.AtMark (record { 0 = k })) r
 
--- the peer's name of a further act, or the end of the acts
+-- no further act: in format 1 that may be the end of no acts
+abbrev pub feed_no_act : Format → Bool → ℕ → Reader_data → Fed
+feed_no_act One closes at r = if closes && is_none_of r.acts then feed_acts_end r else expected (act_wanted One r.acts) at
+feed_no_act Two closes at r = expected wanted.Role at
+
+-- a further act, by its peer's name, or none
 abbrev pub feed_act : Option (List ℕ) → Bool → ℕ → Reader_data → Fed
 feed_act (Some word) closes at r = feed_peer (place_of word r.roles) at r
-feed_act None closes at r = passes (closes && is_none_of r.node.pending) (act_wanted r.node.pending) mode.AtAbove at r
+feed_act None closes at r = feed_no_act r.format closes at r
 
 -- the mark of an act
 abbrev pub feed_mark : Role → Option ActKind → ℕ → Reader_data → Fed
@@ -147,7 +202,7 @@ feed_mark p (Some k) at r = in_mode (mode.InMessage p k place.Label) r
 
 -- the act is pending
 abbrev pub feed_pending : Role → ActKind → Label → Sort → Reader_data → Fed
-feed_pending p m l s r = Ok (record r { node = record r.node { pending = r.node.pending ++ act_of_kind m p l s ∷ [] }; mode = mode.BehindAct })
+feed_pending p m l s r = Ok (record r { acts = r.acts ++ act_of_kind m p l s ∷ []; mode = mode.BehindAct })
 
 -- a message of an act, behind a token
 abbrev pub in_message : Role → ActKind → Result MessageFed TextFault → Reader_data → Fed
@@ -155,9 +210,19 @@ in_message p m (Err f) r = Err f
 in_message p m (Ok (goes_on labels x)) r = Ok (record r { labels = labels; mode = mode.InMessage p m x })
 in_message p m (Ok (ends l s)) r = feed_pending p m l s r
 
--- the comma before a further act, or the end of the acts
-abbrev pub feed_behind_act : Bool → Bool → ℕ → Reader_data → Fed
-feed_behind_act goes closes at r = if goes then in_mode mode.AtAct r else passes closes wanted.CommaOrCloseBracket mode.AtAbove at r
+-- the list is read, and a list or the first node begins
+abbrev pub feed_list_end : Option Mode → ℕ → Reader_data → Fed
+feed_list_end None at r = expected wanted.CommaPendingOrNode at
+feed_list_end (Some m) at r = Ok (record r { lists = r.lists ++ r.acts ∷ []; acts = []; mode = m })
+
+-- what stands behind the last act: the end of the acts of a node, or what begins behind a list
+abbrev pub feed_behind_acts : Format → Sign → ℕ → Reader_data → Fed
+feed_behind_acts One t at r = if is_close_bracket t then feed_acts_end r else expected wanted.CommaOrCloseBracket at
+feed_behind_acts Two t at r = feed_list_end (beginning t) at r
+
+-- the comma before a further act, or what stands behind the last one
+abbrev pub feed_behind_act : Sign → ℕ → Reader_data → Fed
+feed_behind_act t at r = if is_comma t then in_mode mode.AtAct r else feed_behind_acts r.format t at r
 
 -- the number of the projection's state
 abbrev pub feed_above : Option ℕ → ℕ → Reader_data → Fed
@@ -182,9 +247,8 @@ feed_next None closes at r = if closes && is_none_of r.node.next then feed_node_
 abbrev pub feed_behind_next : Bool → Bool → ℕ → Reader_data → Fed
 feed_behind_next goes closes at r = if goes then in_mode mode.AtNext r else if closes then feed_node_end r else expected wanted.CommaOrCloseBracket at
 
--- one token of a node, from behind an act on
+-- one token of a node, from its above state on
 abbrev pub feed_rest : Mode → Sign → ℕ → Reader_data → Fed
-feed_rest mode.BehindAct t at r = feed_behind_act (is_comma t) (is_close_bracket t) at r
 feed_rest mode.AtAbove t at r = feed_above (number_value t) at r
 feed_rest mode.AtRankWord t at r = passes (is_keyword (codes "rank") t) wanted.Rank mode.AtRank at r
 feed_rest mode.AtRank t at r = feed_rank (number_value t) at r
@@ -194,21 +258,34 @@ feed_rest mode.AtNext t at r = feed_next (number_value t) (is_close_bracket t) a
 feed_rest mode.BehindNext t at r = feed_behind_next (is_comma t) (is_close_bracket t) at r
 feed_rest _ t at r = expected wanted.DerivationOrEnd at
 
+-- one token of a list or a node before that
+abbrev pub feed_middle : Mode → Sign → ℕ → Reader_data → Fed
+feed_middle mode.AtNode t at r = feed_node (number_value t) (is_close_brace t) at r
+feed_middle mode.AtColon t at r = passes (is_colon t) wanted.Colon mode.AtState at r
+feed_middle mode.AtState t at r = feed_state (number_value t) at r
+feed_middle mode.AtActs t at r = passes (is_open_bracket t) wanted.OpenBracket mode.AtAct at r
+feed_middle mode.AtWith t at r = passes (is_keyword (codes "with") t) wanted.With mode.AtPendingNumber at r
+feed_middle mode.AtPendingNumber t at r = feed_pending_number (number_value t) at r
+feed_middle mode.AtAboveWord t at r = passes (is_keyword (codes "above") t) wanted.Above mode.AtAbove at r
+feed_middle mode.AtAct t at r = feed_act (plain_text t) (is_close_bracket t) at r
+feed_middle (mode.AtMark p) t at r = feed_mark p (mark_kind t) at r
+feed_middle (mode.InMessage p m x) t at r = in_message p m (feed_message x t at r.labels) r
+feed_middle mode.BehindAct t at r = feed_behind_act t at r
+feed_middle m t at r = feed_rest m t at r
+
 -- a token before that
 abbrev pub feed_at : Mode → Sign → ℕ → Reader_data → Fed
 feed_at mode.Derivation t at r = passes (is_keyword (codes "derivation") t) wanted.DerivationOrEnd mode.AtRole at r
 feed_at mode.AtRole t at r = feed_role (plain_text t) at r
-feed_at mode.AtBoundWord t at r = passes (is_keyword (codes "bound") t) wanted.Bound mode.AtBound at r
+feed_at mode.BehindRole t at r = feed_behind_role (is_keyword (codes "bound") t) (is_keyword (codes "format") t) at r
+feed_at mode.AtFormatNumber t at r = feed_format (number_value t) at r
+feed_at mode.BehindFormat t at r = passes (is_keyword (codes "bound") t) wanted.Bound mode.AtBound at r
 feed_at mode.AtBound t at r = feed_bound (number_value t) at r
-feed_at mode.AtBrace t at r = passes (is_open_brace t) wanted.OpenBrace mode.AtNode at r
-feed_at mode.AtNode t at r = feed_node (number_value t) (is_close_brace t) at r
-feed_at mode.AtColon t at r = passes (is_colon t) wanted.Colon mode.AtState at r
-feed_at mode.AtState t at r = feed_state (number_value t) at r
-feed_at mode.AtActs t at r = passes (is_open_bracket t) wanted.OpenBracket mode.AtAct at r
-feed_at mode.AtAct t at r = feed_act (plain_text t) (is_close_bracket t) at r
-feed_at (mode.AtMark p) t at r = feed_mark p (mark_kind t) at r
-feed_at (mode.InMessage p m x) t at r = in_message p m (feed_message x t at r.labels) r
-feed_at m t at r = feed_rest m t at r
+feed_at mode.AtBrace t at r = passes (is_open_brace t) wanted.OpenBrace (behind_brace r.format) at r
+feed_at mode.AtLists t at r = feed_beginning (beginning t) at r
+feed_at mode.AtListNumber t at r = feed_list_number (number_value t) at r
+feed_at mode.AtListColon t at r = passes (is_colon t) wanted.Colon mode.AtAct at r
+feed_at m t at r = feed_middle m t at r
 
 -- a token in the mode of the reader
 abbrev pub feed_of : Sign → ℕ → Reader_data → Fed

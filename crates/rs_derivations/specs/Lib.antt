@@ -5,6 +5,8 @@ pub mod Spells
 pub mod Cuts
 pub mod Faults
 pub mod Texts
+pub mod PendingLists
+pub mod ListTables
 pub mod Canonical
 pub mod Printable
 pub mod Read

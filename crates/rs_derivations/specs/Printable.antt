@@ -3,7 +3,7 @@ use Rattle.std.specs.Prelude.{ℕ, ◌<◌, ◌≤◌, List, length, map, eqb}
 use Rattle.std.specs.List.{All, flat_map}
 use Rattle.std.specs.Set.{distinct_count}
 use Rattle.rs_model.specs.Data.{Names_data}
-use Rattle.rs_model.specs.declared.limits.TheConstants.{MOST_LABELS, MOST_CANDIDATES}
+use Rattle.rs_model.specs.declared.limits.TheConstants.{MOST_BOUND, MOST_LABELS, MOST_CANDIDATES}
 use Rattle.rs_model.specs.declared.machines.Act.{Act}
 use Rattle.rs_model.specs.declared.machines.Act.TheVariants.{Puts, Takes}
 use Rattle.rs_derive.specs.Data.{Derivation_data}
@@ -36,11 +36,16 @@ LabelsHaveNames names d = All (λ a. label_number a < length names.labels) (pend
 abbrev pub HasFewLabels : Derivation_data → Type 0
 HasFewLabels d = distinct_count eqb (map label_number (pending_acts d)) ≤ MOST_LABELS
 
+-- no node has more than 64 pending acts
+abbrev pub HasShortLists : Derivation_data → Type 0
+HasShortLists d = All (λ n. length n.pending ≤ MOST_BOUND) d.nodes
+
 -- all that a text needs
 pub record IsPrintable (names : Names_data) (d : Derivation_data) : Type 0 where
   pub roles : RolesHaveNames names d
   pub labels : LabelsHaveNames names d
   pub few_labels : HasFewLabels d
+  pub short_lists : HasShortLists d
   pub bound : IsBound d.bound
   pub some : 1 ≤ length d.nodes
   pub nodes : length d.nodes ≤ MOST_CANDIDATES

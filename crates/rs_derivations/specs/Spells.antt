@@ -1,30 +1,46 @@
 -- Public: what a text spells.
 use Rattle.std.specs.Prelude.{◌≡◌, ℕ, ◌≤◌, List, ◌∷◌, ◌++◌, length, true}
-use Rattle.std.specs.List.{list_all}
+use Rattle.std.specs.List.{All, list_all}
 use Rattle.rs_model.specs.Data.{Names_data}
 use Rattle.rs_model.specs.Limits.{IsBound}
-use Rattle.rs_model.specs.declared.limits.TheConstants.{MOST_LABELS, MOST_CANDIDATES}
+use Rattle.rs_model.specs.declared.limits.TheConstants.{MOST_BOUND, MOST_LABELS, MOST_CANDIDATES}
 use Rattle.rs_derive.specs.Data.{Derivation_data}
 use Rattle.rs_text.specs.Lexemes.{Lexeme, signs_of}
 use Rattle.rs_text.specs.Tokens.{AreTokens}
 use Rattle.rs_text.specs.Names.{is_among, names_with}
-use Rattle.rs_derivations.specs.Derivations.{derivation_of, labels_of_nodes, peers_of_nodes, names_of}
-use Rattle.rs_derivations.specs.Trees.{DerivationTree, derivation_signs}
+use Rattle.rs_derivations.specs.declared.formats.Format.{Format}
+use Rattle.rs_derivations.specs.declared.formats.Format.TheVariants.{One, Two}
+use Rattle.rs_derivations.specs.Derivations.{acts_of, written_lists, derivation_of, labels_of_acts, peers_of_acts, names_of}
+use Rattle.rs_derivations.specs.Trees.{ListsTree, PendingTree, DerivationTree, derivation_signs}
 
--- the numbers of a tree are within their limits
+-- each list that stands before the nodes has acts
+abbrev pub HaveActs : (f : Format) → ListsTree f → Type 0
+HaveActs One none = Unit {0}
+HaveActs Two lists = All (λ acts. 1 ≤ length acts) lists
+
+-- a node has the number of a list that is there, or 0
+abbrev pub HasItsList : (f : Format) → ListsTree f → PendingTree f → Type 0
+HasItsList One none acts = Unit {0}
+HasItsList Two lists n = n ≤ length lists
+
+-- a tree that has tokens: its bound is one, it has a node, its lists have acts, and its nodes have their lists
 pub record IsFormed (t : DerivationTree) : Type 0 where
   pub bound : IsBound t.bound
   pub some : 1 ≤ length t.nodes
+  pub lists : HaveActs t.format t.lists
+  pub numbers : All (λ n. HasItsList t.format t.lists n.pending) t.nodes
 
 -- the roles are known
 abbrev pub AreKnown : Names_data → List (List ℕ) → Type 0
 AreKnown old roles = list_all (λ x. is_among x old.roles) roles ≡ true
 
--- its role and all peers are known, there are at most 65,536 nodes, and with its labels at most 256 labels
+-- its role and all peers are known, no list has more than 64 acts, there are at most 65,536 nodes, and with its labels at
+-- most 256 labels
 pub record Fits (old : Names_data) (t : DerivationTree) : Type 0 where
   pub formed : IsFormed t
-  pub roles : AreKnown old (t.role ∷ peers_of_nodes t.nodes)
-  pub labels : length (names_with old.labels (labels_of_nodes t.nodes)) ≤ MOST_LABELS
+  pub roles : AreKnown old (t.role ∷ peers_of_acts (acts_of t))
+  pub labels : length (names_with old.labels (labels_of_acts (acts_of t))) ≤ MOST_LABELS
+  pub acts : All (λ acts. length acts ≤ MOST_BOUND) (written_lists t.format t.lists t.nodes)
   pub nodes : length t.nodes ≤ MOST_CANDIDATES
 
 -- the bytes from `at` on, read with the old names, spell this derivation with the new ones, and go on at `until`

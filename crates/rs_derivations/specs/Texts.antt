@@ -1,12 +1,14 @@
--- Public: the text of a derivation tree, with the spacing of canonical texts: a line for the role and the bound, a line a node,
--- and a line for the brace.
+-- Public: the text of a derivation tree, with the spacing of canonical texts: a line for the role and the bound, a line a
+-- list where there are any, a line a node, and a line for the brace.
 use Rattle.std.specs.Prelude.{ℕ, suc, List, [], ◌∷◌, ◌++◌, codes}
 use Rattle.std.specs.Fmt.{decimal}
 use Rattle.rs_prefix.specs.declared.earliest.ActKind.{ActKind}
 use Rattle.rs_prefix.specs.declared.earliest.ActKind.TheVariants as act
 use Rattle.rs_text.specs.Shown.{shown_text}
+use Rattle.rs_derivations.specs.declared.formats.Format.{Format}
+use Rattle.rs_derivations.specs.declared.formats.Format.TheVariants.{One, Two}
 use Rattle.rs_derivations.specs.Lists.{list_with_separators}
-use Rattle.rs_derivations.specs.Trees.{ActTree, NodeTree, DerivationTree}
+use Rattle.rs_derivations.specs.Trees.{ActTree, ListsTree, PendingTree, NodeTree, DerivationTree}
 
 -- ! sends, ? receives
 abbrev pub mark_text : ActKind → List ℕ
@@ -25,27 +27,51 @@ acts_text acts = list_with_separators (codes ", ") act_text acts
 abbrev pub numbers_text : List ℕ → List ℕ
 numbers_text numbers = list_with_separators (codes ", ") decimal numbers
 
--- what stands behind the pending acts of a node
-abbrev pub rest_text : NodeTree → List ℕ
-rest_text t = codes "] " ++ (decimal t.above ++ (codes " rank " ++ (decimal t.rank ++ (codes " next [" ++ (numbers_text t.next ++ codes "]\n")))))
+-- `pending N: acts`, the line of the list with the number n
+abbrev pub list_text : ℕ → List ActTree → List ℕ
+list_text n acts = codes "pending " ++ (decimal n ++ (codes ": " ++ (acts_text acts ++ codes "\n")))
 
--- `N: S [acts] T rank R next [numbers]`, the line of the node with the number n
-abbrev pub node_text : ℕ → NodeTree → List ℕ
-node_text n t = decimal n ++ (codes ": " ++ (decimal t.state ++ (codes " [" ++ (acts_text t.pending ++ rest_text t))))
+-- the lines of lists, the first of which has the number n
+abbrev pub lists_text_from : ℕ → List (List ActTree) → List ℕ
+lists_text_from n [] = []
+lists_text_from n (acts ∷ later) = list_text n acts ++ lists_text_from (suc n) later
+
+-- the lines of the lists that stand before the nodes
+abbrev pub lists_text : (f : Format) → ListsTree f → List ℕ
+lists_text One none = []
+lists_text Two lists = lists_text_from 1 lists
+
+-- `[acts]`, or `with P above`
+abbrev pub pending_text : (f : Format) → PendingTree f → List ℕ
+pending_text One acts = codes "[" ++ (acts_text acts ++ codes "]")
+pending_text Two n = codes "with " ++ (decimal n ++ codes " above")
+
+-- what stands behind the pending acts of a node
+abbrev pub rest_text : {f : Format} → NodeTree f → List ℕ
+rest_text t = decimal t.above ++ (codes " rank " ++ (decimal t.rank ++ (codes " next [" ++ (numbers_text t.next ++ codes "]\n"))))
+
+-- `N: S [acts] T rank R next [numbers]` or `N: S with P above T rank R next [numbers]`, the line of the node with the number n
+abbrev pub node_text : (f : Format) → ℕ → NodeTree f → List ℕ
+node_text f n t = decimal n ++ (codes ": " ++ (decimal t.state ++ (codes " " ++ (pending_text f t.pending ++ (codes " " ++ rest_text t)))))
 
 -- the lines of nodes, the first of which has the number n
-abbrev pub nodes_text : ℕ → List NodeTree → List ℕ
-nodes_text n [] = []
-nodes_text n (t ∷ ts) = node_text n t ++ nodes_text (suc n) ts
+abbrev pub nodes_text : (f : Format) → ℕ → List (NodeTree f) → List ℕ
+nodes_text f n [] = []
+nodes_text f n (t ∷ ts) = node_text f n t ++ nodes_text f (suc n) ts
+
+-- nothing, or ` format 2`
+abbrev pub format_text : Format → List ℕ
+format_text One = []
+format_text Two = codes " format 2"
 
 -- ` bound NUM {`, the end of the first line
 abbrev pub bound_text : ℕ → List ℕ
 bound_text bound = codes " bound " ++ (decimal bound ++ codes " {\n")
 
--- the first line: `derivation ROLE bound NUM {`
-abbrev pub first_line_text : List ℕ → ℕ → List ℕ
-first_line_text role bound = codes "derivation " ++ (role ++ bound_text bound)
+-- the first line: `derivation ROLE bound NUM {` or `derivation ROLE format 2 bound NUM {`
+abbrev pub first_line_text : List ℕ → Format → ℕ → List ℕ
+first_line_text role f bound = codes "derivation " ++ (role ++ (format_text f ++ bound_text bound))
 
 -- the text of a derivation tree
 abbrev pub derivation_text : DerivationTree → List ℕ
-derivation_text t = first_line_text t.role t.bound ++ (nodes_text 0 t.nodes ++ codes "}\n")
+derivation_text t = first_line_text t.role t.format t.bound ++ (lists_text t.format t.lists ++ (nodes_text t.format 0 t.nodes ++ codes "}\n"))

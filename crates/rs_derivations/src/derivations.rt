@@ -19,12 +19,16 @@ use std::mem;
 /// Reads a derivation part from the offset `at` on, and gives the derivation and the offset of the first byte behind it
 /// that is neither a blank nor in a comment, or the length. The names are sound, with at most 16 roles and 256 labels.
 ///
+/// In format 1 each node has its pending acts. A text with `format 2` behind the role has lists of acts before the
+/// nodes, numbered from 1 on, and a node has the number of its list, or 0 for no acts; lists may be repeated or unused.
+///
 /// Nodes stand in order of their numbers, from 0 on. New labels are added to the names in order of text, and nothing
 /// else changes there; after a fault some of those before it may be there.
 ///
 /// A fault has the offset of its token: what was wanted instead (also where a node's number isn't the count of nodes
-/// before it, or a bound isn't from 1 to 64), an unknown role, one too many of nodes or labels, or a faulty token.
-/// Refused memory has the offset `at`.
+/// before it, a list's number isn't one more than the count of lists before it, a node's list isn't there, a format
+/// isn't 2, or a bound isn't from 1 to 64), an unknown role, one too many of nodes or labels, the 65th act of a list or
+/// of a node in format 1, or a faulty token. Refused memory has the offset `at`.
 pub fn read_derivation(
     alloc: Global,
     bytes: &[u8],

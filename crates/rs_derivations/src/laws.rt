@@ -70,6 +70,12 @@ pub fn canonical_tree_spells_the_derivation()
     ensures { (names : Names_data) (d : Derivation_data) → IsSound names → IsPrintable names d → derivation_of names (tree_of names d) ≡ d }
 {}
 
+/// What a text of either format spells is spelt by its canonical text too, with no new names.
+pub fn spelt_derivations_are_spelt_canonically()
+    ensures { (old names : Names_data) (bytes : List ℕ) (at until : ℕ) (d : Derivation_data) → SpellsDerivation bytes at old names d until → IsSound names → AreSmall d
+        → SpellsDerivation (canonical_text names d) 0 names names d (next_lexeme (canonical_text names d) (length (canonical_text names d))).from }
+{}
+
 /// What is read from a canonical text is printed as it.
 pub fn canonical_text_is_printed_again()
     ensures { (names new : Names_data) (d e : Derivation_data) (until : ℕ) → IsSound names → IsPrintable names d → AreSmall d → length names.labels ≤ MOST_LABELS

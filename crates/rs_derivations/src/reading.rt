@@ -8,15 +8,17 @@ ghost use Rattle.rs_text.specs.Messages.{feed_message};
 ghost use Rattle.rs_text.specs.Names.{place_of};
 ghost use Rattle.rs_text.specs.Readings.{feed_sign};
 ghost use Rattle.rs_text.specs.Seen.{plain_text, is_text};
-ghost use Rattle.rs_derivations.specs.Derivations.{act_of_kind};
+ghost use Rattle.rs_derivations.specs.declared.formats.Format.TheVariants.{One};
+ghost use Rattle.rs_derivations.specs.Derivations.{acts_of_number, act_of_kind};
 ghost use Rattle.rs_derivations.specs.Faults.{number_value};
 ghost use Rattle.rs_derivations.specs.Cuts as cuts;
 ghost use Rattle.rs_derivations.specs.Feeding as spec;
 ghost use Rattle.rs_derivations.specs.Feeding.{names_read};
 
+use crate::formats::Format;
 use rs_derive::DNode;
 use rs_graph::NodeRow;
-use rs_model::{Act, Label, MOST_BOUND, MOST_CANDIDATES, Name, Role, Sort};
+use rs_model::{Act, Label, MOST_BOUND, MOST_CANDIDATES, Name, NoMemory, Role, Sort};
 use rs_prefix::{ActKind, Pending};
 use rs_text::{
     MessagePlace, MessageStep, NameTable, Stop, Terminal, TextKind, TextToken, Wanted, expected,
@@ -32,16 +34,28 @@ pub(crate) enum Mode {
     /// At `derivation`.
     Derivation,
     AtRole,
+    /// At `bound`, or at `format`.
+    BehindRole,
+    AtFormatNumber,
     /// At `bound`.
-    AtBoundWord,
+    BehindFormat,
     AtBound,
     AtBrace,
+    /// At the first list or the first node, in format 2.
+    AtLists,
+    AtListNumber,
+    AtListColon,
     /// At a node's number, or at the end behind a node.
     AtNode,
     AtColon,
     AtState,
-    /// At the `[` of the pending acts.
+    /// At the `[` of the pending acts, in format 1.
     AtActs,
+    /// At `with`, in format 2.
+    AtWith,
+    AtPendingNumber,
+    /// At `above`.
+    AtAboveWord,
     /// At an act, or right behind `[` at `]` as well.
     AtAct,
     AtMark {
@@ -76,7 +90,10 @@ pub(crate) struct Reader<'a> {
     roles: &'a [Name],
     pub labels: NameTable,
     pub role: Role,
+    format: Format,
     pub bound: u8,
+    lists: Vec<Pending>,
+    acts: Pending,
     pub nodes: Vec<DNode>,
     node: DNode,
     mode: Mode,
@@ -89,7 +106,7 @@ impl<'a> Model for Reader<'a> {
 
     ghost Value = { Reader_data };
 
-    ghost view = { λ r. record { roles = r.roles.now; labels = r.labels; role = r.role; bound = r.bound; nodes = r.nodes.items; node = r.node; mode = r.mode } };
+    ghost view = { λ r. record { roles = r.roles.now; labels = r.labels; role = r.role; format = r.format; bound = r.bound; lists = r.lists.items; acts = r.acts; nodes = r.nodes.items; node = r.node; mode = r.mode } };
 
     ghost invariant = { λ r. (length r.roles.now ≤ MOST_ROLES) × (length r.labels ≤ MOST_LABELS) };
 }
@@ -226,6 +243,32 @@ fn is_bound(number: u32) -> bool
     number >= 1 && number as usize <= MOST_BOUND
 }
 
+/// The mode behind a token by which a list or the first node of format 2 begins.
+fn beginning(token: &TextToken) -> Option<Mode>
+    ensures { result ≡ spec.beginning token.now.sign }
+{
+    if is_keyword(token, b"pending") {
+        return Some(Mode::AtListNumber);
+    }
+    let number = value(token)?;
+    if number == 0 {
+        Some(Mode::AtColon)
+    } else {
+        None
+    }
+}
+
+/// A copy of the list with this number, where 0 stands for no acts.
+fn copy_of_list(alloc: Global, lists: &[Pending], number: usize) -> Result<Pending, NoMemory>
+    requires { number ≤ length lists.now }
+    ensures { IfOk result (λ p. p ≡ acts_of_number lists.now number) }
+{
+    if number == 0 {
+        return Ok(Pending::new(alloc));
+    }
+    lists[number - 1].copy(alloc)
+}
+
 /// What is wanted for a further node.
 fn node_wanted(nodes: &[DNode]) -> Wanted
     ensures { result ≡ cuts.node_wanted nodes.now }
@@ -236,8 +279,9 @@ fn node_wanted(nodes: &[DNode]) -> Wanted
     }
 }
 
+/// What is wanted for a further act in format 1.
 fn act_wanted(acts: &[Act]) -> Wanted
-    ensures { result ≡ cuts.act_wanted acts.now }
+    ensures { result ≡ cuts.act_wanted One acts.now }
 {
     match acts {
         [] => Wanted::ActOrCloseBracket,
@@ -293,7 +337,10 @@ impl<'a> Reader<'a> {
             roles,
             labels: NameTable::new(alloc, labels),
             role: Role(0),
+            format: Format::One,
             bound: 0,
+            lists: Vec::new(alloc),
+            acts: Pending::new(alloc),
             nodes: Vec::new(alloc),
             node: no_node(alloc),
             mode: Mode::Derivation,
@@ -329,7 +376,32 @@ impl<'a> Reader<'a> {
             return fault(TextKind::UnknownRole, at);
         };
         self.role = role;
-        self.mode = Mode::AtBoundWord;
+        self.mode = Mode::BehindRole;
+        Ok(())
+    }
+
+    /// The bound of format 1, or the format.
+    fn behind_role(&mut self, bound: bool, format: bool, at: usize) -> Result<(), Stop>
+        ensures { spec.Feeds result (spec.feed_behind_role bound format at self.old) self.old self.new }
+    {
+        if bound {
+            self.mode = Mode::AtBound;
+            return Ok(());
+        }
+        self.pass(format, Wanted::BoundOrFormat, Mode::AtFormatNumber, at)
+    }
+
+    fn format(&mut self, number: Option<u32>, at: usize) -> Result<(), Stop>
+        ensures { spec.Feeds result (spec.feed_format number at self.old) self.old self.new }
+    {
+        let Some(number) = number else {
+            return expected(Wanted::FormatNumber, at);
+        };
+        if number != 2 {
+            return expected(Wanted::FormatNumber, at);
+        }
+        self.format = Format::Two;
+        self.mode = Mode::BehindFormat;
         Ok(())
     }
 
@@ -345,6 +417,37 @@ impl<'a> Reader<'a> {
         self.bound = number as u8;
         self.mode = Mode::AtBrace;
         Ok(())
+    }
+
+    fn brace(&mut self, opens: bool, at: usize) -> Result<(), Stop>
+        ensures { spec.Feeds result (spec.passes opens Wanted.OpenBrace (spec.behind_brace self.old.format) at self.old) self.old self.new }
+    {
+        let mode = match self.format {
+            Format::One => Mode::AtNode,
+            Format::Two => Mode::AtLists,
+        };
+        self.pass(opens, Wanted::OpenBrace, mode, at)
+    }
+
+    /// The first list or node of format 2.
+    fn begin(&mut self, mode: Option<Mode>, at: usize) -> Result<(), Stop>
+        ensures { spec.Feeds result (spec.feed_beginning mode at self.old) self.old self.new }
+    {
+        let Some(mode) = mode else {
+            return expected(Wanted::PendingOrNode, at);
+        };
+        self.mode = mode;
+        Ok(())
+    }
+
+    fn list_number(&mut self, number: Option<u32>, at: usize) -> Result<(), Stop>
+        ensures { spec.Feeds result (spec.feed_list_number number at self.old) self.old self.new }
+    {
+        let Some(number) = number else {
+            return expected(Wanted::PendingNumber, at);
+        };
+        let right = number as usize == self.lists.len() + 1;
+        self.pass(right, Wanted::PendingNumber, Mode::AtListColon, at)
     }
 
     /// A further node, by its number, or the end.
@@ -370,8 +473,34 @@ impl<'a> Reader<'a> {
         ensures { spec.Feeds result (spec.feed_state number at self.old) self.old self.new }
     {
         self.node.state = wanted_number(number, at)?;
-        self.mode = Mode::AtActs;
+        self.mode = match self.format {
+            Format::One => Mode::AtActs,
+            Format::Two => Mode::AtWith,
+        };
         Ok(())
+    }
+
+    /// The number of the node's list.
+    fn pending_number(&mut self, number: Option<u32>, at: usize) -> Result<(), Stop>
+        ensures { spec.Feeds result (spec.feed_pending_number number at self.old) self.old self.new }
+    {
+        let Some(number) = number else {
+            return expected(Wanted::PendingNumber, at);
+        };
+        if number as usize > self.lists.len() {
+            return expected(Wanted::PendingNumber, at);
+        }
+        self.node.pending = copy_of_list(self.alloc, self.lists.as_slice(), number as usize)?;
+        self.mode = Mode::AtAboveWord;
+        Ok(())
+    }
+
+    /// The acts of the node are read.
+    fn end_acts(&mut self)
+        ensures { spec.feed_acts_end self.old ≡ Ok self.new }
+    {
+        self.node.pending = mem::replace(&mut self.acts, Pending::new(self.alloc));
+        self.mode = Mode::AtAbove;
     }
 
     /// A further act, by its peer, or the end of the acts.
@@ -379,13 +508,26 @@ impl<'a> Reader<'a> {
         ensures { spec.Feeds result (spec.feed_act (plain_text token.now.sign) (spec.is_close_bracket token.now.sign) token.now.from self.old) self.old self.new }
     {
         let Some(word) = token.plain() else {
-            let acts = self.node.pending.as_slice();
-            let right = is_close_bracket(token) && has_no_acts(acts);
-            let wanted = act_wanted(acts);
-            return self.pass(right, wanted, Mode::AtAbove, token.from());
+            return self.no_act(is_close_bracket(token), token.from());
         };
         let peer = role_named(self.roles, word);
         self.begin_pending(peer, token.from())
+    }
+
+    /// In format 1 the end of no acts.
+    fn no_act(&mut self, closes: bool, at: usize) -> Result<(), Stop>
+        ensures { spec.Feeds result (spec.feed_no_act self.old.format closes at self.old) self.old self.new }
+    {
+        match self.format {
+            Format::One => {
+                if closes && has_no_acts(self.acts.as_slice()) {
+                    self.end_acts();
+                    return Ok(());
+                }
+                expected(act_wanted(self.acts.as_slice()), at)
+            }
+            Format::Two => expected(Wanted::Role, at),
+        }
     }
 
     fn begin_pending(&mut self, peer: Option<Role>, at: usize) -> Result<(), Stop>
@@ -394,6 +536,9 @@ impl<'a> Reader<'a> {
         let Some(peer) = peer else {
             return fault(TextKind::UnknownRole, at);
         };
+        if self.acts.as_slice().len() >= MOST_BOUND {
+            return fault(TextKind::TooManyActs, at);
+        }
         self.mode = Mode::AtMark { peer };
         Ok(())
     }
@@ -436,19 +581,41 @@ impl<'a> Reader<'a> {
         ensures err { IfErr result (λ e. e ≡ Stop.Memory) }
         ensures kept { OnErr result (names_read self.new ≡ names_read self.old) }
     {
-        self.node.pending.push(act_of(peer, kind, label, sort))?;
+        self.acts.push(act_of(peer, kind, label, sort))?;
         self.mode = Mode::BehindAct;
         Ok(())
     }
 
-    fn behind_act(&mut self, goes: bool, closes: bool, at: usize) -> Result<(), Stop>
-        ensures { spec.Feeds result (spec.feed_behind_act goes closes at self.old) self.old self.new }
+    fn behind_act(&mut self, token: &TextToken) -> Result<(), Stop>
+        ensures { spec.Feeds result (spec.feed_behind_act token.now.sign token.now.from self.old) self.old self.new }
     {
-        if goes {
+        if is_comma(token) {
             self.mode = Mode::AtAct;
             return Ok(());
         }
-        self.pass(closes, Wanted::CommaOrCloseBracket, Mode::AtAbove, at)
+        match self.format {
+            Format::One => {
+                if !is_close_bracket(token) {
+                    return expected(Wanted::CommaOrCloseBracket, token.from());
+                }
+                self.end_acts();
+                Ok(())
+            }
+            Format::Two => self.end_list(beginning(token), token.from()),
+        }
+    }
+
+    /// The list is read, where something begins behind it.
+    fn end_list(&mut self, mode: Option<Mode>, at: usize) -> Result<(), Stop>
+        ensures { spec.Feeds result (spec.feed_list_end mode at self.old) self.old self.new }
+    {
+        let Some(mode) = mode else {
+            return expected(Wanted::CommaPendingOrNode, at);
+        };
+        let acts = mem::replace(&mut self.acts, Pending::new(self.alloc));
+        self.lists.push(acts)?;
+        self.mode = mode;
+        Ok(())
     }
 
     fn above(&mut self, number: Option<u32>, at: usize) -> Result<(), Stop>
@@ -517,7 +684,7 @@ impl<'a> Reader<'a> {
         }
     }
 
-    /// Takes one that isn't faulty: from the head, and of a node as far as its acts.
+    /// Takes one that isn't faulty: from the head, and of a list as far as its acts.
     fn feed_whole(&mut self, token: &TextToken) -> Result<(), Stop>
         ensures { spec.Feeds result (spec.feed_of token.now.sign token.now.from self.old) self.old self.new }
     {
@@ -528,15 +695,33 @@ impl<'a> Reader<'a> {
                 self.pass(right, Wanted::DerivationOrEnd, Mode::AtRole, at)
             }
             Mode::AtRole => self.own_role(token),
-            Mode::AtBoundWord => {
+            Mode::BehindRole => {
+                let bound = is_keyword(token, b"bound");
+                self.behind_role(bound, is_keyword(token, b"format"), at)
+            }
+            Mode::AtFormatNumber => self.format(value(token), at),
+            Mode::BehindFormat => {
                 let right = is_keyword(token, b"bound");
                 self.pass(right, Wanted::Bound, Mode::AtBound, at)
             }
             Mode::AtBound => self.bound(value(token), at),
-            Mode::AtBrace => {
-                let right = is_open_brace(token);
-                self.pass(right, Wanted::OpenBrace, Mode::AtNode, at)
+            Mode::AtBrace => self.brace(is_open_brace(token), at),
+            Mode::AtLists => self.begin(beginning(token), at),
+            Mode::AtListNumber => self.list_number(value(token), at),
+            Mode::AtListColon => {
+                let right = is_colon(token);
+                self.pass(right, Wanted::Colon, Mode::AtAct, at)
             }
+            _ => self.feed_middle(token),
+        }
+    }
+
+    /// A token of acts, or of a node as far as them.
+    fn feed_middle(&mut self, token: &TextToken) -> Result<(), Stop>
+        ensures { spec.Feeds result (spec.feed_middle self.old.mode token.now.sign token.now.from self.old) self.old self.new }
+    {
+        let at = token.from();
+        match self.mode {
             Mode::AtNode => self.node(value(token), is_close_brace(token), at),
             Mode::AtColon => {
                 let right = is_colon(token);
@@ -547,31 +732,29 @@ impl<'a> Reader<'a> {
                 let right = is_open_bracket(token);
                 self.pass(right, Wanted::OpenBracket, Mode::AtAct, at)
             }
+            Mode::AtWith => {
+                let right = is_keyword(token, b"with");
+                self.pass(right, Wanted::With, Mode::AtPendingNumber, at)
+            }
+            Mode::AtPendingNumber => self.pending_number(value(token), at),
+            Mode::AtAboveWord => {
+                let right = is_keyword(token, b"above");
+                self.pass(right, Wanted::Above, Mode::AtAbove, at)
+            }
             Mode::AtAct => self.act(token),
             Mode::AtMark { peer } => self.mark(peer, mark_kind(token), at),
             Mode::InMessage { peer, kind, place } => self.message(peer, kind, place, token),
-            Mode::BehindAct
-            | Mode::AtAbove
-            | Mode::AtRankWord
-            | Mode::AtRank
-            | Mode::AtNextWord
-            | Mode::AtNexts
-            | Mode::AtNext
-            | Mode::BehindNext
-            | Mode::Behind => self.feed_rest(token),
+            Mode::BehindAct => self.behind_act(token),
+            _ => self.feed_rest(token),
         }
     }
 
-    /// A token of a node from behind an act.
+    /// A token of a node from its above state on.
     fn feed_rest(&mut self, token: &TextToken) -> Result<(), Stop>
         ensures { spec.Feeds result (spec.feed_rest self.old.mode token.now.sign token.now.from self.old) self.old self.new }
     {
         let at = token.from();
         match self.mode {
-            Mode::BehindAct => {
-                let goes = is_comma(token);
-                self.behind_act(goes, is_close_bracket(token), at)
-            }
             Mode::AtAbove => self.above(value(token), at),
             Mode::AtRankWord => {
                 let right = is_keyword(token, b"rank");

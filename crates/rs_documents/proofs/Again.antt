@@ -4,45 +4,37 @@ use Rattle.std.proofs.Common.{slice_get}
 use Rattle.std.specs.List.{flat_map}
 use Rattle.rs_derivations.proofs.Again.{no_new_labels, read_with_older, spells_the_derivation}
 use Rattle.rs_derivations.specs.Canonical.{canonical_text, tree_of}
-use Rattle.rs_derivations.specs.Derivations.{derivation_of, labels_of_nodes, names_of}
+use Rattle.rs_derivations.specs.Derivations.{acts_of, derivation_of, labels_of_acts, names_of}
 use Rattle.rs_derivations.specs.Numbers.{AreSmall}
 use Rattle.rs_derivations.specs.Printable.{IsPrintable}
 use Rattle.rs_derivations.specs.Spells.{SpellsDerivation}
-use Rattle.rs_derivations.specs.Texts.{bound_text, nodes_text}
+use Rattle.rs_derivations.specs.Texts.{bound_text, format_text, lists_text, nodes_text}
+use Rattle.rs_derivations.specs.declared.formats.Format.TheVariants.{Two}
 use Rattle.rs_derivations.specs.Trees.{DerivationTree}
 use Rattle.rs_derive.specs.Data.{Derivation_data}
-use Rattle.rs_documents.specs.Again.{CanBeReadAgain, HasAllLabels, derivation_by, labels_of_lines, labels_of_own, labels_of_text, machine_by, number_among, document_by_labels}
+use Rattle.rs_documents.specs.Again.{CanBeReadAgain, HasAllLabels, derivation_by, labels_of_lines, labels_of_own, labels_of_own_text, labels_of_text, machine_by, number_among, document_by_labels}
 use Rattle.rs_documents.specs.Canonical.{AreCanonicalMachines, ArePrintable, AreShown, IsCanonicalDocument, derivations_text}
 use Rattle.rs_documents.specs.Data.{Document_data}
 use Rattle.rs_documents.specs.Documents.{SpellsDocument}
 use Rattle.rs_documents.specs.Parts.{GoesOn, PartsRead, derivation_parts, machine_parts, no_parts}
+use Rattle.rs_documents.proofs.CanShow.{few_names}
 use Rattle.rs_documents.proofs.DerivationsAgain.{IsNamedAlike, derivation_again, derivation_printed_again}
 use Rattle.rs_documents.proofs.FewLabels.{longer}
-use Rattle.rs_bodies.proofs.Moved.{Moves}
-use Rattle.rs_documents.proofs.MachinesAgain.{Renumbers, fits_again, machine_again, machine_printed_again}
-use Rattle.rs_documents.proofs.MoreNames.{AreAmong, back_among, either_among, first_among, front_among, grown_either, grown_new, later_among, name_there, no_more, number_at, number_kept}
-use Rattle.rs_documents.proofs.MoreNames.{number_known, number_there}
+use Rattle.rs_documents.proofs.MachinesAgain.{Renumbers}
+use Rattle.rs_documents.proofs.MoreNames.{AreAmong, all_known, back_among, either_among, front_among, grown_either, grown_new, grown_same, name_there, no_more, number_kept, number_known}
 use Rattle.rs_documents.proofs.OneCanonical.{some_text}
 use Rattle.rs_documents.proofs.OneDocument.{one_document}
+use Rattle.rs_documents.proofs.OwnTexts.{AreOthers, own_is_printed, own_printed_again, own_stays}
 use Rattle.rs_documents.proofs.PartKinds.{of_derivations, of_machines}
 use Rattle.rs_documents.proofs.Parts.{good, row_of}
 use Rattle.rs_documents.proofs.PartsAgain.{ArePrinted, Begins, IsPrinted, all_go_again, begun, behind_text, printed_begins, printed_known}
+use Rattle.rs_documents.proofs.SpeltAgain.{spelt_again}
 use Rattle.rs_documents.proofs.ProtocolsAgain.{all_are_first, front_again, front_printed_again, labels_known}
 use Rattle.rs_global.specs.Canonical.{IsCanonicalProtocolText}
 use Rattle.rs_global.specs.Spells.{SpellsProtocol}
 use Rattle.rs_bodies.specs.Graph as graphs
 use Rattle.rs_bodies.specs.Trees as bodies
-use Rattle.rs_bodies.specs.declared.dialects.Dialect.TheVariants.{Talks, Acts}
-use Rattle.rs_bodies.proofs.GraphsAgain.{IsReadable, tree_spelt}
-use Rattle.rs_bodies.specs.Openings.{Opening, of_role}
-use Rattle.rs_bodies.specs.Texts.{body_text, opening_text}
-use Rattle.rs_machines.proofs.Canonical.{written}
-use Rattle.rs_machines.specs.Canonical.{IsCanonicalMachineText, IsMachineTextShaped}
-use Rattle.rs_machines.specs.Enough.{AreEnoughFor}
-use Rattle.rs_machines.specs.Kinds as of_lines
-use Rattle.rs_machines.specs.Spells.{SpellsMachine}
-use Rattle.rs_machines.specs.Texts.{machine_text}
-use Rattle.rs_machines.specs.Trees as machine_trees
+use Rattle.rs_bodies.specs.declared.dialects.Dialect.TheVariants.{Talks}
 use Rattle.rs_model.specs.Data.{Machine_data, Names_data}
 use Rattle.rs_model.specs.declared.limits.TheConstants.{MOST_LABELS}
 use Rattle.rs_text.proofs.Naming.{grown_append, grown_differ}
@@ -52,58 +44,25 @@ use Rattle.rs_text.specs.NamePlaces.{name_at}
 use Rattle.rs_text.specs.Signs.{Sign, plain, finish}
 use Rattle.rs_text.specs.Sound.{IsSound}
 
--- what may stand behind a line ends a recursion name
-ends_machines : (sign : Sign) (text : List ℕ) → Begins sign text → bodies.ends_a_name Acts sign ≡ true
-ends_machines finish text b = refl
-ends_machines (plain word) text b = refl
-ends_machines _ text b = absurd b
-
 ends_protocols : (sign : Sign) (text : List ℕ) → Begins sign text → bodies.ends_a_name Talks sign ≡ true
 ends_protocols finish text b = refl
 ends_protocols (plain word) text b = refl
 ends_protocols _ text b = absurd b
 
--- labels that bring no new names are known
-all_known : (labels names : List (List ℕ)) → names_with names labels ≡ names → AreAmong labels names
-all_known labels names e l a = subst (λ (z : List (List ℕ)). is_among l z ≡ true) e (grown_new l labels names a)
-
 -- ---- machines
 
-line_begins : (o : Opening Acts) (b : List ℕ) → (rest : List ℕ) × (opening_text Acts o b ≡ codes "machine " ++ rest)
-line_begins (of_role r) b = (r ++ (codes ": " ++ b), refl)
-
-machine_is_printed : (names : Names_data) (machine : Machine_data) (line : List ℕ) → IsSound names → IsMachineTextShaped machine → AreEnoughFor names machine
-    → (c : IsCanonicalMachineText names machine line)
-    → IsPrinted machine_parts machine_by names machine line (graphs.labels_of Acts c.tree.body)
-machine_is_printed names machine line sound shaped enough c =
-    let t : machine_trees.MachineTree = c.tree in
-    let labels : List (List ℕ) = graphs.labels_of Acts t.body in
-    let w : IsReadable of_lines.machines names names machine t = written names machine t shaped sound enough c.canonical in
-    let e : line ≡ machine_text t = c.whole in
-    record {
-      known = all_known labels names.labels (ap (λ (z : Names_data). z.labels) w.names_are);
-      begins = (let b = line_begins t.opening (body_text Acts t.body ++ codes "\n") in (b.0, refl, e ∙ b.1));
-      role = λ number. refl;
-      reads = λ bytes at old behind sign number parts b stands roles few f.
-          let ended : bodies.ends_a_name Acts (next_lexeme bytes (at + length line)).sign ≡ true = ap (bodies.ends_a_name Acts) stands ∙ ends_machines sign behind b in
-          let spelt = tree_spelt of_lines.machines bytes at old t behind w.words (fits_again old names t w.fits roles few) (subst (λ (z : List ℕ). drop at bytes ≡ z ++ behind) e parts)
-          (λ _. subst (λ (z : List ℕ). bodies.ends_a_name Acts (next_lexeme bytes (at + length z)).sign ≡ true) e ended) in
-          subst (λ (z : List ℕ). SpellsMachine bytes at old (of_lines.names_of old t) (machine_by number machine) (next_lexeme bytes (at + length z)).from) (sym e)
-          (subst (λ (z : Machine_data). SpellsMachine bytes at old (of_lines.names_of old t) z (next_lexeme bytes (at + length (machine_text t))).from)
-          (sym (machine_again old names machine t number w.graph_is w.names_are roles f)) spelt);
-    }
-
-machines_are_printed : (names : Names_data) (machines : List (Option Machine_data)) (text : List ℕ) → IsSound names → AreShown names machines → (lines : AreCanonicalMachines names machines text)
+machines_are_printed : (names : Names_data) (machines : List (Option Machine_data)) (text : List ℕ) → IsSound names → length names.labels ≤ MOST_LABELS → AreShown names machines
+    → (lines : AreCanonicalMachines names machines text)
     → ArePrinted machine_parts machine_by names machines text (labels_of_lines names machines text lines)
-machines_are_printed names [] text sound shown lines = (lines, refl)
-machines_are_printed names (None ∷ machines) text sound shown lines = machines_are_printed names machines text sound shown.1 lines
-machines_are_printed names (Some machine ∷ machines) text sound shown lines = (
+machines_are_printed names [] text sound few shown lines = (lines, refl)
+machines_are_printed names (None ∷ machines) text sound few shown lines = machines_are_printed names machines text sound few shown.1 lines
+machines_are_printed names (Some machine ∷ machines) text sound few shown lines = (
   lines.0,
   lines.1,
-  graphs.labels_of Acts lines.2.tree.body,
+  labels_of_own_text names machine lines.0 lines.2,
   labels_of_lines names machines lines.1 lines.3,
-  machine_is_printed names machine lines.0 sound shown.0.0 shown.0.1 lines.2,
-  machines_are_printed names machines lines.1 sound shown.1 lines.3,
+  own_is_printed names machine lines.0 sound few shown.0 lines.2,
+  machines_are_printed names machines lines.1 sound few shown.1 lines.3,
   lines.4,
   refl,
 )
@@ -111,13 +70,14 @@ machines_are_printed names (Some machine ∷ machines) text sound shown lines = 
 -- ---- derivations
 
 derivation_is_printed : (names : Names_data) (d : Derivation_data) → IsSound names → IsPrintable names d → AreSmall d
-    → IsPrinted derivation_parts derivation_by names d (canonical_text names d) (labels_of_nodes (tree_of names d).nodes)
+    → IsPrinted derivation_parts derivation_by names d (canonical_text names d) (labels_of_acts (acts_of (tree_of names d)))
 derivation_is_printed names d sound printable small =
     let tree : DerivationTree = tree_of names d in
-    let labels : List (List ℕ) = labels_of_nodes tree.nodes in
     record {
-      known = all_known labels names.labels (ap (λ (z : Names_data). z.labels) (no_new_labels names d sound printable));
-      begins = ((tree.role ++ bound_text tree.bound) ++ (nodes_text 0 tree.nodes ++ codes "}\n"), refl, refl);
+      known = all_known (labels_of_acts (acts_of tree)) names.labels (ap (λ (z : Names_data). z.labels) (no_new_labels names d sound printable));
+      word = codes "derivation";
+      opens = refl;
+      begins = ((tree.role ++ (format_text Two ++ bound_text d.bound)) ++ (lists_text Two tree.lists ++ (nodes_text Two 0 tree.nodes ++ codes "}\n")), refl, refl);
       role = λ number. refl;
       reads = λ bytes at old behind sign number parts b stands roles few f.
           let spelt = read_with_older old names d bytes at behind sound printable small roles few parts in
@@ -133,7 +93,7 @@ derivations_are_printed names (None ∷ derivations) sound printable small = der
 derivations_are_printed names (Some d ∷ derivations) sound printable small = (
   canonical_text names d,
   derivations_text names derivations,
-  labels_of_nodes (tree_of names d).nodes,
+  labels_of_acts (acts_of (tree_of names d)),
   flat_map (labels_of_own names) derivations,
   derivation_is_printed names d sound (printable 0 d refl) (small 0 d refl),
   derivations_are_printed names derivations sound (λ k x e. printable (suc k) x e) (λ k x e. small (suc k) x e),
@@ -168,7 +128,7 @@ parts_known d text r c =
     let sound = r.shown.sound in
     record {
       protocol = labels_known d.names d.protocol c.front r.shown.shaped sound r.shown.enough c.protocol;
-      machines = printed_known machine_parts machine_by d.names d.machines c.back (lines_of d text c) (machines_are_printed d.names d.machines c.back sound r.shown.machines c.machines);
+      machines = printed_known machine_parts machine_by d.names d.machines c.back (lines_of d text c) (machines_are_printed d.names d.machines c.back sound r.bounded r.shown.machines c.machines);
       derivations = printed_known derivation_parts derivation_by d.names d.derivations (derivations_text d.names d.derivations) (owns_of d)
           (derivations_are_printed d.names d.derivations sound r.shown.derivations r.small);
     }
@@ -198,9 +158,13 @@ doc_with d number labels = record {
   derivations = map (option_map (derivation_by number)) d.derivations;
 }
 
-not_machine : (own : Sign) → (own ≡ plain (codes "derivation")) ⊎ (own ≡ finish) → own ≡ plain (codes "machine") → ⊥
-not_machine own (inl e) h = let clash : plain (codes "derivation") ≡ plain (codes "machine") = sym e ∙ h in cc clash
-not_machine own (inr e) h = let clash : finish ≡ plain (codes "machine") = sym e ∙ h in cc clash
+not_word : (own : Sign) (word : List ℕ) → (own ≡ plain (codes "derivation")) ⊎ (own ≡ finish) → (codes "derivation" ≡ word → ⊥) → own ≡ plain word → ⊥
+not_word own word (inl e) other h = other (let clash : plain (codes "derivation") ≡ plain word = sym e ∙ h in cc clash)
+not_word own word (inr e) other h = let clash : finish ≡ plain word = sym e ∙ h in cc clash
+
+not_machine : (own : Sign) → (own ≡ plain (codes "derivation")) ⊎ (own ≡ finish) → (own ≡ plain (codes "machine")) ⊎ (own ≡ plain (codes "table")) → ⊥
+not_machine own d (inl h) = not_word own (codes "machine") d (λ e. cc e) h
+not_machine own d (inr h) = not_word own (codes "table") d (λ e. cc e) h
 
 not_derivation : finish ≡ plain (codes "derivation") → ⊥
 not_derivation e = cc e
@@ -219,7 +183,7 @@ by_parts d text r c number few machine_numbers derivation_numbers =
     let tail : List ℕ = derivations_text names d.derivations in
     let back : List ℕ = c.back in
     let front : List ℕ = c.front in
-    let machines = machines_are_printed names d.machines back sound r.shown.machines c.machines in
+    let machines = machines_are_printed names d.machines back sound r.bounded r.shown.machines c.machines in
     let derivations = derivations_are_printed names d.derivations sound r.shown.derivations r.small in
     let ends : tail ++ [] ≡ tail = append-nil tail in
     let begins2 = printed_begins derivation_parts derivation_by names d.derivations tail owns [] finish derivations refl in
@@ -279,32 +243,33 @@ read_again d text r c =
 
 -- ---- and printed again
 
-machines_printed_again : (names : Names_data) (others : List (List ℕ)) (number : ℕ → ℕ) (machines : List (Option Machine_data)) (text : List ℕ) (lines : AreCanonicalMachines names machines text)
-    → Moves number names.labels others (labels_of_lines names machines text lines)
-    → AreCanonicalMachines (record { roles = names.roles; labels = others }) (map (option_map (machine_by number)) machines) text
-machines_printed_again names others number [] text lines f = lines
-machines_printed_again names others number (None ∷ machines) text lines f = machines_printed_again names others number machines text lines f
-machines_printed_again names others number (Some machine ∷ machines) text lines f =
-    let mine : List (List ℕ) = graphs.labels_of Acts lines.2.tree.body in
+machines_printed_again : (names : Names_data) (others : List (List ℕ)) (machines : List (Option Machine_data)) (text : List ℕ) → AreOthers names others → AreAmong others names.labels
+    → AreShown names machines → AreShown (record { roles = names.roles; labels = others }) (map (option_map (machine_by (number_among names.labels others))) machines)
+    → (lines : AreCanonicalMachines names machines text) → AreAmong (labels_of_lines names machines text lines) others
+    → AreCanonicalMachines (record { roles = names.roles; labels = others }) (map (option_map (machine_by (number_among names.labels others))) machines) text
+machines_printed_again names others [] text o known these those lines among = lines
+machines_printed_again names others (None ∷ machines) text o known these those lines among = machines_printed_again names others machines text o known these.1 those.1 lines among
+machines_printed_again names others (Some machine ∷ machines) text o known these those lines among =
+    let mine : List (List ℕ) = labels_of_own_text names machine lines.0 lines.2 in
     let more : List (List ℕ) = labels_of_lines names machines lines.1 lines.3 in (
       lines.0,
       lines.1,
-      machine_printed_again names others number machine lines.0 lines.2 (λ l i a. f l i (front_among l mine more a)),
-      machines_printed_again names others number machines lines.1 lines.3 (λ l i a. f l i (back_among l mine more a)),
+      own_printed_again names others machine lines.0 o known these.0 those.0 lines.2 (λ l a. among l (front_among l mine more a)),
+      machines_printed_again names others machines lines.1 o known these.1 those.1 lines.3 (λ l a. among l (back_among l mine more a)),
       lines.4,
     )
 
-derivations_printed_again : (names : Names_data) (others : List (List ℕ)) (number : ℕ → ℕ) (derivations : List (Option Derivation_data))
+derivations_printed_again : (names : Names_data) (others : List (List ℕ)) (number : ℕ → ℕ) (derivations : List (Option Derivation_data)) → IsSound names → ArePrintable names derivations
     → IsNamedAlike number names.labels others (flat_map (labels_of_own names) derivations)
     → derivations_text names derivations ≡ derivations_text (record { roles = names.roles; labels = others }) (map (option_map (derivation_by number)) derivations)
-derivations_printed_again names others number [] f = refl
-derivations_printed_again names others number (None ∷ derivations) f = derivations_printed_again names others number derivations f
-derivations_printed_again names others number (Some d ∷ derivations) f =
-    let mine : List (List ℕ) = labels_of_nodes (tree_of names d).nodes in
+derivations_printed_again names others number [] sound printable f = refl
+derivations_printed_again names others number (None ∷ derivations) sound printable f = derivations_printed_again names others number derivations sound (λ k d e. printable (suc k) d e) f
+derivations_printed_again names others number (Some d ∷ derivations) sound printable f =
+    let mine : List (List ℕ) = labels_of_acts (acts_of (tree_of names d)) in
     let more : List (List ℕ) = flat_map (labels_of_own names) derivations in
-    ap (λ (z : List ℕ). z ++ derivations_text names derivations) (sym (derivation_printed_again names others d number (λ k a. f k (front_among (name_at names.labels k) mine more a))))
+    ap (λ (z : List ℕ). z ++ derivations_text names derivations) (sym (derivation_printed_again names others d number sound (printable 0 d refl) (λ k a. f k (front_among (name_at names.labels k) mine more a))))
     ∙ ap (λ (z : List ℕ). canonical_text (record { roles = names.roles; labels = others }) (derivation_by number d) ++ z)
-    (derivations_printed_again names others number derivations (λ k a. f k (back_among (name_at names.labels k) mine more a)))
+    (derivations_printed_again names others number derivations sound (λ k x e. printable (suc k) x e) (λ k a. f k (back_among (name_at names.labels k) mine more a)))
 
 printed_again : (d : Document_data) (text : List ℕ) → CanBeReadAgain d → (c : IsCanonicalDocument d text) → IsCanonicalDocument (document_by_labels d (labels_of_text d text c)) text
 printed_again d text r c =
@@ -317,15 +282,22 @@ printed_again d text r c =
     let split : all ≡ names_with first (lines ++ owns) = grown_append (graphs.labels_of Talks c.protocol.tree.body) (lines ++ owns) [] in
     let there : AreAmong (lines ++ owns) all = λ l a. subst (λ (z : List (List ℕ)). is_among l z ≡ true) (sym split) (grown_new l (lines ++ owns) first a) in
     let protocol = front_printed_again names d.protocol c.front r.shown.shaped r.shown.sound r.shown.enough c.protocol (lines ++ owns) in
-    let moves : Moves number names.labels all lines
-    = λ l i a e. ap (slice_get all) (number_at names.labels all l i e) ∙ number_there all l (there l (front_among l lines owns a)) in
+    let again = spelt_again text (document_by_labels d all) (read_again d text r c) in
+    let others : AreOthers names all = record {
+      these_sound = r.shown.sound;
+      those_sound = again.shown.sound;
+      few_roles = few_names names d.protocol r.shown.shaped r.shown.enough;
+      these_few = r.bounded;
+      those_few = again.bounded;
+    } in
     let alike : IsNamedAlike number names.labels all owns = λ k a. name_there all (name_at names.labels k) (there (name_at names.labels k) (back_among (name_at names.labels k) lines owns a)) in
     record {
       front = c.front;
       back = c.back;
       protocol = subst (λ (z : List (List ℕ)). IsCanonicalProtocolText (record { roles = names.roles; labels = z }) d.protocol c.front) (sym split) protocol;
-      machines = machines_printed_again names all number d.machines c.back c.machines moves;
-      whole = c.whole ∙ ap (λ (z : List ℕ). c.front ++ (c.back ++ z)) (derivations_printed_again names all number d.derivations alike);
+      machines = machines_printed_again names all d.machines c.back others (text_known d text c (parts_known d text r c)) r.shown.machines again.shown.machines c.machines
+          (λ l a. there l (front_among l lines owns a));
+      whole = c.whole ∙ ap (λ (z : List ℕ). c.front ++ (c.back ++ z)) (derivations_printed_again names all number d.derivations r.shown.sound r.shown.derivations alike);
     }
 
 -- what is read from it is printed as it
@@ -336,25 +308,17 @@ as_itself d e text r c h =
 
 -- ---- where the labels stand in order
 
-machine_stays : (names : Names_data) (machine : Machine_data) (line : List ℕ) (number : ℕ → ℕ) → IsSound names → IsMachineTextShaped machine → AreEnoughFor names machine
-    → (c : IsCanonicalMachineText names machine line) → Renumbers number names.labels names.labels (graphs.labels_of Acts c.tree.body) → machine_by number machine ≡ machine
-machine_stays names machine line number sound shaped enough c f =
-    let labels : List (List ℕ) = graphs.labels_of Acts c.tree.body in
-    let w : IsReadable of_lines.machines names names machine c.tree = written names machine c.tree shaped sound enough c.canonical in
-    let same : names_with names.labels labels ≡ names.labels = ap (λ (z : Names_data). z.labels) w.names_are in
-    machine_again names names machine c.tree number w.graph_is w.names_are refl (λ l a. f l a ∙ ap (λ (z : List (List ℕ)). number_or (place_of l z)) (sym same)) ∙ w.graph_is
-
-machines_stay : (names : Names_data) (number : ℕ → ℕ) (machines : List (Option Machine_data)) (text : List ℕ) → IsSound names → AreShown names machines
+machines_stay : (names : Names_data) (number : ℕ → ℕ) (machines : List (Option Machine_data)) (text : List ℕ) → IsSound names → length names.labels ≤ MOST_LABELS → AreShown names machines
     → (lines : AreCanonicalMachines names machines text) → Renumbers number names.labels names.labels (labels_of_lines names machines text lines)
     → map (option_map (machine_by number)) machines ≡ machines
-machines_stay names number [] text sound shown lines f = refl
-machines_stay names number (None ∷ machines) text sound shown lines f = ap (λ (z : List (Option Machine_data)). None ∷ z) (machines_stay names number machines text sound shown.1 lines f)
-machines_stay names number (Some machine ∷ machines) text sound shown lines f =
-    let mine : List (List ℕ) = graphs.labels_of Acts lines.2.tree.body in
+machines_stay names number [] text sound few shown lines f = refl
+machines_stay names number (None ∷ machines) text sound few shown lines f = ap (λ (z : List (Option Machine_data)). None ∷ z) (machines_stay names number machines text sound few shown.1 lines f)
+machines_stay names number (Some machine ∷ machines) text sound few shown lines f =
+    let mine : List (List ℕ) = labels_of_own_text names machine lines.0 lines.2 in
     let more : List (List ℕ) = labels_of_lines names machines lines.1 lines.3 in
     ap (λ (z : Machine_data). Some z ∷ map (option_map (machine_by number)) machines)
-    (machine_stays names machine lines.0 number sound shown.0.0 shown.0.1 lines.2 (λ l a. f l (front_among l mine more a)))
-    ∙ ap (λ (z : List (Option Machine_data)). Some machine ∷ z) (machines_stay names number machines lines.1 sound shown.1 lines.3 (λ l a. f l (back_among l mine more a)))
+    (own_stays names machine lines.0 number sound few shown.0 lines.2 (λ l a. f l (front_among l mine more a)))
+    ∙ ap (λ (z : List (Option Machine_data)). Some machine ∷ z) (machines_stay names number machines lines.1 sound few shown.1 lines.3 (λ l a. f l (back_among l mine more a)))
 
 derivations_stay : (names : Names_data) (number : ℕ → ℕ) (derivations : List (Option Derivation_data)) → IsSound names → ArePrintable names derivations
     → Renumbers number names.labels names.labels (flat_map (labels_of_own names) derivations)
@@ -363,7 +327,7 @@ derivations_stay names number [] sound printable f = refl
 derivations_stay names number (None ∷ derivations) sound printable f =
     ap (λ (z : List (Option Derivation_data)). None ∷ z) (derivations_stay names number derivations sound (λ k d e. printable (suc k) d e) f)
 derivations_stay names number (Some d ∷ derivations) sound printable f =
-    let mine : List (List ℕ) = labels_of_nodes (tree_of names d).nodes in
+    let mine : List (List ℕ) = labels_of_acts (acts_of (tree_of names d)) in
     let more : List (List ℕ) = flat_map (labels_of_own names) derivations in
     let is : derivation_of names (tree_of names d) ≡ d = spells_the_derivation names d sound (printable 0 d refl) in
     ap (λ (z : Derivation_data). Some z ∷ map (option_map (derivation_by number)) derivations) (derivation_again names names d number is refl (λ l a. f l (front_among l mine more a)) ∙ is)
@@ -376,7 +340,7 @@ stays d text r c =
     let k = parts_known d text r c in
     let sound = r.shown.sound in
     ap (λ (z : List (Option Machine_data)). record { names = d.names; protocol = d.protocol; machines = z; derivations = map (option_map (derivation_by number)) d.derivations })
-    (machines_stay d.names number d.machines c.back sound r.shown.machines c.machines (λ l a. number_known labels labels l (k.machines l a)))
+    (machines_stay d.names number d.machines c.back sound r.bounded r.shown.machines c.machines (λ l a. number_known labels labels l (k.machines l a)))
     ∙ ap (λ (z : List (Option Derivation_data)). record { names = d.names; protocol = d.protocol; machines = d.machines; derivations = z })
     (derivations_stay d.names number d.derivations sound r.shown.derivations (λ l a. number_known labels labels l (k.derivations l a)))
 
@@ -386,11 +350,6 @@ read_as_itself d text r c e =
 
 pub own_stay : (d : Document_data) → CanBeReadAgain d → document_by_labels d d.names.labels ≡ d
 own_stay d r = let text = some_text d r.shown in stays d text.0 r text.1
-
--- labels that are known bring no new ones
-grown_same : (xs names : List (List ℕ)) → AreAmong xs names → names_with names xs ≡ names
-grown_same [] names h = refl
-grown_same (x ∷ xs) names h = rw (h x (first_among x xs)) (grown_same xs names (λ l a. h l (later_among l x xs a)))
 
 pub in_order : (d : Document_data) (text : List ℕ) → CanBeReadAgain d → (c : IsCanonicalDocument d text) → HasAllLabels d.names d.protocol → d.names.labels ≡ labels_of_text d text c
 in_order d text r c all =

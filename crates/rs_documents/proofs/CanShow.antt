@@ -1,8 +1,9 @@
 -- A document that a text spells can be printed.
-use Rattle.std.proofs.Common.{◌≡◌, ℕ, suc, ◌<◌, ◌≤◌, List, [], ◌∷◌, length, Option, Some, None, Result, refl, sym, ap, subst, ◌∙◌, arith}
-use Rattle.std.proofs.lemmas.List.Elements.{All-cons, All-head, All-nil, All-tail}
+use Rattle.std.proofs.Common.{◌≡◌, ◌⊎◌, inl, inr, slice_get, ℕ, suc, ◌<◌, ◌≤◌, List, [], ◌∷◌, length, Option, Some, None, Result, refl, sym, ap, subst, ◌∙◌, arith}
+use Rattle.std.proofs.lemmas.List.Elements.{All-cons, All-get_or, All-head, All-nil, All-tail}
+use Rattle.std.proofs.lemmas.Option.{get_or_from_slice_get, slice_get_within}
 use Rattle.std.specs.List.{All}
-use Rattle.rs_derivations.proofs.Spelt as derivation_laws
+use Rattle.rs_derivations.proofs.Writable.{spelt_printable}
 use Rattle.rs_derivations.specs.Printable.{IsPrintable, pending_acts, label_number, peer_of}
 use Rattle.rs_derive.specs.Data.{Derivation_data}
 use Rattle.rs_documents.specs.Canonical.{AreShown, ArePrintable, CanBeShown}
@@ -20,9 +21,17 @@ use Rattle.rs_machines.proofs.Canonical as machine_names
 use Rattle.rs_machines.proofs.ShapeWhole as machine_shapes
 use Rattle.rs_machines.specs.Canonical.{IsMachineTextShaped}
 use Rattle.rs_machines.specs.Enough.{AreEnoughFor}
+use Rattle.rs_bodies.specs.declared.dialects.Mark.{Mark}
+use Rattle.rs_bodies.specs.declared.dialects.Mark.TheVariants as mark
+use Rattle.rs_machines.specs.Machines.{state_by_mark}
 use Rattle.rs_model.specs.Data.{Names_data, Protocol_data, Machine_data}
+use Rattle.rs_model.specs.declared.graph.Arm.{Arm}
+use Rattle.rs_model.specs.declared.graph.Role.{Role}
 use Rattle.rs_model.specs.declared.limits.TheConstants.{MOST_LABELS, MOST_ROLES}
-use Rattle.rs_model.specs.declared.machines.Act.{Act}
+use Rattle.rs_model.specs.declared.machines.State.{State}
+use Rattle.rs_model.specs.declared.machines.State.TheVariants as state
+use Rattle.rs_tables.proofs.Spelt.{spelt_tabled}
+use Rattle.rs_tables.specs.Printable.{IsArmTabled, IsChoiceTabled, IsStateTabled, IsTabled}
 use Rattle.rs_text.specs.Sound.{IsSound}
 use Rattle.rs_text.specs.declared.faults.TextFault.{TextFault}
 
@@ -46,15 +55,50 @@ kept {A} kind i P more has bytes at names parts what row (Adds a next n new m pa
     let before : AllHave (P new) parts = λ k x there. more names new grows x (all k x there) in
     kept kind i P more has bytes next new (parts_with kind parts part) what row g is (set_all (P new) parts (kind.role_of part).0 part before (has bytes at names new part next s))
 
--- machines: text-shaped where there are few names, and the names are enough
+-- machines: text-shaped or tabled where there are few names, and the names are enough
 abbrev CanBeNamed : Names_data → Machine_data → Type 0
-CanBeNamed names machine = (length names.roles ≤ MOST_ROLES → length names.labels ≤ MOST_LABELS → IsMachineTextShaped machine) × AreEnoughFor names machine
+CanBeNamed names machine = (length names.roles ≤ MOST_ROLES → length names.labels ≤ MOST_LABELS → IsMachineTextShaped machine ⊎ IsTabled names machine) × AreEnoughFor names machine
+
+all_more : {A : Type 0} (P Q : A → Type 0) → ((a : A) → P a → Q a) → (xs : List A) → All P xs → All Q xs
+all_more P Q f [] h = All-nil Q
+all_more P Q f (a ∷ xs) h = All-cons Q a xs (f a (All-head P a xs h)) (all_more P Q f xs (All-tail P a xs h))
+
+choice_more : (names new : Names_data) → Grows names new → (peer : Role) (arms : List Arm) → IsChoiceTabled names peer arms → IsChoiceTabled new peer arms
+choice_more names new g peer arms h =
+    let e : length new.roles ≡ length names.roles = ap length g.roles in
+    let l = g.labels in
+    record {
+      has_name = (let a = h.has_name in omega (arith, a, e));
+      some = h.some;
+      each = all_more (IsArmTabled names) (IsArmTabled new) (λ arm t. record { label = (let a = t.label in omega (arith, a, l)); next = t.next }) arms h.each;
+    }
+
+state_more : (names new : Names_data) → Grows names new → (s : State) → IsStateTabled names s → IsStateTabled new s
+state_more names new g state.Done h = h
+state_more names new g (state.Puts peer arms) h = choice_more names new g peer arms h
+state_more names new g (state.Takes peer arms) h = choice_more names new g peer arms h
+
+tabled_more : (names new : Names_data) → Grows names new → (machine : Machine_data) → IsTabled names machine → IsTabled new machine
+tabled_more names new g machine h =
+    let e : length new.roles ≡ length names.roles = ap length g.roles in
+    record {
+      start = h.start;
+      some = h.some;
+      bounded = h.bounded;
+      role = (let a = h.role in omega (arith, a, e));
+      states = all_more (IsStateTabled names) (IsStateTabled new) (state_more names new g) machine.states h.states;
+      few_labels = h.few_labels;
+    }
+
+either_more : (names new : Names_data) → Grows names new → (machine : Machine_data) → IsMachineTextShaped machine ⊎ IsTabled names machine → IsMachineTextShaped machine ⊎ IsTabled new machine
+either_more names new g machine (inl shaped) = inl shaped
+either_more names new g machine (inr tabled) = inr (tabled_more names new g machine tabled)
 
 more_enough_for : (names new : Names_data) → Grows names new → (machine : Machine_data) → CanBeNamed names machine → CanBeNamed new machine
 more_enough_for names new g machine h =
     let e : length new.roles ≡ length names.roles = ap length g.roles in
     let l = g.labels in (
-      (λ roles labels. h.0 (omega (arith, e, roles)) (omega (arith, l, labels))),
+      (λ roles labels. either_more names new g machine (h.0 (omega (arith, e, roles)) (omega (arith, l, labels)))),
       record {
         role = (let a = h.1.role in omega (arith, a, e));
         peers = λ n mark peer arms s. let a = h.1.peers n mark peer arms s in omega (arith, a, e);
@@ -62,26 +106,43 @@ more_enough_for names new g machine h =
       },
     )
 
+-- what a table says has names
+all_at : {A : Type 0} (P : A → Type 0) (xs : List A) (k : ℕ) (x : A) → All P xs → slice_get xs k ≡ Some x → P x
+all_at P xs k x h e = subst P (get_or_from_slice_get xs k x x e) (All-get_or P xs k x (slice_get_within xs k x e) h)
+
+choice_tabled : (names : Names_data) (mark : Mark) (peer : Role) (arms : List Arm) → IsStateTabled names (state_by_mark mark peer arms) → IsChoiceTabled names peer arms
+choice_tabled names mark.Puts peer arms h = h
+choice_tabled names mark.Takes peer arms h = h
+
+tabled_enough : (names : Names_data) (machine : Machine_data) → IsTabled names machine → AreEnoughFor names machine
+tabled_enough names machine h =
+    let choice : (n : ℕ) (mark : Mark) (peer : Role) (arms : List Arm) → slice_get machine.states n ≡ Some (state_by_mark mark peer arms) → IsChoiceTabled names peer arms
+    = λ n mark peer arms s. choice_tabled names mark peer arms (all_at (IsStateTabled names) machine.states n (state_by_mark mark peer arms) h.states s) in
+    record {
+      role = h.role;
+      peers = λ n mark peer arms s. (choice n mark peer arms s).has_name;
+      labels = λ n place mark peer arms arm s f. (all_at (IsArmTabled names) arms place arm (choice n mark peer arms s).each f).label;
+    }
+
 machine_named : (bytes : List ℕ) (at : ℕ) (old new : Names_data) (machine : Machine_data) (until : ℕ) → machine_parts.Spells bytes at old new machine until → CanBeNamed new machine
-machine_named bytes at old new machine until s =
-    let e : length new.roles ≡ length old.roles = ap length (of_machines.roles bytes at old new machine until s) in
-    let l = of_machines.labels bytes at old new machine until s in
-    ((λ roles labels. machine_shapes.spelt_shaped bytes at old new machine until (omega (arith, e, roles)) (omega (arith, l, labels)) s), machine_names.spelt_enough bytes at old new machine until s)
+machine_named bytes at old new machine until (inl s) =
+    let e : length new.roles ≡ length old.roles = ap length (of_machines.roles bytes at old new machine until (inl s)) in
+    let l = of_machines.labels bytes at old new machine until (inl s) in
+    ((λ roles labels. inl (machine_shapes.spelt_shaped bytes at old new machine until (omega (arith, e, roles)) (omega (arith, l, labels)) s)), machine_names.spelt_enough bytes at old new machine until s)
+machine_named bytes at old new machine until (inr s) =
+    let tabled : IsTabled new machine = spelt_tabled old new bytes at until machine s in
+    ((λ roles labels. inr tabled), tabled_enough new machine tabled)
 
 shown : (names : Names_data) (machines : List (Option Machine_data)) → length names.roles ≤ MOST_ROLES → length names.labels ≤ MOST_LABELS → AllHave (CanBeNamed names) machines
     → AreShown names machines
 shown names [] roles labels all = tt
 shown names (None ∷ ms) roles labels all = (tt, shown names ms roles labels (λ k m e. all (suc k) m e))
-shown names (Some m ∷ ms) roles labels all = let h = all 0 m refl in ((h.0 roles labels, h.1), shown names ms roles labels (λ k x e. all (suc k) x e))
+shown names (Some m ∷ ms) roles labels all = let h = all 0 m refl in (record { enough = h.1; shaped = h.0 roles labels }, shown names ms roles labels (λ k x e. all (suc k) x e))
 
 more_named : (names new : Names_data) → Grows names new → (machines : List (Option Machine_data)) → AllHave (CanBeNamed names) machines → AllHave (CanBeNamed new) machines
 more_named names new g machines all k m e = more_enough_for names new g m (all k m e)
 
 -- derivations
-all_more : (P Q : Act → Type 0) → ((a : Act) → P a → Q a) → (acts : List Act) → All P acts → All Q acts
-all_more P Q f [] h = All-nil Q
-all_more P Q f (a ∷ acts) h = All-cons Q a acts (f a (All-head P a acts h)) (all_more P Q f acts (All-tail P a acts h))
-
 more_printable : (names new : Names_data) → Grows names new → (d : Derivation_data) → IsPrintable names d → IsPrintable new d
 more_printable names new g d h =
     let e : length new.roles ≡ length names.roles = ap length g.roles in
@@ -93,13 +154,14 @@ more_printable names new g d h =
       };
       labels = all_more (λ a. label_number a < length names.labels) (λ a. label_number a < length new.labels) (λ a lt. omega (arith, lt, l)) (pending_acts d) h.labels;
       few_labels = h.few_labels;
+      short_lists = h.short_lists;
       bound = h.bound;
       some = h.some;
       nodes = h.nodes;
     }
 
 derivation_printable : (bytes : List ℕ) (at : ℕ) (old new : Names_data) (d : Derivation_data) (until : ℕ) → derivation_parts.Spells bytes at old new d until → IsPrintable new d
-derivation_printable bytes at old new d until s = derivation_laws.spelt_printable old new bytes at until d s
+derivation_printable bytes at old new d until s = spelt_printable old new bytes at until d s
 
 -- the protocol
 enough_more : (old new : Names_data) (p : Protocol_data) → Grows old new → AreEnough old p → AreEnough new p

@@ -1,9 +1,10 @@
--- A text has at most 256 labels, as far as a protocol or a machine goes.
-use Rattle.std.proofs.Common.{ℕ, ◌≤◌, List, [], ◌∷◌, ◌++◌, length, Bool, true, false, if◌then◌else◌, sym, subst, arith, length-append}
+-- A text has at most 256 labels, as far as a protocol, a machine or a table goes.
+use Rattle.std.proofs.Common.{ℕ, inl, inr, ◌≤◌, List, [], ◌∷◌, ◌++◌, length, Bool, true, false, if◌then◌else◌, sym, subst, arith, length-append}
 use Rattle.rs_bodies.proofs.Fitting.{fits_labels}
 use Rattle.rs_global.specs.Spells.{SpellsProtocol}
 use Rattle.rs_global.specs.Graph.{no_names}
 use Rattle.rs_machines.specs.Spells.{SpellsMachine}
+use Rattle.rs_documents.specs.Spells.{SpellsOwn}
 use Rattle.rs_model.specs.Data.{Names_data, Protocol_data, Machine_data}
 use Rattle.rs_model.specs.declared.limits.TheConstants.{MOST_LABELS}
 use Rattle.rs_text.specs.Names.{names_with, is_among}
@@ -27,8 +28,13 @@ pub protocol_few : (bytes : List ℕ) (at : ℕ) (names : Names_data) (protocol 
 protocol_few bytes at names protocol until s =
     subst (λ (z : Names_data). length z.labels ≤ MOST_LABELS) (sym s.names_are) (fits_labels Talks s.tree.body (first_scene (roles_in Talks no_names s.tree.opening) []) s.fits.body (omega arith))
 
--- the labels behind a machine
-pub machine_few : (bytes : List ℕ) (at : ℕ) (old new : Names_data) (machine : Machine_data) (until : ℕ) → length old.labels ≤ MOST_LABELS → SpellsMachine bytes at old new machine until
+body_few : (bytes : List ℕ) (at : ℕ) (old new : Names_data) (machine : Machine_data) (until : ℕ) → length old.labels ≤ MOST_LABELS → SpellsMachine bytes at old new machine until
     → length new.labels ≤ MOST_LABELS
-machine_few bytes at old new machine until few s =
+body_few bytes at old new machine until few s =
     subst (λ (z : Names_data). length z.labels ≤ MOST_LABELS) (sym s.names_are) (fits_labels Acts s.tree.body (first_scene old.roles old.labels) s.fits.body few)
+
+-- the labels behind a machine, in either form
+pub machine_few : (bytes : List ℕ) (at : ℕ) (old new : Names_data) (machine : Machine_data) (until : ℕ) → length old.labels ≤ MOST_LABELS → SpellsOwn bytes at old new machine until
+    → length new.labels ≤ MOST_LABELS
+machine_few bytes at old new machine until few (inl s) = body_few bytes at old new machine until few s
+machine_few bytes at old new machine until few (inr s) = subst (λ (z : Names_data). length z.labels ≤ MOST_LABELS) (sym s.names_are) s.fits.labels

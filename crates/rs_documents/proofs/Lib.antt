@@ -12,7 +12,9 @@ pub mod MachinesAgain
 pub mod DerivationsAgain
 pub mod ProtocolsAgain
 pub mod PartsAgain
-pub mod Again
+pub mod TablesAgain
+pub mod OwnTexts
 pub mod SpeltAgain
 pub mod OneCanonical
+pub mod Again
 pub mod OwnLabels

@@ -1,25 +1,37 @@
 -- Machines are printed one behind the other.
-use Rattle.std.proofs.Common.{◌≡◌, ℕ, zero, suc, ◌+◌, ◌<◌, List, [], ◌∷◌, ◌++◌, length, take, Option, Some, None, refl, sym, ap, subst, ◌∙◌, arith, slice_index_or, append_assoc, append-nil}
+use Rattle.std.proofs.Common.{◌≡◌, ℕ, zero, suc, ◌+◌, ◌<◌, List, [], ◌∷◌, ◌++◌, length, take, Option, Some, None, Result, Ok, Err, IfOk, refl, sym, ap, subst, ◌∙◌, arith, slice_index_or, append_assoc, append-nil}
 use Rattle.rs_derive.specs.Data.{Derivation_data}
 use Rattle.rs_global.specs.Canonical.{IsCanonicalProtocolText}
 use Rattle.rs_documents.specs.Parts.{no_parts}
 use Rattle.rs_model.specs.Data.{Names_data, Protocol_data, Machine_data}
-use Rattle.rs_machines.specs.Canonical.{IsCanonicalMachineText}
-use Rattle.rs_documents.specs.Canonical.{AreCanonicalMachines, AreShown, IsCanonicalDocument, derivations_text, CanBePrinted, IsShownBehind, IsLineBehind}
+use Rattle.rs_machines.specs.Canonical.{IsCanonicalMachineText, IsMachineTextShaped}
+use Rattle.rs_tables.specs.Tables.{table_of}
+use Rattle.rs_documents.specs.Canonical.{AreCanonicalMachines, AreShown, IsCanonicalDocument, IsOwnText, IsLine, IsTable, derivations_text, CanBePrinted, IsShownBehind, IsLineBehind}
 
-abbrev IsLine : Names_data → Option Machine_data → List ℕ → Type 0
-IsLine names None line = line ≡ []
-IsLine names (Some machine) line = IsCanonicalMachineText names machine line
+abbrev IsOwn : Names_data → Option Machine_data → List ℕ → Type 0
+IsOwn names None own = own ≡ []
+IsOwn names (Some machine) own = IsOwnText names machine own
 
-one_line : (names : Names_data) (own : Option Machine_data) (later line : List ℕ) → later ≡ [] → IsLine names own line → AreCanonicalMachines names (own ∷ []) (later ++ line)
+one_line : (names : Names_data) (own : Option Machine_data) (later line : List ℕ) → later ≡ [] → IsOwn names own line → AreCanonicalMachines names (own ∷ []) (later ++ line)
 one_line names None later line e h = ap (λ z. z ++ line) e ∙ h
 one_line names (Some m) later line e h = (line, [], h, refl, ap (λ z. z ++ line) e ∙ sym (append-nil line))
 
-more_lines : (names : Names_data) (machines : List (Option Machine_data)) (own : Option Machine_data) (later line : List ℕ) → AreCanonicalMachines names machines later → IsLine names own line
+more_lines : (names : Names_data) (machines : List (Option Machine_data)) (own : Option Machine_data) (later line : List ℕ) → AreCanonicalMachines names machines later → IsOwn names own line
     → AreCanonicalMachines names (machines ++ own ∷ []) (later ++ line)
 more_lines names [] own later line h l = one_line names own later line h l
 more_lines names (None ∷ ms) own later line h l = more_lines names ms own later line h l
 more_lines names (Some m ∷ ms) own later line h l = (h.0, h.1 ++ line, h.2, more_lines names ms own h.1 line h.3 l, ap (λ z. z ++ line) h.4 ∙ append_assoc h.0 h.1 line)
+
+-- a line or a table was printed, or there was an error
+pub line_or_error : {E : Type 0} (names : Names_data) (machine : Machine_data) (r : Result (List ℕ) E) → IsMachineTextShaped machine → IfOk r (λ text. IsCanonicalMachineText names machine text)
+    → IfOk r (IsOwnText names machine)
+line_or_error names machine (Ok text) shaped h = IsLine text shaped h
+line_or_error names machine (Err e) shaped h = tt
+
+pub table_or_error : {E : Type 0} (names : Names_data) (machine : Machine_data) (r : Result (List ℕ) E) → (IsMachineTextShaped machine → ⊥) → IfOk r (λ text. text ≡ table_of names machine)
+    → IfOk r (IsOwnText names machine)
+table_or_error names machine (Ok text) unshaped h = subst (IsOwnText names machine) (sym h) (IsTable unshaped)
+table_or_error names machine (Err e) unshaped h = tt
 
 -- one machine more
 one_behind : (names : Names_data) (machines : List (Option Machine_data)) (own : Option Machine_data) (old mid new : List ℕ) → IsShownBehind names machines old mid → IsLineBehind names own mid new

@@ -46,6 +46,15 @@ grown_old x xs names h = grown_among xs names x ∙ or_first (is_among x names) 
 pub grown_new : (x : List ℕ) (xs names : List (List ℕ)) → is_among x xs ≡ true → is_among x (names_with names xs) ≡ true
 grown_new x xs names h = grown_among xs names x ∙ or_end (is_among x names) (is_among x xs) h
 
+-- labels that bring no new names are known
+pub all_known : (labels names : List (List ℕ)) → names_with names labels ≡ names → AreAmong labels names
+all_known labels names e l a = subst (λ (z : List (List ℕ)). is_among l z ≡ true) e (grown_new l labels names a)
+
+-- and those that are known bring no new ones
+pub grown_same : (xs names : List (List ℕ)) → AreAmong xs names → names_with names xs ≡ names
+grown_same [] names h = refl
+grown_same (x ∷ xs) names h = rw (h x (first_among x xs)) (grown_same xs names (λ l a. h l (later_among l x xs a)))
+
 -- ---- how many there are
 
 abbrev without : List ℕ → List (List ℕ) → List (List ℕ)

@@ -1,22 +1,27 @@
 -- The labels of a document's parts are those of its lines, and have the same names when the text is read again.
-use Rattle.std.proofs.Common.{◌≡◌, ℕ, zero, suc, ◌<◌, Bool, true, false, List, [], ◌∷◌, ◌++◌, length, map, refl, sym, ap, ◌∙◌, subst, arith, Some, None, Option, slice_get, if◌then◌else◌}
+use Rattle.std.proofs.Common.{◌≡◌, ℕ, zero, suc, ◌<◌, ◌≤◌, Bool, true, false, List, [], ◌∷◌, ◌++◌, length, map, refl, sym, ap, ◌∙◌, subst, arith, Some, None, Option, slice_get, if◌then◌else◌}
 use Rattle.std.proofs.lemmas.Option.{none-some, same_Some, slice_get_within}
-use Rattle.std.specs.List.{flat_map}
-use Rattle.rs_bodies.proofs.GraphsAgain.{IsReadable, lone_tree_spelt}
+use Rattle.std.specs.List.{AllByRecursion, flat_map}
+use Rattle.rs_bodies.proofs.GraphsAgain.{lone_tree_spelt}
 use Rattle.rs_bodies.specs.Graph.{labels_of}
-use Rattle.rs_bodies.specs.declared.dialects.Dialect.TheVariants.{Talks, Acts}
+use Rattle.rs_bodies.specs.declared.dialects.Dialect.TheVariants.{Talks}
 use Rattle.rs_bodies.specs.declared.dialects.Mark.{Mark}
 use Rattle.rs_bodies.specs.declared.dialects.Mark.TheVariants as mark
-use Rattle.rs_derivations.specs.Canonical.{tree_of, tree_of_act, tree_of_node}
-use Rattle.rs_derivations.specs.Derivations.{labels_of_acts, labels_of_node, labels_of_nodes}
+use Rattle.rs_derivations.proofs.Again.{listed}
+use Rattle.rs_derivations.proofs.Listed.{IsListed}
+use Rattle.rs_derivations.specs.Canonical.{tree_of, tree_of_act}
+use Rattle.rs_derivations.specs.Derivations.{acts_of, labels_of_acts}
+use Rattle.rs_derivations.specs.PendingLists.{lists_of}
 use Rattle.rs_derivations.specs.Printable.{label_number}
 use Rattle.rs_derive.proofs.Mapped.{map_at}
 use Rattle.rs_derive.specs.Data.{DNode_data, Derivation_data}
-use Rattle.rs_documents.proofs.MachinesAgain.{Renumbers, machine_again}
+use Rattle.rs_documents.proofs.DerivationsAgain.{all_acts, in_text, trees_of}
+use Rattle.rs_documents.proofs.MachinesAgain.{Renumbers}
 use Rattle.rs_documents.proofs.MoreNames.{back_among, first_among, front_among, grown_new, grown_old, later_among, name_there, number_kept}
+use Rattle.rs_documents.proofs.OwnTexts.{own_is_printed, own_stays}
 use Rattle.rs_documents.proofs.ProtocolsAgain.{labels_are_first}
-use Rattle.rs_documents.specs.Again.{CanBeReadAgain, HasLabel, HasLabelBehind, InDerivation, InMachine, arm_by, labels_of_lines, labels_of_own, labels_of_text, machine_by, number_among, state_by}
-use Rattle.rs_documents.specs.Canonical.{AreCanonicalMachines, AreShown, IsCanonicalDocument}
+use Rattle.rs_documents.specs.Again.{CanBeReadAgain, HasLabel, HasLabelBehind, InDerivation, InMachine, arm_by, labels_of_lines, labels_of_own, labels_of_own_text, labels_of_text, machine_by, number_among, state_by}
+use Rattle.rs_documents.specs.Canonical.{AreCanonicalMachines, AreShown, CanBeWritten, IsCanonicalDocument, IsOwnText}
 use Rattle.rs_documents.specs.Data.{Document_data}
 use Rattle.rs_global.proofs.Canonical.{spelt_enough, taken_stands, written}
 use Rattle.rs_global.specs.Enough.{AreEnough}
@@ -24,14 +29,11 @@ use Rattle.rs_global.specs.Graph.{no_names}
 use Rattle.rs_global.specs.Kinds.{names_of, protocols}
 use Rattle.rs_global.specs.Spells.{SpellsProtocol}
 use Rattle.rs_global.specs.Texts.{protocol_text}
-use Rattle.rs_machines.proofs.Canonical as of_machines
-use Rattle.rs_machines.specs.Canonical.{IsCanonicalMachineText, IsMachineTextShaped}
-use Rattle.rs_machines.specs.Enough.{AreEnoughFor}
-use Rattle.rs_machines.specs.Kinds as of_lines
 use Rattle.rs_machines.specs.Machines.{state_by_mark}
 use Rattle.rs_model.specs.Data.{Machine_data, Names_data, Protocol_data}
 use Rattle.rs_model.specs.declared.graph.Arm.{Arm}
 use Rattle.rs_model.specs.declared.graph.Role.{Role}
+use Rattle.rs_model.specs.declared.limits.TheConstants.{MOST_LABELS}
 use Rattle.rs_model.specs.declared.machines.Act.{Act}
 use Rattle.rs_model.specs.declared.machines.Act.TheVariants as act
 use Rattle.rs_model.specs.declared.machines.State.{State}
@@ -68,7 +70,7 @@ there_at [] k lt = absurd (omega (arith, lt))
 there_at (x ∷ names) zero lt = refl
 there_at (x ∷ names) (suc k) lt = there_at names k (omega (arith, lt))
 
--- ---- the labels of a machine are those of its line
+-- ---- the labels of a machine are those of its line or its table
 
 -- a number, or the next one where its label isn't among these
 abbrev put_out : (names labels : List (List ℕ)) → ℕ → ℕ
@@ -82,18 +84,6 @@ is_in : (b : Bool) (k : ℕ) → (if b then k else suc k) ≡ k → b ≡ true
 is_in true k e = refl
 is_in false k e = absurd (omega (arith, e))
 
-machine_kept : (names : Names_data) (machine : Machine_data) (line : List ℕ) → IsSound names → IsMachineTextShaped machine → AreEnoughFor names machine
-    → (c : IsCanonicalMachineText names machine line) → machine_by (put_out names.labels (labels_of Acts c.tree.body)) machine ≡ machine
-machine_kept names machine line sound shaped enough c =
-    let labels : List (List ℕ) = labels_of Acts c.tree.body in
-    let w : IsReadable of_lines.machines names names machine c.tree = of_machines.written names machine c.tree shaped sound enough c.canonical in
-    let same : names_with names.labels labels ≡ names.labels = ap (λ (z : Names_data). z.labels) w.names_are in
-    let known : (l : List ℕ) → is_among l labels ≡ true → is_among l names.labels ≡ true = λ l a. subst (λ (z : List (List ℕ)). is_among l z ≡ true) same (grown_new l labels names.labels a) in
-    let stays : Renumbers (put_out names.labels labels) names.labels names.labels labels = λ l a. kept_in (is_among (name_at names.labels (number_or (place_of l names.labels))) labels)
-    (number_or (place_of l names.labels)) (subst (λ (z : List ℕ). is_among z labels ≡ true) (sym (name_there names.labels l (known l a))) a) in
-    machine_again names names machine c.tree (put_out names.labels labels) w.graph_is w.names_are refl
-    (λ l a. stays l a ∙ ap (λ (z : List (List ℕ)). number_or (place_of l z)) (sym same)) ∙ w.graph_is
-
 state_kept : (f : ℕ → ℕ) (m : Machine_data) → machine_by f m ≡ m → (s : ℕ) (x : State) → slice_get m.states s ≡ Some x → state_by f x ≡ x
 state_kept f m e s x at = same_Some (state_by f x) x (sym (map_at (state_by f) m.states s x at) ∙ ap (λ (z : Machine_data). slice_get z.states s) e ∙ at)
 
@@ -106,12 +96,16 @@ puts_kept f q arms e = cc (e)
 takes_kept : (f : ℕ → ℕ) (q : Role) (arms : List Arm) → state_by f (Takes q arms) ≡ Takes q arms → map (arm_by f) arms ≡ arms
 takes_kept f q arms e = cc (e)
 
-line_uses : (names : Names_data) (machine : Machine_data) (line : List ℕ) → IsSound names → IsMachineTextShaped machine → AreEnoughFor names machine
-    → (c : IsCanonicalMachineText names machine line) → MachineUses (IsAmong names.labels (labels_of Acts c.tree.body)) machine
-line_uses names machine line sound shaped enough c =
-    let labels : List (List ℕ) = labels_of Acts c.tree.body in
+own_uses : (names : Names_data) (machine : Machine_data) (text : List ℕ) → IsSound names → length names.labels ≤ MOST_LABELS → CanBeWritten names machine
+    → (own : IsOwnText names machine text) → MachineUses (IsAmong names.labels (labels_of_own_text names machine text own)) machine
+own_uses names machine text sound few w own =
+    let labels : List (List ℕ) = labels_of_own_text names machine text own in
     let f : ℕ → ℕ = put_out names.labels labels in
-    let kept : machine_by f machine ≡ machine = machine_kept names machine line sound shaped enough c in
+    let known = (own_is_printed names machine text sound few w own).known in
+    let stays : Renumbers f names.labels names.labels labels = λ l a. kept_in (is_among (name_at names.labels (number_or (place_of l names.labels))) labels)
+    (number_or (place_of l names.labels)) (subst (λ (z : List ℕ). is_among z labels ≡ true) (sym (name_there names.labels l (known l a))) a) in
+    let kept : machine_by f machine ≡ machine = own_stays names machine text f sound few w own stays in
+    let enough = w.enough in
     record {
       puts = λ s q arms at i a ea. record {
         named = enough.labels s i mark.Puts q arms a at ea;
@@ -124,23 +118,24 @@ line_uses names machine line sound shaped enough c =
     }
 
 -- the machines of a document use the labels of its lines
-pub lines_use : (names : Names_data) (machines : List (Option Machine_data)) (text : List ℕ) → IsSound names → AreShown names machines → (lines : AreCanonicalMachines names machines text)
+pub lines_use : (names : Names_data) (machines : List (Option Machine_data)) (text : List ℕ) → IsSound names → length names.labels ≤ MOST_LABELS → AreShown names machines
+    → (lines : AreCanonicalMachines names machines text)
     → (p : ℕ) (m : Machine_data) → slice_get machines p ≡ Some (Some m) → MachineUses (IsAmong names.labels (labels_of_lines names machines text lines)) m
-lines_use names [] text sound shown lines p m at = absurd (none-some (Some m) at)
-lines_use names (None ∷ machines) text sound shown lines zero m at = absurd (cc (at))
-lines_use names (None ∷ machines) text sound shown lines (suc p) m at = lines_use names machines text sound shown.1 lines p m at
-lines_use names (Some x ∷ machines) text sound shown lines zero m at =
-    let mine : List (List ℕ) = labels_of Acts lines.2.tree.body in
+lines_use names [] text sound few shown lines p m at = absurd (none-some (Some m) at)
+lines_use names (None ∷ machines) text sound few shown lines zero m at = absurd (cc (at))
+lines_use names (None ∷ machines) text sound few shown lines (suc p) m at = lines_use names machines text sound few shown.1 lines p m at
+lines_use names (Some x ∷ machines) text sound few shown lines zero m at =
+    let mine : List (List ℕ) = labels_of_own_text names x lines.0 lines.2 in
     let more : List (List ℕ) = labels_of_lines names machines lines.1 lines.3 in
     let same : x ≡ m = cc (at) in
     subst (MachineUses (IsAmong names.labels (mine ++ more))) same
     (uses_too (IsAmong names.labels mine) (IsAmong names.labels (mine ++ more)) (λ k w. record { named = w.named; among = front_among (name_at names.labels k) mine more w.among }) x
-    (line_uses names x lines.0 sound shown.0.0 shown.0.1 lines.2))
-lines_use names (Some x ∷ machines) text sound shown lines (suc p) m at =
-    let mine : List (List ℕ) = labels_of Acts lines.2.tree.body in
+    (own_uses names x lines.0 sound few shown.0 lines.2))
+lines_use names (Some x ∷ machines) text sound few shown lines (suc p) m at =
+    let mine : List (List ℕ) = labels_of_own_text names x lines.0 lines.2 in
     let more : List (List ℕ) = labels_of_lines names machines lines.1 lines.3 in
     uses_too (IsAmong names.labels more) (IsAmong names.labels (mine ++ more)) (λ k w. record { named = w.named; among = back_among (name_at names.labels k) mine more w.among }) m
-    (lines_use names machines lines.1 sound shown.1 lines.3 p m at)
+    (lines_use names machines lines.1 sound few shown.1 lines.3 p m at)
 
 -- ---- and those of a derivation are those of its lines
 
@@ -157,16 +152,14 @@ acts_use names (x ∷ acts) zero a e =
 acts_use names (x ∷ acts) (suc k) a e =
     later_among (name_at names.labels (label_number a)) (tree_of_act names x).label (labels_of_acts (map (tree_of_act names) acts)) (acts_use names acts k a e)
 
-nodes_use : (names : Names_data) (nodes : List DNode_data) (i : ℕ) (n : DNode_data) → slice_get nodes i ≡ Some n → (k : ℕ) (a : Act) → slice_get n.pending k ≡ Some a
-    → is_among (name_at names.labels (label_number a)) (labels_of_nodes (map (tree_of_node names) nodes)) ≡ true
-nodes_use names [] i n e k a at = absurd (none-some n e)
-nodes_use names (x ∷ nodes) zero n e k a at =
-    let mine : List (List ℕ) = labels_of_node (tree_of_node names x) in
+nodes_use : (names : Names_data) (lists : List (List Act)) (nodes : List DNode_data) → AllByRecursion (IsListed lists) (map (λ (n : DNode_data). n.pending) nodes)
+    → (i : ℕ) (n : DNode_data) → slice_get nodes i ≡ Some n → (k : ℕ) (a : Act) → slice_get n.pending k ≡ Some a
+    → is_among (name_at names.labels (label_number a)) (labels_of_acts (all_acts (trees_of names lists))) ≡ true
+nodes_use names lists [] h i n e k a at = absurd (none-some n e)
+nodes_use names lists (x ∷ nodes) h zero n e k a at =
     let same : n ≡ x = cc e in
-    front_among (name_at names.labels (label_number a)) mine (labels_of_nodes (map (tree_of_node names) nodes))
-    (acts_use names x.pending k a (subst (λ (z : DNode_data). slice_get z.pending k ≡ Some a) same at))
-nodes_use names (x ∷ nodes) (suc i) n e k a at =
-    back_among (name_at names.labels (label_number a)) (labels_of_node (tree_of_node names x)) (labels_of_nodes (map (tree_of_node names) nodes)) (nodes_use names nodes i n e k a at)
+    in_text names lists x.pending (name_at names.labels (label_number a)) h.0 (acts_use names x.pending k a (subst (λ (z : DNode_data). slice_get z.pending k ≡ Some a) same at))
+nodes_use names lists (x ∷ nodes) h (suc i) n e k a at = nodes_use names lists nodes h.1 i n e k a at
 
 owns_use : (names : Names_data) (derivations : List (Option Derivation_data)) (p : ℕ) (d : Derivation_data) → slice_get derivations p ≡ Some (Some d)
     → (i : ℕ) (n : DNode_data) → slice_get d.nodes i ≡ Some n → (k : ℕ) (a : Act) → slice_get n.pending k ≡ Some a
@@ -175,12 +168,12 @@ owns_use names [] p d e i n en k a at = absurd (none-some (Some d) e)
 owns_use names (None ∷ derivations) zero d e i n en k a at = absurd (cc e)
 owns_use names (None ∷ derivations) (suc p) d e i n en k a at = owns_use names derivations p d e i n en k a at
 owns_use names (Some x ∷ derivations) zero d e i n en k a at =
-    let mine : List (List ℕ) = labels_of_nodes (tree_of names x).nodes in
+    let mine : List (List ℕ) = labels_of_acts (acts_of (tree_of names x)) in
     let same : d ≡ x = cc e in
     front_among (name_at names.labels (label_number a)) mine (flat_map (labels_of_own names) derivations)
-    (nodes_use names x.nodes i n (subst (λ (z : Derivation_data). slice_get z.nodes i ≡ Some n) same en) k a at)
+    (nodes_use names (lists_of x) x.nodes (listed x) i n (subst (λ (z : Derivation_data). slice_get z.nodes i ≡ Some n) same en) k a at)
 owns_use names (Some x ∷ derivations) (suc p) d e i n en k a at =
-    back_among (name_at names.labels (label_number a)) (labels_of_nodes (tree_of names x).nodes) (flat_map (labels_of_own names) derivations) (owns_use names derivations p d e i n en k a at)
+    back_among (name_at names.labels (label_number a)) (labels_of_acts (acts_of (tree_of names x))) (flat_map (labels_of_own names) derivations) (owns_use names derivations p d e i n en k a at)
 
 -- ---- when the text is read again
 
@@ -244,7 +237,7 @@ behind_among : (d : Document_data) (text : List ℕ) (k : ℕ) → CanBeReadAgai
 behind_among d text k r c (InMachine role n place machine mark peer arms arm own at stands number) =
     let names : List (List ℕ) = d.names.labels in
     let lines : List (List ℕ) = labels_of_lines d.names d.machines c.back c.machines in
-    let uses = lines_use d.names d.machines c.back r.shown.sound r.shown.machines c.machines role machine own in
+    let uses = lines_use d.names d.machines c.back r.shown.sound r.bounded r.shown.machines c.machines role machine own in
     front_among (name_at names k) lines (flat_map (labels_of_own d.names) d.derivations)
     (subst (λ (z : ℕ). is_among (name_at names z) lines ≡ true) number (line_among names lines machine n place mark peer arms arm uses at stands))
 behind_among d text k r c (InDerivation role n place derivation node a own at stands number) =

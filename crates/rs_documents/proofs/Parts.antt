@@ -4,7 +4,7 @@ use Rattle.std.proofs.Common.{inl, inr, arith, slice_get, slice_set}
 use Rattle.std.specs.Prelude.{◌||◌}
 use Rattle.std.specs.Str.{bytes_eq}
 use Rattle.std.proofs.lemmas.Slice.Eq.{bytes_eq-Decides}
-use Rattle.rs_documents.specs.Parts.{PartKind, NextTokenIs, no_parts, parts_with, IsTwice, PartsRead, GoesOn, Stops, Repeats, Fails, Adds}
+use Rattle.rs_documents.specs.Parts.{PartKind, BeginsAt, NextTokenIs, no_parts, parts_with, IsTwice, PartsRead, GoesOn, Stops, Repeats, Fails, Adds}
 use Rattle.rs_documents.specs.Reading.{is_this_word, is_held, place_named, twice_by, twice_of, AreGood, free_in, LeadsBack, IsAdded}
 use Rattle.rs_documents.specs.Ready.{AllHave, StandInPlace, AreHeld}
 use Rattle.rs_model.specs.Data.{Names_data}
@@ -238,7 +238,8 @@ abbrev SpeltOrFaulty : {A : Type 0} → PartKind A → Names_data → List ℕ �
 SpeltOrFaulty {A} kind old bytes at = ((new : Names_data) × (part : A) × (until : ℕ) × kind.Spells bytes at old new part until) ⊎ ((k : TextKind) × (offset : ℕ) × kind.Fails old bytes at k offset)
 
 pub record IsKind {A : Type 0} (kind : PartKind A) : Type 0 where
-  pub begins : (bytes : List ℕ) (at : ℕ) (old new : Names_data) (part : A) (until : ℕ) → kind.Spells bytes at old new part until → NextTokenIs bytes at (plain kind.word)
+  pub starts : (s : Sign) → kind.Begins s ⊎ (kind.Begins s → ⊥)
+  pub begins : (bytes : List ℕ) (at : ℕ) (old new : Names_data) (part : A) (until : ℕ) → kind.Spells bytes at old new part until → BeginsAt kind bytes at
   pub role : (bytes : List ℕ) (at : ℕ) (old new : Names_data) (part : A) (until : ℕ) → kind.Spells bytes at old new part until → RoleStands bytes at old (kind.role_of part)
   pub roles : (bytes : List ℕ) (at : ℕ) (old new : Names_data) (part : A) (until : ℕ) → kind.Spells bytes at old new part until → new.roles ≡ old.roles
   pub labels : (bytes : List ℕ) (at : ℕ) (old new : Names_data) (part : A) (until : ℕ) → kind.Spells bytes at old new part until → length old.labels ≤ length new.labels
@@ -303,7 +304,7 @@ Again {A} kind bytes n =
 
 by_role : {A : Type 0} (kind : PartKind A) (i : IsKind kind) (n : ℕ) (bytes : List ℕ) (at : ℕ) (names : Names_data) (parts : List (Option A)) → Again kind bytes n → free_in parts < suc n
     → at ≤ length bytes → length parts ≡ length names.roles → length names.labels ≤ MOST_LABELS
-    → NextTokenIs bytes at (plain kind.word) → (o : Option ℕ) → twice_of names parts (second_of bytes at) ≡ o → SomeRow kind bytes at names parts
+    → BeginsAt kind bytes at → (o : Option ℕ) → twice_of names parts (second_of bytes at) ≡ o → SomeRow kind bytes at names parts
 by_role kind i n bytes at names parts again lt le size few word (Some second) e =
     record { row = fault_of fault.NameTwice second; goes_on = Repeats at second names parts word (twice_is bytes names parts at second e) }
 by_role {A} kind i n bytes at names parts again lt le size few word None e = elim (i.either bytes at names few le) [
@@ -318,20 +319,19 @@ by_role {A} kind i n bytes at names parts again lt le size few word None e = eli
   | inr f ↦ record { row = fault_of f.0 f.1; goes_on = Fails at f.1 names parts f.0 word (none_twice bytes names parts at e) f.2 }
 ]
 
-by_word : {A : Type 0} (kind : PartKind A) (i : IsKind kind) (n : ℕ) (bytes : List ℕ) (at : ℕ) (names : Names_data) (parts : List (Option A)) → Again kind bytes n → free_in parts < suc n
-    → at ≤ length bytes → length parts ≡ length names.roles → length names.labels ≤ MOST_LABELS
-    → (b : Bool) → is_this_word kind.word (next_lexeme bytes at).sign ≡ b → SomeRow kind bytes at names parts
-by_word kind i n bytes at names parts again lt le size few true e =
-    by_role kind i n bytes at names parts again lt le size few (word_is kind.word (next_lexeme bytes at).sign e) (twice_of names parts (second_of bytes at)) refl
-by_word kind i n bytes at names parts again lt le size few false e =
-    record { row = Ok (record { names = names; parts = parts; until = at }); goes_on = Stops at names parts (word_isnt kind.word (next_lexeme bytes at).sign e) }
+by_sign : {A : Type 0} (kind : PartKind A) (i : IsKind kind) (n : ℕ) (bytes : List ℕ) (at : ℕ) (names : Names_data) (parts : List (Option A)) → Again kind bytes n → free_in parts < suc n
+    → at ≤ length bytes → length parts ≡ length names.roles → length names.labels ≤ MOST_LABELS → SomeRow kind bytes at names parts
+by_sign {A} kind i n bytes at names parts again lt le size few = elim (i.starts (next_lexeme bytes at).sign) [
+  | inl begins ↦ by_role kind i n bytes at names parts again lt le size few begins (twice_of names parts (second_of bytes at)) refl
+  | inr not ↦ record { row = Ok (record { names = names; parts = parts; until = at }); goes_on = Stops at names parts not }
+]
 
 some_row_by : {A : Type 0} (kind : PartKind A) (i : IsKind kind) (n : ℕ) (bytes : List ℕ) (at : ℕ) (names : Names_data) (parts : List (Option A)) → free_in parts < n → at ≤ length bytes
     → length parts ≡ length names.roles → length names.labels ≤ MOST_LABELS
     → SomeRow kind bytes at names parts
 some_row_by kind i zero bytes at names parts lt le size few = absurd (omega arith)
 some_row_by kind i (suc n) bytes at names parts lt le size few =
-    by_word kind i n bytes at names parts (λ a o m l k s f. some_row_by kind i n bytes a o m l k s f) lt le size few (is_this_word kind.word (next_lexeme bytes at).sign) refl
+    by_sign kind i n bytes at names parts (λ a o m l k s f. some_row_by kind i n bytes a o m l k s f) lt le size few
 
 pub some_row : {A : Type 0} (kind : PartKind A) (i : IsKind kind) (bytes : List ℕ) (at : ℕ) (names : Names_data) (parts : List (Option A)) → at ≤ length bytes → length parts ≡ length names.roles
     → length names.labels ≤ MOST_LABELS → SomeRow kind bytes at names parts
@@ -393,17 +393,12 @@ keeps_within kind i bytes at names parts what row le (Fails a u n m j e z r) is 
 keeps_within kind i bytes at names parts what row le (Adds a next n new m part w e z s g) is =
     keeps_within kind i bytes next new (parts_with kind parts part) what row (i.within bytes at names new part next le s) g is
 
--- where no part begins, none comes
-pub stops : {A : Type 0} (kind : PartKind A) (bytes : List ℕ) (names : Names_data) (parts : List (Option A)) (at : ℕ) → is_this_word kind.word (next_lexeme bytes at).sign ≡ false
-    → GoesOn kind bytes at names parts (good (row_of names parts at))
-stops kind bytes names parts at e = Stops at names parts (word_isnt kind.word (next_lexeme bytes at).sign e)
-
 -- ---- the reader
 
 -- a part that was read stands among the others, and the text goes on behind it
 pub added : {A : Type 0} (kind : PartKind A) (i : IsKind kind) (P : A → Type 0) (bytes : List ℕ) (at : ℕ) (names new : Names_data) (parts : List (Option A)) (part : A) (next : ℕ) → AreGood names
     → AreHeld kind.role_of P names.roles parts
-    → NextTokenIs bytes at (plain kind.word) → twice_of names parts (second_of bytes at) ≡ None → kind.Spells bytes at names new part next → AreReadable new
+    → BeginsAt kind bytes at → twice_of names parts (second_of bytes at) ≡ None → kind.Spells bytes at names new part next → AreReadable new
     → new.roles ≡ names.roles → P part → next ≤ length bytes
     → IsAdded kind P bytes (row_of names parts at) (row_of new (parts_with kind parts part) next)
 added kind i P bytes at names new parts part next good held word once spells readable roles has within =
@@ -421,25 +416,25 @@ added kind i P bytes at names new parts part next good held word once spells rea
       roles = roles;
     }
 
-pub repeats : {A : Type 0} (kind : PartKind A) (bytes : List ℕ) (at : ℕ) (names : Names_data) (parts : List (Option A)) (second : ℕ) → NextTokenIs bytes at (plain kind.word)
+pub repeats : {A : Type 0} (kind : PartKind A) (bytes : List ℕ) (at : ℕ) (names : Names_data) (parts : List (Option A)) (second : ℕ) → BeginsAt kind bytes at
     → twice_of names parts (second_of bytes at) ≡ Some second
     → GoesOn kind bytes at names parts (fault_of fault.NameTwice second)
 repeats kind bytes at names parts second word e = Repeats at second names parts word (twice_is bytes names parts at second e)
 
-pub fails : {A : Type 0} (kind : PartKind A) (bytes : List ℕ) (at : ℕ) (names : Names_data) (parts : List (Option A)) (e : TextFault) → NextTokenIs bytes at (plain kind.word)
+pub fails : {A : Type 0} (kind : PartKind A) (bytes : List ℕ) (at : ℕ) (names : Names_data) (parts : List (Option A)) (e : TextFault) → BeginsAt kind bytes at
     → twice_of names parts (second_of bytes at) ≡ None
     → (e.kind ≡ fault.NoMemory) ⊎ kind.Fails names bytes at e.kind e.at → (e.kind ≡ fault.NoMemory) ⊎ GoesOn kind bytes at names parts (Err e)
 fails kind bytes at names parts e word once (inl memory) = inl memory
 fails kind bytes at names parts e word once (inr h) = inr (Fails at e.at names parts e.kind word (none_twice bytes names parts at once) h)
 
-pub repeats_by : {A : Type 0} (kind : PartKind A) (bytes : List ℕ) (at : ℕ) (names : Names_data) (parts : List (Option A)) (second : ℕ) → NextTokenIs bytes at (plain kind.word)
+pub repeats_by : {A : Type 0} (kind : PartKind A) (bytes : List ℕ) (at : ℕ) (names : Names_data) (parts : List (Option A)) (second : ℕ) → BeginsAt kind bytes at
     → twice_of names parts (second_of bytes at) ≡ Some second
     → (fault.NameTwice ≡ fault.NoMemory) ⊎ GoesOn kind bytes at names parts (fault_of fault.NameTwice second)
 repeats_by kind bytes at names parts second word e = inr (repeats kind bytes at names parts second word e)
 
 pub added_by : {A : Type 0} (kind : PartKind A) (i : IsKind kind) (P : A → Type 0) (bytes : List ℕ) (at : ℕ) (names new : Names_data) (parts later : List (Option A)) (part : A) (next : ℕ)
     → later ≡ parts_with kind parts part → AreGood names
-    → AreHeld kind.role_of P names.roles parts → NextTokenIs bytes at (plain kind.word) → twice_of names parts (second_of bytes at) ≡ None → kind.Spells bytes at names new part next → AreReadable new
+    → AreHeld kind.role_of P names.roles parts → BeginsAt kind bytes at → twice_of names parts (second_of bytes at) ≡ None → kind.Spells bytes at names new part next → AreReadable new
     → new.roles ≡ names.roles → P part → next ≤ length bytes → IsAdded kind P bytes (row_of names parts at) (row_of new later next)
 added_by {A} kind i P bytes at names new parts later part next e good held word once spells readable roles has within =
     subst (λ (z : List (Option A)). IsAdded kind P bytes (row_of names parts at) (row_of new z next)) (sym e)
@@ -451,6 +446,6 @@ held_by {A} role_of P roles parts e = subst (λ (z : List (Option A)). AreHeld r
 -- the row is done where no part begins any more
 pub done : {A : Type 0} (kind : PartKind A) (bytes : List ℕ) (at : ℕ) (names new : Names_data) (none parts : List (Option A)) (until : ℕ) → none ≡ no_parts names.roles
     → LeadsBack kind bytes (row_of names none at) (row_of new parts until)
-    → is_this_word kind.word (next_lexeme bytes until).sign ≡ false → GoesOn kind bytes at names (no_parts names.roles) (good (row_of new parts until))
-done {A} kind bytes at names new none parts until e back word =
-    subst (λ (z : List (Option A)). GoesOn kind bytes at names z (good (row_of new parts until))) e (back (good (row_of new parts until)) (stops kind bytes new parts until word))
+    → (BeginsAt kind bytes until → ⊥) → GoesOn kind bytes at names (no_parts names.roles) (good (row_of new parts until))
+done {A} kind bytes at names new none parts until e back not =
+    subst (λ (z : List (Option A)). GoesOn kind bytes at names z (good (row_of new parts until))) e (back (good (row_of new parts until)) (Stops until new parts not))

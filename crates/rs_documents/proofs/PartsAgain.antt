@@ -4,7 +4,7 @@ use Rattle.std.proofs.Common.{slice_set, append_assoc, length-append}
 use Rattle.std.proofs.lemmas.List.{drop-drop}
 use Rattle.std.proofs.Math.Seq.{drop-append_seam}
 use Rattle.rs_documents.specs.Again.{StandInPlaces}
-use Rattle.rs_documents.specs.Parts.{PartKind, NextTokenIs, IsTwice, PartsRead, GoesOn, Stops, Adds, no_parts, parts_with}
+use Rattle.rs_documents.specs.Parts.{PartKind, NextTokenIs, BeginsAt, IsTwice, PartsRead, GoesOn, Stops, Adds, no_parts, parts_with}
 use Rattle.rs_documents.proofs.FewLabels.{longer}
 use Rattle.rs_documents.proofs.MachinesAgain.{Renumbers}
 use Rattle.rs_documents.proofs.MoreNames.{AreAmong, front_among, back_among, either_among, grown_new, number_kept}
@@ -46,11 +46,13 @@ begun _ bytes at text b parts = absurd b
 abbrev grown_names : Names_data → List (List ℕ) → Names_data
 grown_names old labels = record { roles = old.roles; labels = names_with old.labels labels }
 
--- a printed part: its labels are known, it begins with its word, and wherever it stands it is read with older names, as the
--- part with other numbers for its labels
+-- a printed part: its labels are known, it begins with a word of its kind, and wherever it stands it is read with older
+-- names, as the part with other numbers for its labels
 pub record IsPrinted {A : Type 0} (kind : PartKind A) (by : (ℕ → ℕ) → A → A) (names : Names_data) (part : A) (text : List ℕ) (labels : List (List ℕ)) : Type 0 where
   pub known : AreAmong labels names.labels
-  pub begins : Begins (plain kind.word) text
+  pub word : List ℕ
+  pub opens : kind.Begins (plain word)
+  pub begins : Begins (plain word) text
   pub role : (number : ℕ → ℕ) → kind.role_of (by number part) ≡ kind.role_of part
   pub reads : (bytes : List ℕ) (at : ℕ) (old : Names_data) (behind : List ℕ) (sign : Sign) (number : ℕ → ℕ) → drop at bytes ≡ text ++ behind → Begins sign behind
       → NextTokenIs bytes (at + length text) sign → old.roles ≡ names.roles
@@ -73,21 +75,21 @@ printed_known kind by names (Some part ∷ parts) text labels h l a =
     either_among l h.2 h.3 (is_among l names.labels ≡ true) (subst (λ (z : List (List ℕ)). is_among l z ≡ true) h.7 a) (h.4.known l) (printed_known kind by names parts h.1 h.3 h.5 l)
 
 -- what begins there: one of them, or what stands behind them
-pub record Beginning (word : List ℕ) (sign : Sign) (text : List ℕ) : Type 0 where
+pub record Beginning {A : Type 0} (kind : PartKind A) (sign : Sign) (text : List ℕ) : Type 0 where
   pub own : Sign
-  pub word_is : (own ≡ plain word) ⊎ (own ≡ sign)
+  pub word_is : kind.Begins own ⊎ (own ≡ sign)
   pub begins : Begins own text
 
 pub printed_begins : {A : Type 0} (kind : PartKind A) (by : (ℕ → ℕ) → A → A) (names : Names_data) (parts : List (Option A)) (text : List ℕ) (labels : List (List ℕ)) (behind : List ℕ) (sign : Sign)
-    → ArePrinted kind by names parts text labels → Begins sign behind → Beginning kind.word sign (text ++ behind)
+    → ArePrinted kind by names parts text labels → Begins sign behind → Beginning kind sign (text ++ behind)
 printed_begins kind by names [] text labels behind sign h b = record { own = sign; word_is = inr refl; begins = subst (λ (z : List ℕ). Begins sign (z ++ behind)) (sym h.0) b }
 printed_begins kind by names (None ∷ parts) text labels behind sign h b = printed_begins kind by names parts text labels behind sign h b
 printed_begins kind by names (Some part ∷ parts) text labels behind sign h b =
     let own = h.4.begins in
     let rest : List ℕ = own.0 in
-    let all : (h.0 ++ h.1) ++ behind ≡ kind.word ++ (codes " " ++ (rest ++ (h.1 ++ behind)))
-    = append_assoc h.0 h.1 behind ∙ ap (λ (z : List ℕ). z ++ (h.1 ++ behind)) own.2 ∙ append_assoc kind.word (codes " " ++ rest) (h.1 ++ behind) in
-    record { own = plain kind.word; word_is = inl refl; begins = (rest ++ (h.1 ++ behind), own.1, ap (λ (z : List ℕ). z ++ behind) h.6 ∙ all) }
+    let all : (h.0 ++ h.1) ++ behind ≡ h.4.word ++ (codes " " ++ (rest ++ (h.1 ++ behind)))
+    = append_assoc h.0 h.1 behind ∙ ap (λ (z : List ℕ). z ++ (h.1 ++ behind)) own.2 ∙ append_assoc h.4.word (codes " " ++ rest) (h.1 ++ behind) in
+    record { own = plain h.4.word; word_is = inl h.4.opens; begins = (rest ++ (h.1 ++ behind), own.1, ap (λ (z : List ℕ). z ++ behind) h.6 ∙ all) }
 
 -- ---- places
 
@@ -122,7 +124,7 @@ abbrev row : {A : Type 0} → ((ℕ → ℕ) → A → A) → (ℕ → ℕ) → 
 row by number old labels done rest until = row_of (grown_names old labels) (done ++ map (option_map (by number)) rest) until
 
 none_goes : {A : Type 0} (kind : PartKind A) (by : (ℕ → ℕ) → A → A) (number : ℕ → ℕ) (bytes : List ℕ) (at : ℕ) (old : Names_data) (done : List (Option A)) (text : List ℕ) → text ≡ []
-    → (NextTokenIs bytes at (plain kind.word) → ⊥)
+    → (BeginsAt kind bytes at → ⊥)
     → GoesOn kind bytes at old (done ++ []) (good (row by number old [] done [] (at + length text)))
 none_goes {A} kind by number bytes at old done text e never =
     let here : at ≡ at + length text = (let size : length text ≡ 0 = ap length e in omega (arith, size)) in
@@ -139,7 +141,7 @@ free_here kind i bytes at next old new done rest part s place second t =
 
 pub goes_again : {A : Type 0} (kind : PartKind A) (i : IsKind kind) (by : (ℕ → ℕ) → A → A) (names : Names_data) (number : ℕ → ℕ) (rest : List (Option A)) (text : List ℕ) (labels : List (List ℕ))
     → ArePrinted kind by names rest text labels
-    → (bytes : List ℕ) (at : ℕ) (old : Names_data) (done : List (Option A)) (behind : List ℕ) (sign : Sign) → drop at bytes ≡ text ++ behind → Begins sign behind → (sign ≡ plain kind.word → ⊥)
+    → (bytes : List ℕ) (at : ℕ) (old : Names_data) (done : List (Option A)) (behind : List ℕ) (sign : Sign) → drop at bytes ≡ text ++ behind → Begins sign behind → (kind.Begins sign → ⊥)
     → old.roles ≡ names.roles
     → length (names_with old.labels labels) ≤ MOST_LABELS → Renumbers number names.labels (names_with old.labels labels) labels
     → StandFrom kind (length done) rest → GoesOn kind bytes at old (done ++ nones rest) (good (row by number old labels done rest (at + length text)))
@@ -147,7 +149,7 @@ goes_again {A} kind i by names number [] text labels h bytes at old done behind 
     let here : drop at bytes ≡ behind = parts ∙ ap (λ (z : List ℕ). z ++ behind) h.0 in
     let next = begun sign bytes at behind b here in
     subst (λ (z : List (List ℕ)). GoesOn kind bytes at old (done ++ []) (good (row by number old z done [] (at + length text)))) (sym h.1)
-    (none_goes kind by number bytes at old done text h.0 (λ s. never (sym next.stands ∙ s)))
+    (none_goes kind by number bytes at old done text h.0 (λ s. never (subst kind.Begins next.stands s)))
 goes_again {A} kind i by names number (None ∷ rest) text labels h bytes at old done behind sign parts b never roles few f placed =
     let later = goes_again kind i by names number rest text labels h bytes at old (done ++ None ∷ []) behind sign parts b never roles few f (later_stand kind done None rest placed) in
     subst (λ (z : List (Option A)). GoesOn kind bytes at old (done ++ None ∷ nones rest) (good (row_of (grown_names old labels) z (at + length text))))
@@ -203,7 +205,7 @@ nones_are {A} (x ∷ xs) (y ∷ ys) e = ap (λ (z : List (Option A)). None ∷ z
 
 pub all_go_again : {A : Type 0} (kind : PartKind A) (i : IsKind kind) (by : (ℕ → ℕ) → A → A) (names : Names_data) (number : ℕ → ℕ) (all : List (Option A)) (text : List ℕ) (labels : List (List ℕ))
     → ArePrinted kind by names all text labels
-    → (bytes : List ℕ) (at : ℕ) (old : Names_data) (behind : List ℕ) (sign : Sign) → drop at bytes ≡ text ++ behind → Begins sign behind → (sign ≡ plain kind.word → ⊥) → old.roles ≡ names.roles
+    → (bytes : List ℕ) (at : ℕ) (old : Names_data) (behind : List ℕ) (sign : Sign) → drop at bytes ≡ text ++ behind → Begins sign behind → (kind.Begins sign → ⊥) → old.roles ≡ names.roles
     → length (names_with old.labels labels) ≤ MOST_LABELS → Renumbers number names.labels (names_with old.labels labels) labels → StandInPlaces kind old.roles all
     → GoesOn kind bytes at old (no_parts old.roles) (good (row_of (record { roles = old.roles; labels = names_with old.labels labels }) (map (option_map (by number)) all) (at + length text)))
 all_go_again {A} kind i by names number all text labels h bytes at old behind sign parts b never roles few f placed =

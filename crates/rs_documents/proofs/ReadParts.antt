@@ -1,5 +1,5 @@
 -- A document is read part by part.
-use Rattle.std.proofs.Common.{◌≡◌, ◌⊎◌, ℕ, ◌≤◌, ◌+◌, List, length, Option, Some, None, Err, sym, subst, inl, inr}
+use Rattle.std.proofs.Common.{◌≡◌, ◌⊎◌, ℕ, ◌≤◌, ◌+◌, List, length, Option, Some, None, Result, Ok, Err, IfErr, sym, subst, inl, inr}
 use Rattle.rs_derive.specs.Data.{Derivation_data}
 use Rattle.rs_documents.specs.Documents.{SpellsFront, SpellsParts, SpellsDocument, fault_behind, wanted_behind, FirstFault, InProtocol, InMachines, InDerivations, BehindParts}
 use Rattle.rs_documents.specs.Parts.{GoesOn, machine_parts, derivation_parts, no_parts}
@@ -11,6 +11,7 @@ use Rattle.rs_global.specs.Faults as of_protocols
 use Rattle.rs_global.specs.Spells.{SpellsProtocol}
 use Rattle.rs_model.specs.Data.{Names_data, Protocol_data, Machine_data}
 use Rattle.rs_model.specs.declared.limits.TheConstants.{MOST_TALKS}
+use Rattle.rs_text.specs.FirstFaults.{IsRefusal}
 use Rattle.rs_text.specs.Lexing.{next_lexeme}
 use Rattle.rs_text.specs.declared.faults.TextFault.{TextFault}
 use Rattle.rs_text.specs.declared.faults.TextKind.{TextKind}
@@ -19,6 +20,19 @@ use Rattle.rs_text.specs.declared.faults.TextKind.TheVariants as kind
 -- what is told of a reading that failed
 abbrev Told : List ℕ → TextFault → Type 0
 Told bytes f = (f.kind ≡ kind.NoMemory) ⊎ FirstFault bytes f.kind f.at
+
+refused : (First Other : TextKind → ℕ → Type 0) (bytes : List ℕ) (e : TextFault) → (First e.kind e.at → Other e.kind e.at) → IsRefusal First bytes e → IsRefusal Other bytes e
+refused First Other bytes e f h = record { fault = by_cases h.fault; within = h.within }
+  where
+    by_cases : (e.kind ≡ kind.NoMemory) ⊎ First e.kind e.at → (e.kind ≡ kind.NoMemory) ⊎ Other e.kind e.at
+    by_cases (inl memory) = inl memory
+    by_cases (inr g) = inr (f g)
+
+-- the fault of a table or of a body is the machine's
+pub refused_by : {B : Type 0} (result : Result B TextFault) (First Other : TextKind → ℕ → Type 0) (bytes : List ℕ) → ((k : TextKind) (offset : ℕ) → First k offset → Other k offset)
+    → IfErr result (IsRefusal First bytes) → IfErr result (IsRefusal Other bytes)
+refused_by (Ok x) First Other bytes f h = h
+refused_by (Err e) First Other bytes f h = refused First Other bytes e (f e.kind e.at) h
 
 pub in_protocol : (bytes : List ℕ) (f : TextFault) → (f.kind ≡ kind.NoMemory) ⊎ of_protocols.FirstFault bytes 0 f.kind f.at → Told bytes f
 in_protocol bytes f (inl memory) = inl memory

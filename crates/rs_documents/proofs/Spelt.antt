@@ -1,10 +1,10 @@
 -- A document that a text spells has the machines that the text spells.
-use Rattle.std.proofs.Common.{◌≡◌, ℕ, List, length, Option, Result, refl, sym, ap, subst, ◌∙◌, inl, inr}
+use Rattle.std.proofs.Common.{◌≡◌, ◌⊎◌, ℕ, List, length, Option, Result, refl, sym, ap, subst, ◌∙◌, inl, inr}
 use Rattle.std.specs.Prelude.{codes}
 use Rattle.rs_derive.specs.Data.{Derivation_data}
 use Rattle.rs_documents.specs.Data.{Document_data}
 use Rattle.rs_documents.specs.Documents.{SpellsDocument}
-use Rattle.rs_documents.specs.Parts.{NextTokenIs, PartsRead, GoesOn, Stops, Repeats, Fails, Adds, machine_parts, derivation_parts, no_parts}
+use Rattle.rs_documents.specs.Parts.{BeginsAt, NextTokenIs, PartsRead, GoesOn, Stops, Repeats, Fails, Adds, machine_parts, derivation_parts, no_parts}
 use Rattle.rs_documents.specs.Spells.{HasNoMachineBehind, MachinesBehind, NoMore, OneMore, SpellsMachines, no_machines, with_machine}
 use Rattle.rs_documents.proofs.FewLabels.{protocol_few}
 use Rattle.rs_documents.proofs.PartKinds.{machine_begins, machine_role, of_machines}
@@ -18,7 +18,7 @@ use Rattle.rs_model.specs.Data.{Names_data, Protocol_data, Machine_data}
 use Rattle.rs_text.proofs.Nexts.{next_is_next, one_next}
 use Rattle.rs_text.specs.Lexemes.{Lexeme}
 use Rattle.rs_text.specs.Lexing.{next_lexeme}
-use Rattle.rs_text.specs.Signs.{plain, finish}
+use Rattle.rs_text.specs.Signs.{Sign, plain, finish}
 use Rattle.rs_text.specs.declared.faults.TextFault.{TextFault}
 
 -- where derivations, or nothing, stand behind the offset, no machine does
@@ -61,13 +61,14 @@ spelt_machines bytes d h =
 
 -- ---- there is one list of machines
 
-no_machine_there : (bytes : List ℕ) (at : ℕ) → HasNoMachineBehind bytes at → NextTokenIs bytes at (plain (codes "machine")) → ⊥
-no_machine_there bytes at h word =
-    let sign : h.0.sign ≡ plain (codes "machine") = ap (λ (l : Lexeme). l.sign) (one_next bytes at h.0 h.1) ∙ word in
-    elim h.2 [
-      | inl e ↦ (let clash : finish ≡ plain (codes "machine") = sym e ∙ sign in cc)
-      | inr e ↦ (let clash : plain (codes "derivation") ≡ plain (codes "machine") = sym e ∙ sign in cc)
-    ]
+no_word : (s t : Sign) → (s ≡ finish) ⊎ (s ≡ plain (codes "derivation")) → s ≡ t → (t ≡ plain (codes "machine")) ⊎ (t ≡ plain (codes "table")) → ⊥
+no_word s t (inl e) same (inl w) = let clash : finish ≡ plain (codes "machine") = sym e ∙ same ∙ w in cc
+no_word s t (inl e) same (inr w) = let clash : finish ≡ plain (codes "table") = sym e ∙ same ∙ w in cc
+no_word s t (inr e) same (inl w) = let clash : plain (codes "derivation") ≡ plain (codes "machine") = sym e ∙ same ∙ w in cc
+no_word s t (inr e) same (inr w) = let clash : plain (codes "derivation") ≡ plain (codes "table") = sym e ∙ same ∙ w in cc
+
+no_machine_there : (bytes : List ℕ) (at : ℕ) → HasNoMachineBehind bytes at → BeginsAt machine_parts bytes at → ⊥
+no_machine_there bytes at h begins = no_word h.0.sign (next_lexeme bytes at).sign h.2 (ap (λ (l : Lexeme). l.sign) (one_next bytes at h.0 h.1)) begins
 
 record Found (bytes : List ℕ) (at : ℕ) (names : Names_data) (machines all : List (Option Machine_data)) : Type 0 where
   row : PartsRead Machine_data

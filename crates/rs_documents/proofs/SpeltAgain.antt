@@ -1,16 +1,20 @@
 -- A document that a text spells can be read again from its canonical text.
 use Rattle.std.proofs.Common.{◌≡◌, ℕ, suc, ◌≤◌, List, [], ◌∷◌, ◌++◌, length, map, codes, Bool, true, false, ◌&&◌, nat_lt, if◌then◌else◌, Option, Result, inl, inr, refl, sym, ap, ◌∙◌, subst, arith}
 use Rattle.std.proofs.lemmas.Bool.{ltb-true, lt-ltb}
+use Rattle.std.proofs.lemmas.List.{map-append}
 use Rattle.std.proofs.lemmas.List.Elements.{All-cons, All-nil}
 use Rattle.std.proofs.lemmas.List.Folds.{list_all-append}
 use Rattle.std.proofs.lemmas.Slice.Eq.{bytes_eq-Decides}
-use Rattle.std.specs.List.{All, list_all}
+use Rattle.std.specs.List.{All, flat_map, list_all}
 use Rattle.std.specs.Str.{bytes_eq}
-use Rattle.rs_derivations.specs.Derivations.{labels_of_acts, labels_of_node, labels_of_nodes, node_of_tree}
+use Rattle.rs_derivations.specs.Derivations.{acts_of, labels_of_acts, node_of_tree, written_lists}
 use Rattle.rs_derivations.specs.Lists.{with_separators}
 use Rattle.rs_derivations.specs.Numbers.{AreSmall, HasSmallNumbers}
 use Rattle.rs_derivations.specs.Spells.{SpellsDerivation}
-use Rattle.rs_derivations.specs.Trees.{ActTree, NodeTree, act_signs, acts_signs, derivation_signs, head_signs, node_signs, nodes_signs, number_signs, numbers_signs, rest_signs}
+use Rattle.rs_derivations.specs.Trees.{ActTree, ListsTree, NodeTree, DerivationTree, act_signs, acts_signs, derivation_signs, head_signs, list_signs, lists_signs, lists_signs_from, node_signs, nodes_signs}
+use Rattle.rs_derivations.specs.Trees.{number_signs, numbers_signs, pending_signs, rest_signs}
+use Rattle.rs_derivations.specs.declared.formats.Format.{Format}
+use Rattle.rs_derivations.specs.declared.formats.Format.TheVariants.{One, Two}
 use Rattle.rs_derive.specs.Data.{Derivation_data}
 use Rattle.rs_documents.specs.Again.{CanBeReadAgain, StandInPlaces}
 use Rattle.rs_documents.specs.Data.{Document_data}
@@ -18,6 +22,7 @@ use Rattle.rs_documents.specs.Documents.{SpellsDocument}
 use Rattle.rs_documents.specs.Parts.{PartKind, PartsRead, GoesOn, Stops, Repeats, Fails, Adds, parts_with, machine_parts, derivation_parts, no_parts}
 use Rattle.rs_documents.specs.Ready.{StandInPlace}
 use Rattle.rs_documents.proofs.CanShow.{can_show, kept}
+use Rattle.rs_documents.proofs.DerivationsAgain.{all_acts}
 use Rattle.rs_documents.proofs.OneDocument.{front_few}
 use Rattle.rs_documents.proofs.PartKinds.{machine_line, of_derivations, of_machines}
 use Rattle.rs_documents.proofs.Parts.{good, keeps, keeps_few, none_there, row_of, size_of_none}
@@ -25,6 +30,11 @@ use Rattle.rs_bodies.proofs.WrittenNames.{sound_parts}
 use Rattle.rs_machines.specs.Spells.{SpellsMachine}
 use Rattle.rs_model.specs.Data.{Names_data, Machine_data}
 use Rattle.rs_model.specs.declared.limits.TheConstants.{MOST_NUMBER}
+use Rattle.rs_tables.specs.Machines.{labels_of_row, labels_of_rows}
+use Rattle.rs_tables.specs.Machines as of_tables
+use Rattle.rs_tables.specs.Spells.{SpellsTable}
+use Rattle.rs_tables.specs.Trees.{ArmTree, RowTree, TableTree}
+use Rattle.rs_tables.specs.Trees as tables
 use Rattle.rs_text.proofs.Basics.{both, two_true}
 use Rattle.rs_text.proofs.Gaps.{true_or_false}
 use Rattle.rs_text.proofs.Naming.{decides_sound, grown_all, grown_differ}
@@ -115,7 +125,7 @@ AreWords xs = list_all is_word xs ≡ true
 words_both : (xs ys : List (List ℕ)) → AreWords xs → AreWords ys → AreWords (xs ++ ys)
 words_both xs ys h k = list_all-append is_word xs ys ∙ two_true (list_all is_word xs) (list_all is_word ys) h k
 
--- ---- machines
+-- ---- lines of machines
 
 mutual
   body_words : (b : Body Acts) → AreGood (body_signs Acts b) → AreWords (labels_of Acts b)
@@ -154,14 +164,53 @@ sound_grown old labels sound words =
 none_sound : IsSound no_names
 none_sound = (decides_sound no_names).0 refl
 
-machine_sound : (bytes : List ℕ) (at : ℕ) (old new : Names_data) (machine : Machine_data) (until : ℕ) → SpellsMachine bytes at old new machine until → IsSound old → IsSound new
-machine_sound bytes at old new machine until s sound =
+line_sound : (bytes : List ℕ) (at : ℕ) (old new : Names_data) (machine : Machine_data) (until : ℕ) → SpellsMachine bytes at old new machine until → IsSound old → IsSound new
+line_sound bytes at old new machine until s sound =
     let p = s in
     let l = machine_line bytes at old new machine until s in
     let t : AreGood (plain (codes "machine") ∷ plain l.role ∷ colon ∷ body_signs Acts p.tree.body)
     = subst AreGood (p.spelt ∙ l.signs) (record { all = tokens_are_good bytes p.lexemes at p.behind p.others (are_lexed bytes (p.lexemes ++ p.behind ∷ p.others) at p.tokens) }) in
     let words : AreWords (labels_of Acts p.tree.body) = body_words p.tree.body (tail_good _ _ (tail_good (plain l.role) _ (tail_good (plain (codes "machine")) _ t))) in
     subst IsSound (sym p.names_are) (sound_grown old (labels_of Acts p.tree.body) sound words)
+
+-- ---- tables
+
+arm_word : (a : ArmTree) → AreGood (tables.arm_signs a) → is_word a.label ≡ true
+arm_word a h = label_is_word a.label (head_good (word_sign a.label) _ h)
+
+later_arms_words : (arms : List ArmTree) → AreGood (flat_map tables.later_arm_signs arms) → AreWords (of_tables.labels_of_arms arms)
+later_arms_words [] h = refl
+later_arms_words (a ∷ arms) h =
+    let rest : AreGood (tables.arm_signs a ++ flat_map tables.later_arm_signs arms) = tail_good comma (tables.arm_signs a ++ flat_map tables.later_arm_signs arms) h in
+    two_true (is_word a.label) (list_all is_word (of_tables.labels_of_arms arms)) (arm_word a (front_good (tables.arm_signs a) (flat_map tables.later_arm_signs arms) rest))
+    (later_arms_words arms (back_good (tables.arm_signs a) (flat_map tables.later_arm_signs arms) rest))
+
+row_words : (n : ℕ) (t : RowTree) → AreGood (tables.row_signs n t) → AreWords (labels_of_row t)
+row_words n tables.end_row h = refl
+row_words n (tables.choice_row peer mark first later) h =
+    let inner : AreGood (tables.arms_signs first later ++ signs.close_brace ∷ []) = tail_good signs.open_brace _ (tail_good _ _ (tail_good (plain peer) _ (tail_good (signs.number n) _ h))) in
+    let arms : AreGood (tables.arm_signs first ++ flat_map tables.later_arm_signs later) = front_good (tables.arms_signs first later) (signs.close_brace ∷ []) inner in
+    two_true (is_word first.label) (list_all is_word (of_tables.labels_of_arms later)) (arm_word first (front_good (tables.arm_signs first) (flat_map tables.later_arm_signs later) arms))
+    (later_arms_words later (back_good (tables.arm_signs first) (flat_map tables.later_arm_signs later) arms))
+
+rows_words : (n : ℕ) (rows : List RowTree) → AreGood (tables.rows_signs n rows) → AreWords (labels_of_rows rows)
+rows_words n [] h = refl
+rows_words n (t ∷ rows) h =
+    words_both (labels_of_row t) (labels_of_rows rows) (row_words n t (front_good (tables.row_signs n t) (tables.rows_signs (suc n) rows) h))
+    (rows_words (suc n) rows (back_good (tables.row_signs n t) (tables.rows_signs (suc n) rows) h))
+
+table_sound : (bytes : List ℕ) (at : ℕ) (old new : Names_data) (machine : Machine_data) (until : ℕ) → SpellsTable bytes at old new machine until → IsSound old → IsSound new
+table_sound bytes at old new machine until s sound =
+    let t : TableTree = s.tree in
+    let all : AreGood (tables.table_signs t)
+    = subst AreGood s.spelt (record { all = tokens_are_good bytes s.lexemes at s.behind s.others (are_lexed bytes (s.lexemes ++ s.behind ∷ s.others) at s.tokens) }) in
+    let rows : AreGood (tables.rows_signs 0 t.rows)
+    = front_good (tables.rows_signs 0 t.rows) (signs.close_brace ∷ []) (back_good (tables.head_signs t.role) (tables.rows_signs 0 t.rows ++ signs.close_brace ∷ []) all) in
+    subst IsSound (sym s.names_are) (sound_grown old (labels_of_rows t.rows) sound (rows_words 0 t.rows rows))
+
+machine_sound : (bytes : List ℕ) (at : ℕ) (old new : Names_data) (machine : Machine_data) (until : ℕ) → machine_parts.Spells bytes at old new machine until → IsSound old → IsSound new
+machine_sound bytes at old new machine until (inl s) sound = line_sound bytes at old new machine until s sound
+machine_sound bytes at old new machine until (inr s) sound = table_sound bytes at old new machine until s sound
 
 -- ---- derivations
 
@@ -194,51 +243,81 @@ numbers_small (n ∷ ns) h =
     All-cons (λ k. k ≤ MOST_NUMBER) n ns (small n (head_good (signs.number n) (with_separators (comma ∷ []) number_signs ns) h))
     (later_small ns (tail_good (signs.number n) (with_separators (comma ∷ []) number_signs ns) h))
 
-record GoodNode (new : Names_data) (n : NodeTree) : Type 0 where
-  words : AreWords (labels_of_node n)
-  numbers : HasSmallNumbers (node_of_tree new n)
-
-good_node : (new : Names_data) (k : ℕ) (n : NodeTree) → AreGood (node_signs k n) → GoodNode new n
-good_node new k n h =
+good_numbers : (new : Names_data) (f : Format) (lists : ListsTree f) (k : ℕ) (n : NodeTree f) → AreGood (node_signs f k n) → HasSmallNumbers (node_of_tree new f lists n)
+good_numbers new f lists k n h =
     let state = tail_good signs.colon _ (tail_good (signs.number k) _ h) in
-    let body : AreGood (acts_signs n.pending ++ rest_signs n) = tail_good signs.open_bracket _ (tail_good (signs.number n.state) _ state) in
-    let above = tail_good signs.close_bracket _ (back_good (acts_signs n.pending) (rest_signs n) body) in
+    let body : AreGood (pending_signs f n.pending ++ rest_signs n) = tail_good (signs.number n.state) _ state in
+    let above = back_good (pending_signs f n.pending) (rest_signs n) body in
     let rank = tail_good (plain (codes "rank")) _ (tail_good (signs.number n.above) _ above) in
     let next : AreGood (numbers_signs n.next ++ signs.close_bracket ∷ []) = tail_good signs.open_bracket _ (tail_good (plain (codes "next")) _ (tail_good (signs.number n.rank) _ rank)) in
     record {
-      words = acts_words n.pending (front_good (acts_signs n.pending) (rest_signs n) body);
-      numbers = record {
-        state = small n.state (head_good (signs.number n.state) _ state);
-        above = small n.above (head_good (signs.number n.above) _ above);
-        rank = small n.rank (head_good (signs.number n.rank) _ rank);
-        next = numbers_small n.next (front_good (numbers_signs n.next) (signs.close_bracket ∷ []) next);
-      };
+      state = small n.state (head_good (signs.number n.state) _ state);
+      above = small n.above (head_good (signs.number n.above) _ above);
+      rank = small n.rank (head_good (signs.number n.rank) _ rank);
+      next = numbers_small n.next (front_good (numbers_signs n.next) (signs.close_bracket ∷ []) next);
     }
 
-nodes_words : (new : Names_data) (k : ℕ) (ns : List NodeTree) → AreGood (nodes_signs k ns) → AreWords (labels_of_nodes ns)
-nodes_words new k [] h = refl
-nodes_words new k (n ∷ ns) h =
-    words_both (labels_of_node n) (labels_of_nodes ns) (good_node new k n (front_good (node_signs k n) (nodes_signs (suc k) ns) h)).words
-    (nodes_words new (suc k) ns (back_good (node_signs k n) (nodes_signs (suc k) ns) h))
+nodes_small : (new : Names_data) (f : Format) (lists : ListsTree f) (k : ℕ) (ns : List (NodeTree f)) → AreGood (nodes_signs f k ns) → All HasSmallNumbers (map (node_of_tree new f lists) ns)
+nodes_small new f lists k [] h = All-nil HasSmallNumbers
+nodes_small new f lists k (n ∷ ns) h =
+    All-cons HasSmallNumbers (node_of_tree new f lists n) (map (node_of_tree new f lists) ns) (good_numbers new f lists k n (front_good (node_signs f k n) (nodes_signs f (suc k) ns) h))
+    (nodes_small new f lists (suc k) ns (back_good (node_signs f k n) (nodes_signs f (suc k) ns) h))
 
-nodes_small : (new : Names_data) (k : ℕ) (ns : List NodeTree) → AreGood (nodes_signs k ns) → All HasSmallNumbers (map (node_of_tree new) ns)
-nodes_small new k [] h = All-nil HasSmallNumbers
-nodes_small new k (n ∷ ns) h =
-    All-cons HasSmallNumbers (node_of_tree new n) (map (node_of_tree new) ns) (good_node new k n (front_good (node_signs k n) (nodes_signs (suc k) ns) h)).numbers
-    (nodes_small new (suc k) ns (back_good (node_signs k n) (nodes_signs (suc k) ns) h))
+-- the labels of one list and of the others
+with_first : (xs : List ActTree) (lists : List (List ActTree)) → AreWords (labels_of_acts xs) → AreWords (labels_of_acts (all_acts lists)) → AreWords (labels_of_acts (all_acts (xs ∷ lists)))
+with_first xs lists h k =
+    subst AreWords (sym (map-append (λ (t : ActTree). t.label) xs (all_acts lists))) (words_both (labels_of_acts xs) (labels_of_acts (all_acts lists)) h k)
 
-derivation_signs_good : (bytes : List ℕ) (at : ℕ) (old new : Names_data) (d : Derivation_data) (until : ℕ) (s : SpellsDerivation bytes at old new d until) → AreGood (nodes_signs 0 s.tree.nodes)
+lists_words : (k : ℕ) (lists : List (List ActTree)) → AreGood (lists_signs_from k lists) → AreWords (labels_of_acts (all_acts lists))
+lists_words k [] h = refl
+lists_words k (xs ∷ lists) h =
+    let line : AreGood (list_signs k xs) = front_good (list_signs k xs) (lists_signs_from (suc k) lists) h in
+    with_first xs lists (acts_words xs (tail_good signs.colon _ (tail_good (signs.number k) _ (tail_good (plain (codes "pending")) _ line))))
+    (lists_words (suc k) lists (back_good (list_signs k xs) (lists_signs_from (suc k) lists) h))
+
+node_words : (k : ℕ) (n : NodeTree One) → AreGood (node_signs One k n) → AreWords (labels_of_acts n.pending)
+node_words k n h =
+    let body : AreGood (pending_signs One n.pending ++ rest_signs n) = tail_good (signs.number n.state) _ (tail_good signs.colon _ (tail_good (signs.number k) _ h)) in
+    let pending : AreGood (acts_signs n.pending ++ signs.close_bracket ∷ []) = tail_good signs.open_bracket _ (front_good (pending_signs One n.pending) (rest_signs n) body) in
+    acts_words n.pending (front_good (acts_signs n.pending) (signs.close_bracket ∷ []) pending)
+
+nodes_words : (k : ℕ) (ns : List (NodeTree One)) → AreGood (nodes_signs One k ns) → AreWords (labels_of_acts (all_acts (map (λ (n : NodeTree One). n.pending) ns)))
+nodes_words k [] h = refl
+nodes_words k (n ∷ ns) h =
+    with_first n.pending (map (λ (x : NodeTree One). x.pending) ns) (node_words k n (front_good (node_signs One k n) (nodes_signs One (suc k) ns) h))
+    (nodes_words (suc k) ns (back_good (node_signs One k n) (nodes_signs One (suc k) ns) h))
+
+written_words : (f : Format) (lists : ListsTree f) (ns : List (NodeTree f)) → AreGood (lists_signs f lists) → AreGood (nodes_signs f 0 ns) → AreWords (labels_of_acts (all_acts (written_lists f lists ns)))
+written_words One none ns h k = nodes_words 0 ns k
+written_words Two lists ns h k = lists_words 1 lists h
+
+record AreTreeSignsGood (t : DerivationTree) : Type 0 where
+  lists : AreGood (lists_signs t.format t.lists)
+  nodes : AreGood (nodes_signs t.format 0 t.nodes)
+
+derivation_signs_good : (bytes : List ℕ) (at : ℕ) (old new : Names_data) (d : Derivation_data) (until : ℕ) (s : SpellsDerivation bytes at old new d until) → AreTreeSignsGood s.tree
 derivation_signs_good bytes at old new d until s =
-    let t : AreGood (derivation_signs s.tree)
+    let t : DerivationTree = s.tree in
+    let nodes : List Sign = nodes_signs t.format 0 t.nodes in
+    let lists : List Sign = lists_signs t.format t.lists in
+    let all : AreGood (derivation_signs t)
     = subst AreGood s.spelt (record { all = tokens_are_good bytes s.lexemes at s.behind s.others (are_lexed bytes (s.lexemes ++ s.behind ∷ s.others) at s.tokens) }) in
-    front_good (nodes_signs 0 s.tree.nodes) (signs.close_brace ∷ []) (back_good (head_signs s.tree.role s.tree.bound) (nodes_signs 0 s.tree.nodes ++ signs.close_brace ∷ []) t)
+    let back : AreGood (lists ++ (nodes ++ signs.close_brace ∷ [])) = back_good (head_signs t.role t.format t.bound) (lists ++ (nodes ++ signs.close_brace ∷ [])) all in
+    record {
+      lists = front_good lists (nodes ++ signs.close_brace ∷ []) back;
+      nodes = front_good nodes (signs.close_brace ∷ []) (back_good lists (nodes ++ signs.close_brace ∷ []) back);
+    }
 
 derivation_sound : (bytes : List ℕ) (at : ℕ) (old new : Names_data) (d : Derivation_data) (until : ℕ) → SpellsDerivation bytes at old new d until → IsSound old → IsSound new
 derivation_sound bytes at old new d until s sound =
-    subst IsSound (sym s.names_are) (sound_grown old (labels_of_nodes s.tree.nodes) sound (nodes_words new 0 s.tree.nodes (derivation_signs_good bytes at old new d until s)))
+    let t : DerivationTree = s.tree in
+    let good = derivation_signs_good bytes at old new d until s in
+    subst IsSound (sym s.names_are) (sound_grown old (labels_of_acts (acts_of t)) sound (written_words t.format t.lists t.nodes good.lists good.nodes))
 
 derivation_small : (bytes : List ℕ) (at : ℕ) (old new : Names_data) (d : Derivation_data) (until : ℕ) → SpellsDerivation bytes at old new d until → AreSmall d
-derivation_small bytes at old new d until s = subst AreSmall (sym s.derivation_is) (nodes_small new 0 s.tree.nodes (derivation_signs_good bytes at old new d until s))
+derivation_small bytes at old new d until s =
+    let t : DerivationTree = s.tree in
+    subst AreSmall (sym s.derivation_is) (nodes_small new t.format t.lists 0 t.nodes (derivation_signs_good bytes at old new d until s).nodes)
 
 -- ---- documents
 

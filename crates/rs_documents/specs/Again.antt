@@ -2,7 +2,7 @@
 use Rattle.std.specs.Prelude.{◌≡◌, ℕ, ◌<◌, ◌≤◌, List, [], ◌∷◌, ◌++◌, length, map, Option, Some, None, option_map, slice_get}
 use Rattle.std.specs.List.{flat_map}
 use Rattle.rs_derivations.specs.Canonical.{tree_of}
-use Rattle.rs_derivations.specs.Derivations.{labels_of_nodes}
+use Rattle.rs_derivations.specs.Derivations.{acts_of, labels_of_acts}
 use Rattle.rs_derivations.specs.Numbers.{AreSmall}
 use Rattle.rs_derivations.specs.Printable.{label_number}
 use Rattle.rs_derive.specs.Data.{DNode_data, Derivation_data}
@@ -20,9 +20,11 @@ use Rattle.rs_model.specs.declared.machines.Act.{Act}
 use Rattle.rs_model.specs.declared.machines.Act.TheVariants as act
 use Rattle.rs_model.specs.declared.machines.State.{State}
 use Rattle.rs_model.specs.declared.machines.State.TheVariants as state
+use Rattle.rs_tables.specs.Canonical as tables
+use Rattle.rs_tables.specs.Machines.{labels_of_rows}
 use Rattle.rs_text.specs.Names.{names_with, number_or, place_of}
 use Rattle.rs_text.specs.NamePlaces.{name_at}
-use Rattle.rs_documents.specs.Canonical.{AreCanonicalMachines, CanBeShown, IsCanonicalDocument}
+use Rattle.rs_documents.specs.Canonical.{AreCanonicalMachines, CanBeShown, IsCanonicalDocument, IsOwnText, IsLine, IsTable}
 use Rattle.rs_documents.specs.Data.{Document_data}
 use Rattle.rs_documents.specs.Parts.{PartKind, machine_parts, derivation_parts}
 
@@ -39,16 +41,21 @@ pub record CanBeReadAgain (d : Document_data) : Type 0 where
   pub derivations : StandInPlaces derivation_parts d.names.roles d.derivations
   pub small : (k : ℕ) (derivation : Derivation_data) → slice_get d.derivations k ≡ Some (Some derivation) → AreSmall derivation
 
--- the labels of the machines' lines, in order of text
+-- the labels of a machine's text, in order of text
+abbrev pub labels_of_own_text : (names : Names_data) (machine : Machine_data) (text : List ℕ) → IsOwnText names machine text → List (List ℕ)
+labels_of_own_text names machine text (IsLine line shaped is) = graphs.labels_of Acts is.tree.body
+labels_of_own_text names machine text (IsTable unshaped) = labels_of_rows (tables.tree_of names machine).rows
+
+-- the labels of the machines' texts, in order of text
 abbrev pub labels_of_lines : (names : Names_data) (machines : List (Option Machine_data)) (text : List ℕ) → AreCanonicalMachines names machines text → List (List ℕ)
 labels_of_lines names [] text lines = []
 labels_of_lines names (None ∷ machines) text lines = labels_of_lines names machines text lines
-labels_of_lines names (Some machine ∷ machines) text lines = graphs.labels_of Acts lines.2.tree.body ++ labels_of_lines names machines lines.1 lines.3
+labels_of_lines names (Some machine ∷ machines) text lines = labels_of_own_text names machine lines.0 lines.2 ++ labels_of_lines names machines lines.1 lines.3
 
 -- the labels of a derivation's lines
 abbrev pub labels_of_own : Names_data → Option Derivation_data → List (List ℕ)
 labels_of_own names None = []
-labels_of_own names (Some derivation) = labels_of_nodes (tree_of names derivation).nodes
+labels_of_own names (Some derivation) = labels_of_acts (acts_of (tree_of names derivation))
 
 -- the labels of the whole text, each once, in order of first places
 abbrev pub labels_of_text : (d : Document_data) (text : List ℕ) → IsCanonicalDocument d text → List (List ℕ)

@@ -4,7 +4,7 @@ use Rattle.rs_derive.specs.Data.{Derivation_data}
 use Rattle.rs_documents.specs.Data.{Document_data}
 use Rattle.rs_model.specs.Data.{Machine_data}
 use Rattle.rs_model.specs.declared.graph.Role.{Role}
-use Rattle.rs_model.specs.declared.limits.TheConstants.{MOST_ACTS, MOST_BOUND, MOST_CANDIDATES, MOST_LABELS, MOST_ROLES, MOST_TALKS}
+use Rattle.rs_model.specs.declared.limits.TheConstants.{MOST_BOUND, MOST_CANDIDATES, MOST_LABELS, MOST_ROLES, MOST_STATES, MOST_TALKS}
 use Rattle.rs_text.specs.Sound.{IsSound}
 
 -- all parts that are there have this property
@@ -15,9 +15,9 @@ AllHave {A} P parts = (k : ℕ) (part : A) → slice_get parts k ≡ Some (Some 
 abbrev pub StandInPlace : {A : Type 0} → (A → Role) → List (Option A) → Type 0
 StandInPlace {A} role_of parts = (k : ℕ) (part : A) → slice_get parts k ≡ Some (Some part) → (role_of part).0 ≡ k
 
--- no machine has more than 257 states
+-- no machine has more than 1,024 states
 abbrev pub IsShort : Machine_data → Type 0
-IsShort machine = length machine.states ≤ MOST_ACTS + 1
+IsShort machine = length machine.states ≤ MOST_STATES
 
 -- all machines that are there are short
 abbrev pub AreShort : List (Option Machine_data) → Type 0

@@ -1,12 +1,15 @@
 //! Documents: a protocol, and machines and derivations for some of its roles.
 
 ghost use Rattle.rs_documents.specs.Documents.{FirstFault, SpellsDocument, fault_behind, wanted_behind};
-ghost use Rattle.rs_documents.specs.Parts.{GoesOn, PartsRead, NextTokenIs, derivation_parts, machine_parts, no_parts, parts_with};
+ghost use Rattle.rs_documents.specs.Parts.{BeginsAt, FailsOwn, GoesOn, PartsRead, NextTokenIs, derivation_parts, machine_parts, no_parts, parts_with};
 ghost use Rattle.rs_documents.specs.Reading as spec;
-ghost use Rattle.rs_documents.specs.Reading.{AreGood, IsAdded, MachinesAreHeld, role_at};
+ghost use Rattle.rs_documents.specs.Reading.{AreGood, IsAdded, IsOwnRead, MachinesAreHeld, role_at};
 ghost use Rattle.rs_documents.specs.Ready.{DerivationsAreHeld, IsBounded, DocumentIsReady, IsShort};
+ghost use Rattle.rs_text.specs.FirstFaults.{IsRefusal};
+ghost use Rattle.rs_text.specs.Kept.{Keeps};
 ghost use Rattle.rs_text.specs.Lexing.{next_lexeme};
 ghost use Rattle.rs_text.specs.Signs.{plain};
+ghost use Rattle.rs_text.specs.Sound.{AreReadable};
 ghost use Rattle.rs_text.specs.declared.faults.TextKind.TheVariants as kind;
 ghost use Rattle.std.specs.Prelude.{◌≡◌, ◌≤◌, ◌⊎◌, length, Err, IfErr, IfOk, IfSome, Ok, OnOk, Some, codes, false, slice_get, slice_set};
 
@@ -15,6 +18,7 @@ use rs_derive::Derivation;
 use rs_global::read_protocol;
 use rs_machines::read_machine;
 use rs_model::{Machine, Name, Names, NoMemory, Protocol, Role};
+use rs_tables::read_table;
 use rs_text::{Terminal, TextFault, TextKind, TextToken, Wanted, find, next_token};
 use std::alloc::Global;
 use std::marker::Model;
@@ -53,6 +57,14 @@ fn begins_with(bytes: &[u8], at: usize, word: &[u8]) -> bool
     ensures { result ≡ spec.is_this_word word.now (next_lexeme bytes.now at).sign }
 {
     is_word(&next_token(bytes, at), word)
+}
+
+/// Whether a machine begins at the offset, as a body of acts or as a table.
+fn begins_machine(bytes: &[u8], at: usize) -> bool
+    requires { at ≤ length bytes.now }
+    ensures { result ≡ spec.machine_word (next_lexeme bytes.now at).sign }
+{
+    begins_with(bytes, at, b"machine") || begins_with(bytes, at, b"table")
 }
 
 /// The place of the role that the token names.
@@ -116,6 +128,27 @@ fn no_parts<T: Drop>(alloc: Global, roles: &[Name]) -> Result<Vec<Option<T>>, No
     Ok(parts)
 }
 
+/// Reads the machine at the offset, which is a table where the word `table` stands there, else a body of acts.
+fn read_own(
+    alloc: Global,
+    bytes: &[u8],
+    at: usize,
+    names: &mut Names,
+) -> Result<(Machine, usize), TextFault>
+    requires at { at ≤ length bytes.now }
+    requires names { AreReadable names.old }
+    ensures ok { IfOk result (λ r. IsOwnRead bytes.now at names.old names.new r.0 r.1) }
+    ensures err { IfErr result (λ e. IsRefusal (FailsOwn names.old bytes.now at) bytes.now e) }
+    ensures names { AreReadable names.new }
+    ensures kept { Keeps names.old names.new }
+{
+    if begins_with(bytes, at, b"table") {
+        read_table(alloc, bytes, at, names)
+    } else {
+        read_machine(alloc, bytes, at, names)
+    }
+}
+
 /// Reads the machine at the offset, which is put into its place, and gives the offset behind it.
 fn add_machine(
     alloc: Global,
@@ -127,7 +160,7 @@ fn add_machine(
     requires within { at ≤ length bytes.now }
     requires names { AreGood names.old }
     requires held { MachinesAreHeld names.old.roles machines.old.items }
-    requires machine { NextTokenIs bytes.now at (plain (codes "machine")) }
+    requires machine { BeginsAt machine_parts bytes.now at }
     ensures ok { IfOk result (λ next. IsAdded machine_parts IsShort bytes.now (record { names = names.old; parts = machines.old.items; until = at })
         (record { names = names.new; parts = machines.new.items; until = next })) }
     ensures err { IfErr result (λ e. (e.kind ≡ kind.NoMemory) ⊎ GoesOn machine_parts bytes.now at names.old machines.old.items (Err e)) }
@@ -139,7 +172,7 @@ fn add_machine(
             at: second,
         });
     }
-    match read_machine(alloc, bytes, at, names) {
+    match read_own(alloc, bytes, at, names) {
         Ok((machine, next)) => {
             put(machines, machine.role, machine);
             Ok(next)
@@ -201,7 +234,7 @@ fn read_machines(
         Err(_) => return Err(no_memory(at)),
     };
     let mut until = at;
-    while begins_with(bytes, until, b"machine") {
+    while begins_machine(bytes, until) {
         match add_machine(alloc, bytes, until, names, &mut machines) {
             Ok(next) => until = next,
             Err(fault) => return Err(fault),
@@ -272,7 +305,8 @@ fn wanted_behind(machines: usize, derivations: usize) -> Wanted
     }
 }
 
-/// Reads a document, to the end of the text: its protocol, then machines, then derivations, of each role one at most.
+/// Reads a document, to the end of the text: its protocol, then machines, then derivations, of each role one at most. A
+/// machine is written as a body of acts or as a table of its states; bodies and tables stand in any order.
 ///
 /// The error is the text's first fault. Of a role's second machine or second derivation it has the offset of that role;
 /// of what else stands behind the last part, that of its first token.

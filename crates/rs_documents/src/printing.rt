@@ -2,11 +2,9 @@
 
 ghost use Rattle.std.specs.Prelude.{◌≡◌, ◌≤◌, ◌++◌, length, IfOk, IfSome, OnOk};
 ghost use Rattle.rs_derivations.specs.Printable.{IsPrintable};
-ghost use Rattle.rs_documents.specs.Canonical.{ArePrintable, AreShown, CanBeShown, derivations_text, own_text, IsCanonicalDocument, IsLineBehind, IsMachineBehind, CanBePrinted, IsShownBehind};
+ghost use Rattle.rs_documents.specs.Canonical.{ArePrintable, AreShown, CanBeShown, CanBeWritten, derivations_text, own_text, IsCanonicalDocument, IsLineBehind, IsMachineBehind, IsOwnText, CanBePrinted, IsShownBehind};
 ghost use Rattle.rs_global.specs.Canonical.{IsTextShaped};
 ghost use Rattle.rs_global.specs.Enough.{AreEnough};
-ghost use Rattle.rs_machines.specs.Canonical.{IsMachineTextShaped};
-ghost use Rattle.rs_machines.specs.Enough.{AreEnoughFor};
 ghost use Rattle.rs_model.specs.declared.limits.TheConstants.{MOST_ROLES};
 ghost use Rattle.rs_text.specs.Sound.{IsSound};
 
@@ -14,8 +12,9 @@ use crate::documents::Document;
 use rs_derivations::print_derivation;
 use rs_derive::Derivation;
 use rs_global::print_protocol;
-use rs_machines::print_machine;
+use rs_machines::{machine_text_shaped, print_machine};
 use rs_model::{Machine, Names, NoMemory};
+use rs_tables::print_table;
 use rs_text::Text;
 use std::alloc::Global;
 
@@ -43,12 +42,24 @@ fn push_machine(
     machine: &Machine,
 ) -> Result<(), NoMemory>
     requires sound { IsSound names.now }
-    requires shaped { IsMachineTextShaped machine.now }
-    requires enough { AreEnoughFor names.now machine.now }
+    requires written { CanBeWritten names.now machine.now }
     ensures { OnOk result (IsMachineBehind names.now machine.now text.old text.new) }
 {
-    let line = print_machine(alloc, names, machine)?;
-    text.push(line.as_slice())
+    let own = machine_text(alloc, names, machine)?;
+    text.push(own.as_slice())
+}
+
+/// The line of the machine where some body of acts reads to it, and else its table.
+fn machine_text(alloc: Global, names: &Names, machine: &Machine) -> Result<Text, NoMemory>
+    requires sound { IsSound names.now }
+    requires written { CanBeWritten names.now machine.now }
+    ensures { IfOk result (IsOwnText names.now machine.now) }
+{
+    if machine_text_shaped(machine) {
+        print_machine(alloc, names, machine)
+    } else {
+        print_table(alloc, names, machine)
+    }
 }
 
 /// Appends the canonical texts of the machines that are there.
@@ -107,8 +118,9 @@ fn push_derivations(
     Ok(())
 }
 
-/// The canonical text of the document: the roles line, the protocol, a line for each machine that it has, and the lines
-/// of each derivation that it has.
+/// The canonical text of the document: the roles line, the protocol, the text of each machine that it has, and the lines
+/// of each derivation that it has. A machine's text is one line with its body of acts, where some body reads to the
+/// machine, and else the table of its states.
 pub fn print_document(alloc: Global, document: &Document) -> Result<Text, NoMemory>
     requires shown { CanBeShown document.now }
     ensures { IfOk result (IsCanonicalDocument document.now) }

@@ -6,7 +6,6 @@ pub mod Spells
 pub mod Read
 pub mod Faults
 pub mod Answers
-pub mod Tables
 pub mod Examples
 pub mod MachineFaults
 pub mod Named

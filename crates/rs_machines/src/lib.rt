@@ -1,4 +1,4 @@
-//! The reader and the printer of machines, and the tables that machines are printed as.
+//! The reader and the printer of machines.
 #![tactic(auto)]
 
 pub mod canonical_laws;
@@ -9,10 +9,8 @@ mod printing;
 pub mod printing_laws;
 mod shapes;
 pub mod spelling_laws;
-mod tables;
 
 pub use machines::read_machine;
 pub use printing::print_machine;
 pub use rs_bodies::Mark;
 pub use shapes::machine_text_shaped;
-pub use tables::print_table;

@@ -5,10 +5,10 @@ ghost use Rattle.rs_text.specs.Sound.{IsSound};
 ghost use Rattle.rs_machines.specs.Canonical.{IsCanonicalMachineText, IsMachineTextShaped};
 ghost use Rattle.rs_machines.specs.Enough.{AreEnoughFor};
 
-use crate::tables::push_name;
 use rs_bodies::print_body;
 use rs_model::{Machine, Names, NoMemory};
 use rs_text::Text;
+use rs_text::shown::push_name;
 use std::alloc::Global;
 
 /// Prints the canonical text of a machine: one line, with its role and its body.

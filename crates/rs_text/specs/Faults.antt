@@ -22,6 +22,7 @@ kind_number kind.TooManyLabels = 10
 kind_number kind.BadByte = 11
 kind_number kind.NumberTooLarge = 12
 kind_number kind.NameTooLong = 13
+kind_number kind.TooManyActs = 14
 
 -- the fault of a text with a faulty token
 abbrev pub kind_of : FaultKind → TextKind
@@ -46,11 +47,22 @@ wanted_text wanted.SortOrCloseParen = codes "sort or )"
 wanted_text wanted.CloseParen = codes ")"
 wanted_text wanted.CommaOrCloseBrace = codes ", or }"
 wanted_text wanted.Colon = codes ":"
-wanted_text wanted.PartOrEnd = codes "machine, derivation or the end"
+wanted_text wanted.PartOrEnd = codes "machine, table, derivation or the end"
+wanted_text wanted.State = codes "state"
+wanted_text wanted.StateOrCloseBrace = codes "state or }"
+wanted_text wanted.RoleOrEnd = codes "role or end"
+wanted_text wanted.NextState = codes "next state"
 wanted_text wanted.DerivationOrEnd = codes "derivation or the end"
+wanted_text wanted.BoundOrFormat = codes "bound or format"
+wanted_text wanted.FormatNumber = codes "2"
 wanted_text wanted.Bound = codes "bound"
 wanted_text wanted.BoundNumber = codes "number from 1 to 64"
 wanted_text wanted.OpenBrace = codes "{"
+wanted_text wanted.PendingOrNode = codes "pending or node"
+wanted_text wanted.PendingNumber = codes "pending number"
+wanted_text wanted.CommaPendingOrNode = codes ", pending or node"
+wanted_text wanted.With = codes "with"
+wanted_text wanted.Above = codes "above"
 wanted_text wanted.Node = codes "node"
 wanted_text wanted.NodeOrCloseBrace = codes "node or }"
 wanted_text wanted.Number = codes "number"

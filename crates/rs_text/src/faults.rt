@@ -36,18 +36,40 @@ pub enum Wanted {
     CloseParen,
     /// Behind an arm within braces.
     CommaOrCloseBrace,
-    /// Behind a machine's role, and behind a node's number.
+    /// Behind a machine's role, and behind the number of a node or of a pending list.
     Colon,
-    /// Behind the protocol or a machine.
+    /// Behind the protocol, a machine or a table.
     PartOrEnd,
+    /// The first row of a table.
+    State,
+    /// Behind a row of a table.
+    StateOrCloseBrace,
+    /// Behind the number of a row.
+    RoleOrEnd,
+    /// Behind `)` of an arm of a row.
+    NextState,
     /// Behind a derivation.
     DerivationOrEnd,
     /// Behind a derivation's role.
+    BoundOrFormat,
+    /// Behind `format`.
+    FormatNumber,
+    /// Behind the number of a format.
     Bound,
     /// Behind `bound`.
     BoundNumber,
-    /// Behind the bound.
+    /// Behind the bound, behind a table's role, and behind the mark of a row.
     OpenBrace,
+    /// Behind the `{` of a derivation in format 2.
+    PendingOrNode,
+    /// Behind `pending`, and behind `with`.
+    PendingNumber,
+    /// Behind an act of a pending list.
+    CommaPendingOrNode,
+    /// Behind a node's state, in format 2.
+    With,
+    /// Behind the number of a node's pending list.
+    Above,
     /// The first node of a derivation.
     Node,
     /// Behind a node of a derivation.
@@ -66,7 +88,7 @@ pub enum Wanted {
     Next,
     /// Behind the `[` of the nexts.
     NumberOrCloseBracket,
-    /// Behind the role of an act.
+    /// Behind the role of an act or of a row.
     Mark,
 }
 
@@ -91,11 +113,22 @@ impl Wanted {
             Wanted::CloseParen => ")",
             Wanted::CommaOrCloseBrace => ", or }",
             Wanted::Colon => ":",
-            Wanted::PartOrEnd => "machine, derivation or the end",
+            Wanted::PartOrEnd => "machine, table, derivation or the end",
+            Wanted::State => "state",
+            Wanted::StateOrCloseBrace => "state or }",
+            Wanted::RoleOrEnd => "role or end",
+            Wanted::NextState => "next state",
             Wanted::DerivationOrEnd => "derivation or the end",
+            Wanted::BoundOrFormat => "bound or format",
+            Wanted::FormatNumber => "2",
             Wanted::Bound => "bound",
             Wanted::BoundNumber => "number from 1 to 64",
             Wanted::OpenBrace => "{",
+            Wanted::PendingOrNode => "pending or node",
+            Wanted::PendingNumber => "pending number",
+            Wanted::CommaPendingOrNode => ", pending or node",
+            Wanted::With => "with",
+            Wanted::Above => "above",
             Wanted::Node => "node",
             Wanted::NodeOrCloseBrace => "node or }",
             Wanted::Number => "number",
@@ -125,7 +158,7 @@ pub enum TextKind {
     TooDeep,
     /// The 17th role.
     TooManyRoles,
-    /// One talk, act or node more than the limit.
+    /// One talk, act, row or node more than the limit.
     TooManyNodes,
     /// Memory that was asked for was refused.
     NoMemory,
@@ -139,6 +172,8 @@ pub enum TextKind {
     NumberTooLarge,
     /// A word of more than 64 bytes.
     NameTooLong,
+    /// The 65th act of a pending list.
+    TooManyActs,
 }
 
 /// The first fault of a text, and the offset of its token.

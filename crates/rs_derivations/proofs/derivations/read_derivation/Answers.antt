@@ -4,7 +4,8 @@ use Rattle.rs_text.proofs.Keeping.{refused, told_within}
 use Rattle.rs_derivations.specs.Feeding.{start_of_derivation, feeding}
 use Rattle.rs_derivations.proofs.Judged.{judges, begins}
 use Rattle.rs_derivations.proofs.Placing.{stays_below}
-use Rattle.rs_derivations.proofs.Spelt.{begins_with, reads_spelt, spelt_printable}
+use Rattle.rs_derivations.proofs.Spelt.{begins_with, reads_spelt}
+use Rattle.rs_derivations.proofs.Writable.{spelt_printable}
 use Rattle.rs_derivations.proofs.derivations.read_derivation.Goals as goal
 
 pub returns-in-Ok-clause-ok : goal.returns-in-Ok-clause-ok

@@ -1,9 +1,9 @@
 use Rattle.std.proofs.Common.{sym, ap, ◌∙◌}
-use Rattle.std.specs.Prelude.{codes}
 use Rattle.rs_model.specs.Data.{Machine_data, Names_data}
 use Rattle.rs_documents.specs.Parts.{machine_parts, no_parts}
 use Rattle.rs_documents.specs.Ready.{IsShort}
-use Rattle.rs_documents.proofs.Parts.{done, held_by, word_is}
+use Rattle.rs_documents.proofs.PartKinds.{machine_there, no_machine_there}
+use Rattle.rs_documents.proofs.Parts.{done, held_by}
 use Rattle.rs_documents.proofs.documents.read_machines.Goals as goal
 
 pub loop-alloc-init : goal.loop-alloc-init
@@ -16,10 +16,10 @@ loop-alloc-init c = (
 )
 
 pub add_machine-requires-clause-machine : goal.add_machine-requires-clause-machine
-add_machine-requires-clause-machine c = word_is (codes "machine") _ (sym c.loop-alloc-test.ensures)
+add_machine-requires-clause-machine c = machine_there _ (sym c.loop-alloc-test.ensures)
 
 pub returns-clause-ok : goal.returns-clause-ok
 returns-clause-ok c =
     done machine_parts c.args.bytes.now c.args.at c.args.names.now c.loop-alloc.names c.in-Ok.machines.items c.loop-alloc.machines.items c.loop-alloc.until
     (c.in-Ok.ensures ∙ ap no_parts (c.as_slice.ensures.value ∙ ap (λ (n : Names_data). n.roles) c.names.view_is))
-    c.loop-alloc.invariant.3 (sym c.loop-alloc-test.ensures)
+    c.loop-alloc.invariant.3 (no_machine_there _ (sym c.loop-alloc-test.ensures))

@@ -1,0 +1,15 @@
+pub mod ReadTables
+pub mod Grows
+pub mod Paths
+pub mod Changes
+pub mod Fitting
+pub mod Standings
+pub mod Judged
+pub mod Placing
+pub mod Sounding
+pub mod Writable
+pub mod Spelt
+pub mod NamesByPlace
+pub mod Printed
+pub mod Again
+pub mod TableFaults

@@ -1,0 +1,12 @@
+pub mod Trees
+pub mod Machines
+pub mod Spells
+pub mod Cuts
+pub mod Faults
+pub mod Tables
+pub mod Canonical
+pub mod Printable
+pub mod TableFaults
+pub mod Read
+pub mod Data
+pub mod Feeding
