@@ -95,7 +95,7 @@ no_derivation bound d ps ms u h why = go u.fault why
     go search.TooLarge (inr w) = inr (HasNoDerivation ps ms h u.role search.TooLarge w)
 
 -- the reason that is told, where one is
-of_err : {A : Type 0} (r : Result A Refusal) (why : Refusal) (P : Refusal → Type 0) → IsErrAnd r (λ e. e ≡ why) → P why → IfErr r P
+pub of_err : {A : Type 0} (r : Result A Refusal) (why : Refusal) (P : Refusal → Type 0) → IsErrAnd r (λ e. e ≡ why) → P why → IfErr r P
 of_err (Ok a) why P is h = tt
 of_err (Err e) why P is h = subst P (sym is) h
 

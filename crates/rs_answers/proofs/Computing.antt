@@ -104,6 +104,7 @@ refusal_isnt_fine names (refusal.IllFormed f) e = wf_isnt_fine names f e
 refusal_isnt_fine names (refusal.Unprojectable f) e = proj_isnt_fine names f e
 refusal_isnt_fine names (refusal.IllMachine role f) e = cc
 refusal_isnt_fine names (refusal.Underivable u) e = search_isnt_fine names u.role u.fault e
+refusal_isnt_fine names (refusal.Blamed role b) e = cc
 refusal_isnt_fine names refusal.NoMemory e = cc
 
 -- ---- the run

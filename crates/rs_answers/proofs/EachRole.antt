@@ -2,7 +2,7 @@
 use Rattle.std.proofs.Common.{min, drop, append-nil, slice_index_or, ◌≡◌, ◌⊎◌, ℕ, zero, suc, ◌+◌, ◌<◌, ◌≤◌, List, [], ◌∷◌, ◌++◌, length, Option, Some, None, refl, sym, ap, subst, ◌∙◌, inl, inr}
 use Rattle.std.proofs.Common.{arith, slice_get, length-append}
 use Rattle.rs_model.specs.Data.{Protocol_data, Machine_data}
-use Rattle.rs_model.specs.declared.limits.TheConstants.{MOST_ACTS, MOST_STATES}
+use Rattle.rs_model.specs.declared.limits.TheConstants.{MOST_STATES}
 use Rattle.rs_project.specs.Data.{Projection_data}
 use Rattle.rs_project.specs.Numbered.{IsNumberedProjection, AreFirstProjections, AreNumberedProjections}
 use Rattle.rs_project.specs.Projection.{AreProjections}
@@ -92,7 +92,7 @@ pub chosen_small : (own : List (Option Machine_data)) (projections : List Projec
 chosen_small [] projections short few k d lt = absurd (omega arith)
 chosen_small (x ∷ xs) [] short few k d lt = absurd (omega arith)
 chosen_small (x ∷ xs) (p ∷ ps) short few zero d lt =
-    small_one x p (λ m e. let a : length m.states ≤ MOST_ACTS + 1 = short 0 m (ap Some e) in omega arith) (let b : length p.machine.states ≤ MOST_STATES = few 0 p refl in omega arith)
+    small_one x p (λ m e. let a : length m.states ≤ MOST_STATES = short 0 m (ap Some e) in omega arith) (let b : length p.machine.states ≤ MOST_STATES = few 0 p refl in omega arith)
 chosen_small (x ∷ xs) (p ∷ ps) short few (suc k) d lt = chosen_small xs ps (λ j m e. short (suc j) m e) (λ j q e. few (suc j) q e) k d (omega arith)
 
 sizes : (own : List (Option Machine_data)) (d : Document_data) (projections : List Projection_data) → own ≡ d.machines → DocumentIsReady d → length d.names.roles ≡ d.protocol.roles

@@ -29,3 +29,4 @@ pub mod OneBesideSeveral
 pub mod Renumbered
 pub mod SmallNumbers
 pub mod ReadAgain
+pub mod Migrated

@@ -21,6 +21,7 @@ use Rattle.rs_answers.specs.Refusals.{HasNoDerivations, HasNoSession, IsIllForme
 use Rattle.rs_answers.specs.declared.refusals.Refusal.{Refusal}
 use Rattle.rs_answers.specs.declared.refusals.Refusal.TheVariants as refusal
 use Rattle.rs_answers.specs.Sessions.{HasMachines, HasProjections, IsUnprojectable, MachineRefusal, first_refusal, machines_of}
+use Rattle.rs_answers.specs.Verifying.{HasNone, IsBlamed, IsUnverified, IsVerified, RoleBlame, first_blame}
 use Rattle.rs_project.proofs.OneProjection.{not_both_shown, one_projection}
 use Rattle.rs_project.proofs.OneAnswer.{one_refusal_shown}
 
@@ -190,3 +191,23 @@ pub not_refused : (bound : ℕ) (d : Document_data) (ps : List Projection_data) 
     → HasNoDerivations bound d r → ⊥
 not_refused bound d ps ms ds r h f (IsWithoutSession q k) = has_a_session d ps ms r h k
 not_refused bound d ps ms ds r h f (HasNoDerivation qs ns k role g u) = not_session_derived bound d ps qs ms ns ds role g h k f u
+
+-- whom a document blames is one
+same_blame : (d : Document_data) (ps qs : List Projection_data) (ms ns : List Machine_data) → HasMachines d ps ms → HasMachines d qs ns
+    → first_blame 0 d.derivations ms ps ≡ first_blame 0 d.derivations ns qs
+same_blame d ps qs ms ns h k =
+    let same = same_session d ps qs ms ns h k in
+    ap (λ z. first_blame 0 d.derivations z ps) same.1 ∙ ap (λ z. first_blame 0 d.derivations ns z) same.0
+
+-- there is one reason why a document isn't verified, and none where it is
+pub one_unverified : (d : Document_data) (r s : Refusal) → IsUnverified d r → IsUnverified d s → r ≡ s
+one_unverified d r s (HasNone p h) (HasNone q k) = one_reason d r s h k
+one_unverified d r s (HasNone p h) (IsBlamed qs ns k w f) = absurd (has_a_session d qs ns r k h)
+one_unverified d r s (IsBlamed ps ms h v e) (HasNone q k) = absurd (has_a_session d ps ms s h k)
+one_unverified d r s (IsBlamed ps ms h v e) (IsBlamed qs ns k w f) =
+    let same : Some v ≡ Some w = sym e ∙ same_blame d ps qs ms ns h k ∙ f in
+    ap (λ (z : RoleBlame). refusal.Blamed z.role z.blame) (same_Some v w same)
+
+pub not_unverified : (d : Document_data) (ps : List Projection_data) (ms : List Machine_data) (r : Refusal) → IsVerified d ps ms → IsUnverified d r → ⊥
+not_unverified d ps ms r h (HasNone q k) = has_a_session d ps ms r h.has k
+not_unverified d ps ms r h (IsBlamed qs ns k w f) = let clash : None ≡ Some w = sym h.none ∙ same_blame d ps qs ms ns h.has k ∙ f in absurd cc

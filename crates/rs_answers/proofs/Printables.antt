@@ -34,6 +34,7 @@ use Rattle.rs_project.specs.Projection.{LabelChoice, IsProjection, IsStateOf, Is
 use Rattle.rs_safety.specs.Sessions.{IsSession}
 use Rattle.rs_search.proofs.Accepted.{nodes_are_candidates}
 use Rattle.rs_search.proofs.Determined.{few_nodes}
+use Rattle.rs_search.proofs.Verdicts.{candidate_short}
 use Rattle.rs_search.specs.Canonical.{IsCanonical}
 use Rattle.rs_wellformed.specs.WellFormed.{IsWellFormed}
 use Rattle.rs_answers.specs.Checks.{with_derivations}
@@ -186,6 +187,11 @@ printable names pr role m j bound d wf enough few known is same within found =
       };
       labels = all_of (λ a. label_number a < length names.labels) (pending_acts d) (λ a h. (named a h).label);
       few_labels = omega (arith, labels, few);
+      short_lists = all_of (λ (n : DNode_data). length n.pending ≤ MOST_BOUND) d.nodes (λ n h.
+          let at = at_in d.nodes n h in
+          let short : length n.pending ≤ bound = candidate_short m j.machine bound (spot_of n) (nodes_are_candidates m j.machine bound d found.canonical at.0 n at.1) in
+          let most = within.1 in
+          omega (arith, short, most));
       bound = subst (λ (z : ℕ). (1 ≤ z) × (z ≤ MOST_BOUND)) (sym found.canonical.bound') within;
       some = first;
       nodes = nodes;

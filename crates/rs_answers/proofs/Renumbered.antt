@@ -375,14 +375,6 @@ module _ (f : ℕ → ℕ) where
       ap (λ (z : Label). record { label = z; sort = a.sort; next = a.next } ∷ map (arm_by f) arms) (label_stays a.label (u 0 a refl))
       ∙ ap (λ (z : List Arm). a ∷ z) (arms_stay arms (λ i x e. u (suc i) x e))
 
-  act_stays : (a : Act) → Stays (label_number a) → act_by f a ≡ a
-  act_stays (act.Puts r l so) u = ap (λ (z : Label). act.Puts r z so) (label_stays l u)
-  act_stays (act.Takes r l so) u = ap (λ (z : Label). act.Takes r z so) (label_stays l u)
-
-  acts_stay : (acts : List Act) → ActsUse Stays acts → map (act_by f) acts ≡ acts
-  acts_stay [] u = refl
-  acts_stay (a ∷ acts) u = ap (λ (z : Act). z ∷ map (act_by f) acts) (act_stays a (u 0 a refl)) ∙ ap (λ (z : List Act). a ∷ z) (acts_stay acts (λ i x e. u (suc i) x e))
-
   abbrev StateStays : State → Type 0
   StateStays Done = Unit {0}
   StateStays (Puts q arms) = ArmsUse Stays arms
@@ -404,12 +396,3 @@ module _ (f : ℕ → ℕ) where
 
   pub machine_stays : (m : Machine_data) → MachineUses Stays m → machine_by f m ≡ m
   machine_stays m u = ap (λ (z : List State). record { role = m.role; states = z; start = m.start }) (states_stay m.states (stays_at m u))
-
-  nodes_stay : (nodes : List DNode_data) → ((i : ℕ) (n : DNode_data) → slice_get nodes i ≡ Some n → ActsUse Stays n.pending) → map (node_by f) nodes ≡ nodes
-  nodes_stay [] u = refl
-  nodes_stay (n ∷ nodes) u =
-      ap (λ (z : List Act). record { state = n.state; pending = z; above = n.above; rank = n.rank; next = n.next } ∷ map (node_by f) nodes) (acts_stay n.pending (u 0 n refl))
-      ∙ ap (λ (z : List DNode_data). n ∷ z) (nodes_stay nodes (λ i x e. u (suc i) x e))
-
-  pub derivation_stays : (d : Derivation_data) → ((i : ℕ) (n : DNode_data) → slice_get d.nodes i ≡ Some n → ActsUse Stays n.pending) → derivation_by f d ≡ d
-  derivation_stays d u = ap (λ (z : List DNode_data). record { role = d.role; bound = d.bound; nodes = z }) (nodes_stay d.nodes u)

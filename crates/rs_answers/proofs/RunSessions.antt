@@ -133,6 +133,7 @@ fault_refuses bytes kind.TooManyLabels at = tt
 fault_refuses bytes kind.BadByte at = tt
 fault_refuses bytes kind.NumberTooLarge at = tt
 fault_refuses bytes kind.NameTooLong at = tt
+fault_refuses bytes kind.TooManyActs at = tt
 
 wf_refuses : (names : Names_data) (f : WfFault) → IsRefusing ((wf_answer names f).verdict)
 wf_refuses names (wf.SelfTalk n) = tt
@@ -158,6 +159,7 @@ refusal_refuses names (refusal.IllFormed f) = wf_refuses names f
 refusal_refuses names (refusal.Unprojectable f) = proj_refuses names f
 refusal_refuses names (refusal.IllMachine role f) = tt
 refusal_refuses names (refusal.Underivable u) = search_refuses names u.role u.fault
+refusal_refuses names (refusal.Blamed role b) = tt
 refusal_refuses names refusal.NoMemory = tt
 
 -- a refusal says nothing of a run

@@ -2,7 +2,7 @@
 use Rattle.std.proofs.Common.{◌≡◌, ◌⊎◌, ℕ, zero, suc, ◌+◌, true, false, List, [], ◌∷◌, length, Option, Some, None, Result, Ok, Err, refl, sym, ap, subst, ◌∙◌, inl, inr, arith, slice_get}
 use Rattle.std.specs.List.{list_all}
 use Rattle.std.specs.Option.{is_some}
-use Rattle.std.specs.Prelude.{IfOk, OnOk}
+use Rattle.std.specs.Prelude.{IfErr, IfOk, IsErrAnd, OnOk}
 use Rattle.std.proofs.lemmas.Option.{same_Some}
 use Rattle.rs_core.specs.Safety.{IsSafe}
 use Rattle.rs_derive.proofs.Whole.{no_fault, no_fault_back}
@@ -12,7 +12,7 @@ use Rattle.rs_derive.specs.Faults.{first_fault}
 use Rattle.rs_derive.specs.declared.faults.DeriveFault.{DeriveFault}
 use Rattle.rs_documents.specs.Data.{Document_data}
 use Rattle.rs_documents.specs.Ready.{DerivationsAreHeld, IsBounded}
-use Rattle.rs_model.specs.Data.{Machine_data, Protocol_data}
+use Rattle.rs_model.specs.Data.{Machine_data, Names_data, Protocol_data}
 use Rattle.rs_model.specs.declared.graph.Role.{Role}
 use Rattle.rs_model.specs.declared.memory.NoMemory.{NoMemory}
 use Rattle.rs_project.specs.Data.{Projection_data}
@@ -20,11 +20,12 @@ use Rattle.rs_safety.proofs.Accepts.{accepted_safe, machine_proper, projection_p
 use Rattle.rs_safety.specs.Accepting.{FirstRefused}
 use Rattle.rs_safety.specs.Sessions.{AreDerivations, AreOneEach, IsSession}
 use Rattle.rs_answers.specs.Data.{Answer_data}
-use Rattle.rs_answers.specs.RefusalTexts.{blame_answer}
+use Rattle.rs_answers.proofs.Answering.{of_err}
 use Rattle.rs_answers.specs.Refusals.{HasNoSession, refusal_answer}
-use Rattle.rs_answers.specs.Report.{report}
 use Rattle.rs_answers.specs.Sessions.{HasMachines}
-use Rattle.rs_answers.specs.Verifying.{AreCheckable, IsBlamed, IsRefused, IsVerified, RoleBlame, Verifies, blame_by, blame_of, blame_or, first_blame, those_there}
+use Rattle.rs_answers.specs.Verified.{BlamesFirst, IsUnverifiedDocument}
+use Rattle.rs_answers.specs.Verifying.{AreCheckable, HasNone, IsBlamed, IsUnverified, IsVerified, RoleBlame, blame_by, blame_of, blame_or, first_blame, those_there}
+use Rattle.rs_answers.specs.declared.accepting.RefusedDocument.{RefusedDocument}
 use Rattle.rs_answers.specs.declared.refusals.Refusal.{Refusal}
 use Rattle.rs_answers.specs.declared.refusals.Refusal.TheVariants as refusal
 use Rattle.rs_answers.specs.declared.verifying.Blame.{Blame}
@@ -55,11 +56,11 @@ there_many (None ∷ own) e = absurd (cc e)
 there_many (Some x ∷ own) e = ap suc (there_many own e)
 
 -- each derivation is there in its place
-there_at : (own : List (Option Derivation_data)) → list_all is_some own ≡ true → (p : ℕ) (d : Derivation_data) → slice_get (those_there own) p ≡ Some d → slice_get own p ≡ Some (Some d)
-there_at [] e p d h = absurd (cc h)
-there_at (None ∷ own) e p d h = absurd (cc e)
-there_at (Some x ∷ own) e zero d h = let same : x ≡ d = same_Some x d h in ap (λ z. Some (Some z)) same
-there_at (Some x ∷ own) e (suc p) d h = there_at own e p d h
+pub own_at : (own : List (Option Derivation_data)) → list_all is_some own ≡ true → (p : ℕ) (d : Derivation_data) → slice_get (those_there own) p ≡ Some d → slice_get own p ≡ Some (Some d)
+own_at [] e p d h = absurd (cc h)
+own_at (None ∷ own) e p d h = absurd (cc e)
+own_at (Some x ∷ own) e zero d h = let same : x ≡ d = same_Some x d h in ap (λ z. Some (Some z)) same
+own_at (Some x ∷ own) e (suc p) d h = own_at own e p d h
 
 abbrev Shows : Derivation_data → Machine_data → Projection_data → Type 0
 Shows d m j = IsDerivation d m j.machine × Remembers d m j.machine
@@ -77,21 +78,26 @@ there_shows n (Some x ∷ own) (y ∷ ms) (z ∷ js) e f g zero m j d hm hj h =
 there_shows n (Some x ∷ own) (y ∷ ms) (z ∷ js) e f g (suc p) m j d hm hj h =
     there_shows (suc n) own ms js (none_first (blame_of (Some x) y z) (record { 0 = n }) (first_blame (suc n) own ms js) e).1 (omega (arith, f)) (omega (arith, g)) p m j d hm hj h
 
+-- where none is blamed each role has its own
+pub each_is_there : (pr : Protocol_data) (own : List (Option Derivation_data)) (ms : List Machine_data) (js : List Projection_data) → IsSession pr js ms → length own ≡ pr.roles
+    → first_blame 0 own ms js ≡ None → list_all is_some own ≡ true
+each_is_there pr own ms js s size e = none_missing 0 own ms js e (size ∙ sym s.a_machine_each) (s.a_machine_each ∙ sym s.projected.many)
+
 -- the session's derivations
-are_derivations : (pr : Protocol_data) (own : List (Option Derivation_data)) (ms : List Machine_data) (js : List Projection_data) → IsSession pr js ms → length own ≡ pr.roles
+pub are_derivations : (pr : Protocol_data) (own : List (Option Derivation_data)) (ms : List Machine_data) (js : List Projection_data) → IsSession pr js ms → length own ≡ pr.roles
     → first_blame 0 own ms js ≡ None → AreDerivations ms js (those_there own)
 are_derivations pr own ms js s size e =
     let f : length own ≡ length ms = size ∙ sym s.a_machine_each in
     let g : length ms ≡ length js = s.a_machine_each ∙ sym s.projected.many in
-    record { many = there_many own (none_missing 0 own ms js e f g) ∙ f; each = there_shows 0 own ms js e f g }
+    record { many = there_many own (each_is_there pr own ms js s size e) ∙ f; each = there_shows 0 own ms js e f g }
 
 pub are_one_each : (pr : Protocol_data) (own : List (Option Derivation_data)) (roles : List (List ℕ)) → length roles ≡ pr.roles → DerivationsAreHeld roles own → list_all is_some own ≡ true
     → AreOneEach pr.roles (those_there own)
 are_one_each pr own roles size held all = record {
   many = there_many own all ∙ held.one_each ∙ size;
-  role = λ p d h. held.in_place p d (there_at own all p d h);
-  bound = λ p d h. (held.all p d (there_at own all p d h)).bound;
-  bounded = λ p d h. (let few = (held.all p d (there_at own all p d h)).bounded in omega (arith, few));
+  role = λ p d h. held.in_place p d (own_at own all p d h);
+  bound = λ p d h. (held.all p d (own_at own all p d h)).bound;
+  bounded = λ p d h. (let few = (held.all p d (own_at own all p d h)).bounded in omega (arith, few));
 }
 
 -- where all show that their machines may stand for their projections, none is blamed
@@ -182,26 +188,39 @@ pub verified_safe : (pr : Protocol_data) (own : List (Option Derivation_data)) (
     → first_blame 0 own ms js ≡ None → IsSafe ms
 verified_safe pr own ms js s size e = accepted_safe pr js ms (those_there own) s (are_derivations pr own ms js s size e)
 
--- there is an answer
-pub some_verifying : (d : Document_data) (ps : List Projection_data) (ms : List Machine_data) → HasMachines d ps ms → (o : Option RoleBlame) → first_blame 0 d.derivations ms ps ≡ o
-    → (a : Answer_data) × Verifies d a
-some_verifying d ps ms h (Some b) e = (blame_answer d.names b.role b.blame, IsBlamed ps ms h b e refl)
-some_verifying d ps ms h None e = (report d.names.roles (those_there d.derivations), IsVerified ps ms h e refl)
+-- whether the document's own derivations pass
+pub data Tested (d : Document_data) : Type 0 where
+  Passes : (ps : List Projection_data) (ms : List Machine_data) → IsVerified d ps ms → Tested d
+  Fails : (why : Refusal) → IsUnverified d why → Tested d
 
--- the answers that are made
-pub verify_refused : (d : Document_data) (why : Refusal) (r : Result Answer_data NoMemory) → (why ≡ refusal.NoMemory) ⊎ HasNoSession d why → IfOk r (λ a. a ≡ refusal_answer d.names why)
-    → OnOk r (why ≡ refusal.NoMemory → ⊥) → IfOk r (Verifies d)
-verify_refused d why (Err e) h is never = tt
-verify_refused d why (Ok a) (inl memory) is never = absurd (never memory)
-verify_refused d why (Ok a) (inr h) is never = IsRefused why h is
+pub tested_by : (d : Document_data) (ps : List Projection_data) (ms : List Machine_data) → HasMachines d ps ms → Tested d
+tested_by d ps ms h = go (first_blame 0 d.derivations ms ps) refl
+  where
+    go : (o : Option RoleBlame) → first_blame 0 d.derivations ms ps ≡ o → Tested d
+    go (Some b) e = Fails (refusal.Blamed b.role b.blame) (IsBlamed ps ms h b e)
+    go None e = Passes ps ms (record { has = h; none = e })
 
-pub verify_blamed : (d : Document_data) (ps : List Projection_data) (ms : List Machine_data) (role : Role) (b : Blame) (r : Result Answer_data NoMemory) → HasMachines d ps ms
-    → first_blame 0 d.derivations ms ps ≡ Some (record { role = role; blame = b })
-    → IfOk r (λ a. a ≡ blame_answer d.names role b) → IfOk r (Verifies d)
-verify_blamed d ps ms role b (Err e) h f is = tt
-verify_blamed d ps ms role b (Ok a) h f is = IsBlamed ps ms h (record { role = role; blame = b }) f is
+-- what is answered to a document that is refused
+pub told_why : (d : Document_data) (e : RefusedDocument) (r : Result Answer_data NoMemory) → IsUnverifiedDocument d e → IfOk r (λ a. a ≡ refusal_answer e.names e.refusal)
+    → OnOk r (e.refusal ≡ refusal.NoMemory → ⊥) → IfOk r (λ a. IsUnverified d e.refusal × (a ≡ refusal_answer d.names e.refusal))
+told_why d e (Err x) h is never = tt
+told_why d e (Ok a) h is never = elim h.why [
+  | inl memory ↦ absurd (never memory)
+  | inr why ↦ (why, is ∙ ap (λ (n : Names_data). refusal_answer n e.refusal) h.names)
+]
 
-pub verify_fine : (d : Document_data) (ps : List Projection_data) (ms : List Machine_data) (r : Result Answer_data NoMemory) → HasMachines d ps ms → first_blame 0 d.derivations ms ps ≡ None
-    → IfOk r (λ a. a ≡ report d.names.roles (those_there d.derivations)) → IfOk r (Verifies d)
-verify_fine d ps ms (Err e) h f is = tt
-verify_fine d ps ms (Ok a) h f is = IsVerified ps ms h f is
+-- whom equal lists blame is one
+pub blame_same : (own own' : List (Option Derivation_data)) (ms ms' : List Machine_data) (ps ps' : List Projection_data) → own ≡ own' → ms ≡ ms' → ps ≡ ps'
+    → first_blame 0 own ms ps ≡ first_blame 0 own' ms' ps'
+blame_same own own' ms ms' ps ps' e f g = ap (λ z. first_blame 0 z ms ps) e ∙ ap (λ z. first_blame 0 own' z ps) f ∙ ap (λ z. first_blame 0 own' ms' z) g
+
+-- the reasons that are told
+pub blamed_is_why : (d : Document_data) (ps : List Projection_data) (ms : List Machine_data) (why : Refusal) → HasMachines d ps ms → BlamesFirst d.derivations ms ps why
+    → (why ≡ refusal.NoMemory) ⊎ IsUnverified d why
+blamed_is_why d ps ms why h (inl memory) = inl memory
+blamed_is_why d ps ms why h (inr b) = inr (subst (IsUnverified d) (sym b.2) (IsBlamed ps ms h b.0 b.1))
+
+pub tells_no_session : {A : Type 0} (d : Document_data) (why : Refusal) (r : Result A Refusal) → IsErrAnd r (λ e. e ≡ why) → (why ≡ refusal.NoMemory) ⊎ HasNoSession d why
+    → IfErr r (λ e. (e ≡ refusal.NoMemory) ⊎ IsUnverified d e)
+tells_no_session d why r is (inl memory) = of_err r why (λ e. (e ≡ refusal.NoMemory) ⊎ IsUnverified d e) is (inl memory)
+tells_no_session d why r is (inr h) = of_err r why (λ e. (e ≡ refusal.NoMemory) ⊎ IsUnverified d e) is (inr (HasNone why h))

@@ -6,6 +6,7 @@ pub mod Demos
 pub mod Derivations
 pub mod Lines
 pub mod Machines
+pub mod Migrates
 pub mod Pools
 pub mod Ready
 pub mod RefusalTexts
@@ -19,4 +20,5 @@ pub mod SpeltFaults
 pub mod Tables
 pub mod Texts
 pub mod TranscriptTexts
+pub mod Verified
 pub mod Verifying

@@ -6,7 +6,7 @@ use Rattle.rs_model.specs.declared.checks.MachineFault.{MachineFault}
 use Rattle.rs_model.specs.declared.checks.MachineFault.TheVariants as bad
 use Rattle.rs_model.specs.declared.graph.Label.{Label}
 use Rattle.rs_model.specs.declared.graph.Role.{Role}
-use Rattle.rs_machines.specs.Tables.{name_at}
+use Rattle.rs_text.specs.NamePlaces.{name_at}
 use Rattle.rs_text.specs.Faults.{wanted_text}
 use Rattle.rs_text.specs.Places.{line_of, column_of}
 use Rattle.rs_text.specs.declared.faults.TextKind.{TextKind}
@@ -75,6 +75,7 @@ fault_answer bytes kind.TooManyLabels at = too_large (codes "labels")
 fault_answer bytes kind.BadByte at = text_at_place bytes at (codes "bad byte")
 fault_answer bytes kind.NumberTooLarge at = text_at_place bytes at (codes "number too large")
 fault_answer bytes kind.NameTooLong at = too_large (codes "name")
+fault_answer bytes kind.TooManyActs at = too_large (codes "acts")
 
 -- the name of a label
 abbrev pub label_name : Names_data → Label → List ℕ
@@ -108,13 +109,13 @@ proj_answer names (proj.Unreached role node) =
 proj_answer names (proj.TooManyStates role) = too_large (joined_texts (codes "projection " ∷ role_name names role ∷ []))
 proj_answer names proj.NoMemory = unprojectable [] []
 
--- what is wrong at a state. What a text spells has arms everywhere, leads to its own states and knows its peers
--- (`faults_of_spelt_machines`): the last three lines are never written
+-- what is wrong at a state. What a text spells has arms everywhere and knows its peers (`faults_of_spelt_machines`,
+-- `faults_of_spelt_tables`): the last two lines are never written
 abbrev pub state_text : Names_data → MachineFault → List ℕ
 state_text names (bad.TwiceLabel s label) = joined_texts (codes "label " ∷ label_name names label ∷ codes " twice at state " ∷ decimal s ∷ [])
 state_text names (bad.SelfPeer s) = joined_texts (codes "state " ∷ decimal s ∷ codes " talks to itself" ∷ [])
+state_text names (bad.BadNext s) = joined_texts (codes "no such state at state " ∷ decimal s ∷ [])
 state_text names (bad.NoArms s) = joined_texts (codes "no arms at state " ∷ decimal s ∷ [])
-state_text names (bad.BadNext s) = joined_texts (codes "bad next at state " ∷ decimal s ∷ [])
 state_text names (bad.UnknownPeer s) = joined_texts (codes "unknown peer at state " ∷ decimal s ∷ [])
 
 -- what is answered to a machine that isn't well formed, by its role and its first fault

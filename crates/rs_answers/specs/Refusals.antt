@@ -12,7 +12,7 @@ use Rattle.rs_wellformed.specs.declared.checks.WfFault.{WfFault}
 use Rattle.rs_documents.specs.Data.{Document_data}
 use Rattle.rs_answers.specs.Data.{Answer_data}
 use Rattle.rs_answers.specs.Derivations.{IsUnderivable}
-use Rattle.rs_answers.specs.RefusalTexts.{wf_answer, proj_answer, machine_answer, search_answer, refused_answer}
+use Rattle.rs_answers.specs.RefusalTexts.{wf_answer, proj_answer, machine_answer, search_answer, blame_answer, refused_answer}
 use Rattle.rs_answers.specs.Sessions.{HasMachines, HasProjections, IsUnprojectable, MachineRefusal, first_refusal, machines_of}
 use Rattle.rs_answers.specs.declared.refusals.Refusal.{Refusal}
 use Rattle.rs_answers.specs.declared.refusals.Refusal.TheVariants as refusal
@@ -54,4 +54,5 @@ refusal_answer names (refusal.IllFormed fault) = wf_answer names fault
 refusal_answer names (refusal.Unprojectable fault) = proj_answer names fault
 refusal_answer names (refusal.IllMachine role fault) = machine_answer names role fault
 refusal_answer names (refusal.Underivable underivable) = search_answer names underivable.role underivable.fault
+refusal_answer names (refusal.Blamed role blame) = blame_answer names role blame
 refusal_answer names refusal.NoMemory = refused_answer [] []

@@ -1,7 +1,7 @@
 -- Public: what `project` answers to a document.
 use Rattle.std.specs.Prelude.{◌≡◌, ℕ, List, Some, None}
 use Rattle.std.specs.List.{flat_map}
-use Rattle.rs_machines.specs.Tables.{table_of}
+use Rattle.rs_tables.specs.Tables.{table_of}
 use Rattle.rs_model.specs.Data.{Names_data}
 use Rattle.rs_model.specs.declared.graph.Role.{Role}
 use Rattle.rs_project.specs.Data.{Projection_data}

@@ -11,11 +11,11 @@ use Rattle.rs_model.specs.Data.{Machine_data}
 use Rattle.rs_model.specs.declared.graph.Role.{Role}
 use Rattle.rs_project.specs.Data.{Projection_data}
 use Rattle.rs_answers.specs.Data.{Answer_data}
-use Rattle.rs_answers.specs.RefusalTexts.{blame_answer}
 use Rattle.rs_answers.specs.Refusals.{HasNoSession, refusal_answer}
 use Rattle.rs_answers.specs.Report.{report}
 use Rattle.rs_answers.specs.Sessions.{HasMachines}
 use Rattle.rs_answers.specs.declared.refusals.Refusal.{Refusal}
+use Rattle.rs_answers.specs.declared.refusals.Refusal.TheVariants as refusal
 use Rattle.rs_answers.specs.declared.verifying.Blame.{Blame}
 use Rattle.rs_answers.specs.declared.verifying.Blame.TheVariants as blame
 
@@ -57,16 +57,26 @@ there (Some derivation) = derivation ∷ []
 abbrev pub those_there : List (Option Derivation_data) → List Derivation_data
 those_there own = flat_map there own
 
--- one of these applies
-pub data Verifies (d : Document_data) (answer : Answer_data) : Type 0 where
-  -- the document has no session
-  IsRefused : (refusal : Refusal) → HasNoSession d refusal → answer ≡ refusal_answer d.names refusal → Verifies d answer
+-- why the document isn't verified: the first of these that applies
+pub data IsUnverified (d : Document_data) : Refusal → Type 0 where
+  -- it has no session
+  HasNone : (refusal : Refusal) → HasNoSession d refusal → IsUnverified d refusal
   -- some role's own derivation doesn't show that its machine may stand for its projection
   IsBlamed : (projections : List Projection_data) (machines : List Machine_data) → HasMachines d projections machines
-      → (b : RoleBlame) → first_blame 0 d.derivations machines projections ≡ Some b → answer ≡ blame_answer d.names b.role b.blame → Verifies d answer
-  -- all do, and the session is accepted by them
-  IsVerified : (projections : List Projection_data) (machines : List Machine_data) → HasMachines d projections machines
-      → first_blame 0 d.derivations machines projections ≡ None → answer ≡ report d.names.roles (those_there d.derivations) → Verifies d answer
+      → (b : RoleBlame) → first_blame 0 d.derivations machines projections ≡ Some b → IsUnverified d (refusal.Blamed b.role b.blame)
+
+-- it is verified: its own derivations show that these machines may stand for these projections
+pub record IsVerified (d : Document_data) (projections : List Projection_data) (machines : List Machine_data) : Type 0 where
+  pub has : HasMachines d projections machines
+  pub none : first_blame 0 d.derivations machines projections ≡ None
+
+-- one of these applies
+pub data Verifies (d : Document_data) (answer : Answer_data) : Type 0 where
+  -- the document is refused
+  IsRefused : (refusal : Refusal) → IsUnverified d refusal → answer ≡ refusal_answer d.names refusal → Verifies d answer
+  -- its session is accepted
+  IsReported : (projections : List Projection_data) (machines : List Machine_data) → IsVerified d projections machines
+      → answer ≡ report d.names.roles (those_there d.derivations) → Verifies d answer
 
 -- what the checker asks of its arguments
 pub record IsCheckable (own : Option Derivation_data) (machine : Machine_data) (projection : Projection_data) : Type 0 where

@@ -1,7 +1,9 @@
 //! Laws about the definitions: each function does nothing, and its contract is the law.
 
-ghost use Rattle.std.specs.Prelude.{◌≡◌, ℕ, ◌≤◌, true, false, List, Some, None, slice_get, Option, length};
+ghost use Rattle.std.specs.Prelude.{◌≡◌, ◌↔◌, ℕ, ◌≤◌, true, false, List, Some, None, slice_get, Option, length};
 ghost use Rattle.rs_derive.specs.Data.{Derivation_data};
+ghost use Rattle.rs_documents.specs.Again.{document_by_labels, labels_of_text};
+ghost use Rattle.rs_documents.specs.Canonical.{IsCanonicalDocument};
 ghost use Rattle.rs_documents.specs.Data.{Document_data};
 ghost use Rattle.rs_documents.specs.Documents.{SpellsDocument};
 ghost use Rattle.rs_model.specs.Data.{Machine_data, Names_data, Protocol_data};
@@ -13,6 +15,7 @@ ghost use Rattle.rs_documents.specs.Ready.{DocumentIsReady};
 ghost use Rattle.rs_answers.specs.Checks.{Checks};
 ghost use Rattle.rs_answers.specs.Derivations.{IsUnderivable, AreCanonical};
 ghost use Rattle.rs_answers.specs.Sessions.{HasMachines};
+ghost use Rattle.rs_answers.specs.Migrates.{Migrates};
 ghost use Rattle.rs_answers.specs.Verifying as verifying;
 ghost use Rattle.rs_global.specs.Spells.{SpellsProtocol};
 ghost use Rattle.rs_wellformed.specs.Faults.{first_fault};
@@ -55,6 +58,23 @@ pub fn what_verifies_is_found()
 pub fn printed_derivations_are_verified()
     ensures { (bound : ℕ) (bytes : List ℕ) (d : Document_data) (printed told : Answer_data) → IsBound bound → SpellsDocument bytes d → DocumentIsReady d → Checks bound true d printed
         → Checks bound false d told → told.verdict ≡ Fine → (e : Document_data) × SpellsDocument printed.text e × verifying.Verifies e told }
+{}
+
+/// The answer of `migrate` to a document is fine exactly where that of `verify` is, and else both answers are one.
+pub fn migrate_refuses_as_verify_does()
+    ensures fine { (d : Document_data) (migrated told : Answer_data) → Migrates d migrated → verifying.Verifies d told → (migrated.verdict ≡ Fine) ↔ (told.verdict ≡ Fine) }
+    ensures refused { (d : Document_data) (migrated told : Answer_data) → Migrates d migrated → verifying.Verifies d told → (told.verdict ≡ Fine → ⊥) → migrated ≡ told }
+{}
+
+/// What `migrate` prints of a document is read again as the same document with the same derivations, but for the numbers of
+/// labels. To that text `verify` answers what it does to the document, and `migrate` prints it again.
+pub fn migrated_text_is_read_again()
+    ensures same { (bytes : List ℕ) (d : Document_data) (printed : Answer_data) → SpellsDocument bytes d → Migrates d printed → printed.verdict ≡ Fine
+        → (canonical : IsCanonicalDocument d printed.text) × SpellsDocument printed.text (document_by_labels d (labels_of_text d printed.text canonical)) }
+    ensures verified { (bytes : List ℕ) (d : Document_data) (printed : Answer_data) → SpellsDocument bytes d → Migrates d printed → printed.verdict ≡ Fine
+        → (e : Document_data) (told : Answer_data) → SpellsDocument printed.text e → verifying.Verifies d told → verifying.Verifies e told }
+    ensures migrated { (bytes : List ℕ) (d : Document_data) (printed : Answer_data) → SpellsDocument bytes d → Migrates d printed → printed.verdict ≡ Fine
+        → (e : Document_data) → SpellsDocument printed.text e → Migrates e printed }
 {}
 
 /// In a run over rings that hold as many messages as the room of the session says, some role can always move until all

@@ -1,4 +1,4 @@
-//! What `check`, `verify`, `show`, `project` and `run` answer to a document, and `demo` to its data.
+//! What `check`, `verify`, `migrate`, `show`, `project` and `run` answer to a document, and `demo` to its data.
 #![tactic(auto)]
 
 mod accepting;
@@ -9,6 +9,7 @@ mod derivations;
 pub mod laws;
 mod limits;
 mod lines;
+mod migrating;
 mod ready;
 mod refusal_texts;
 mod refusals;
@@ -29,6 +30,7 @@ pub use checks::{check, check_with_derivations};
 pub use demos::ready_demo;
 pub use derivations::{DerivedSession, Underivable, derivations_of, derived_session};
 pub use limits::DEMO_LIMIT;
+pub use migrating::migrate;
 pub use ready::{Prepared, Ready};
 pub use refusal_texts::{answer_to_fault, line_of_answer, too_large, too_small, usage};
 pub use refusals::{Refusal, refusal_answer};

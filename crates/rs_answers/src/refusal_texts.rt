@@ -1,7 +1,7 @@
 //! The answers that refuse, by the reason.
 
 ghost use Rattle.std.specs.Prelude.{◌≡◌, ◌≤◌, IfOk, OnOk, codes, length};
-ghost use Rattle.rs_machines.specs.Tables.{name_at};
+ghost use Rattle.rs_text.specs.NamePlaces.{name_at};
 ghost use Rattle.rs_text.specs.declared.faults.TextKind.TheVariants as kind;
 ghost use Rattle.rs_answers.specs.RefusalTexts as spec;
 ghost use Rattle.rs_answers.specs.Texts as texts;
@@ -140,6 +140,7 @@ fn fault_answer(alloc: Global, bytes: &[u8], fault: TextFault) -> Result<Answer,
         TextKind::BadByte => text_at_place(alloc, bytes, fault.at, b"bad byte"),
         TextKind::NumberTooLarge => text_at_place(alloc, bytes, fault.at, b"number too large"),
         TextKind::NameTooLong => too_large(alloc, &[Words(b"name")]),
+        TextKind::TooManyActs => too_large(alloc, &[Words(b"acts")]),
     }
 }
 
@@ -292,13 +293,13 @@ fn state_text(alloc: Global, names: &Names, fault: MachineFault) -> Result<Text,
                 Words(b" talks to itself"),
             ],
         ),
+        MachineFault::BadNext { state } => text_of(
+            alloc,
+            &[Words(b"no such state at state "), Number(u64::from(state))],
+        ),
         MachineFault::NoArms { state } => text_of(
             alloc,
             &[Words(b"no arms at state "), Number(u64::from(state))],
-        ),
-        MachineFault::BadNext { state } => text_of(
-            alloc,
-            &[Words(b"bad next at state "), Number(u64::from(state))],
         ),
         MachineFault::UnknownPeer { state } => text_of(
             alloc,

@@ -5,7 +5,8 @@ ghost use Rattle.rs_answers.specs.Refusals as spec;
 
 use crate::answers::Answer;
 use crate::derivations::Underivable;
-use crate::refusal_texts::{machine_answer, proj_answer, search_answer, wf_answer};
+use crate::refusal_texts::{blame_answer, machine_answer, proj_answer, search_answer, wf_answer};
+use crate::verifying::Blame;
 use rs_model::{MachineFault, Names, NoMemory, Role};
 use rs_project::ProjFault;
 use rs_search::SearchFault;
@@ -23,6 +24,8 @@ pub enum Refusal {
     IllMachine { role: Role, fault: MachineFault },
     /// No derivation of a role's machine is found.
     Underivable(Underivable),
+    /// A role's own derivation doesn't show that its machine may stand for its projection.
+    Blamed { role: Role, blame: Blame },
     /// Memory was refused, and nothing is said of the document.
     NoMemory,
 }
@@ -89,6 +92,7 @@ pub fn refusal_answer(alloc: Global, names: &Names, refusal: Refusal) -> Result<
         Refusal::Underivable(underivable) => {
             search_answer(alloc, names, underivable.role, underivable.fault)
         }
+        Refusal::Blamed { role, blame } => blame_answer(alloc, names, role, blame),
         Refusal::NoMemory => Err(NoMemory),
     }
 }

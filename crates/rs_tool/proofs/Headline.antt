@@ -4,8 +4,10 @@ use Rattle.std.specs.Prelude.{IfSome}
 use Rattle.rs_core.specs.Safety.{IsSafe}
 use Rattle.rs_answers.proofs.Derivings.{canonical_safe, session_of}
 use Rattle.rs_documents.proofs.SpeltSessions.{spelt_session}
+use Rattle.rs_answers.specs.Migrates as migrating
+use Rattle.rs_answers.specs.Migrates.{Migrates}
 use Rattle.rs_answers.specs.Verifying as verifying
-use Rattle.rs_answers.specs.Verifying.{Verifies}
+use Rattle.rs_answers.specs.Verifying.{IsVerified, Verifies}
 use Rattle.rs_answers.proofs.Verified.{verified_safe}
 use Rattle.rs_documents.proofs.Spelt.{one_place_each, spelt_machines}
 use Rattle.rs_text.specs.declared.faults.TextKind.{TextKind}
@@ -43,7 +45,7 @@ use Rattle.rs_answers.specs.Runs.{Runs}
 use Rattle.rs_model.specs.declared.runs.RunOptions.{RunOptions}
 use Rattle.rs_model.specs.declared.runs.Workers.{Workers}
 use Rattle.rs_model.specs.declared.runs.Workers.TheVariants.{One, Several}
-use Rattle.rs_tool.specs.Tasks.{ReadTheInput, ReadsTheInput, SpellsCheck, SpellsRun, SpellsVerify}
+use Rattle.rs_tool.specs.Tasks.{ReadTheInput, ReadsTheInput, SpellsCheck, SpellsMigrate, SpellsRun, SpellsVerify}
 use Rattle.rs_words.specs.Meaning.{SpellsTask}
 use Rattle.rs_words.proofs.Exact.{words_spell_one_task}
 use Rattle.rs_tool.proofs.Answering.{if_told}
@@ -114,10 +116,10 @@ runs_with_are_safe : (options : RunOptions) (workers : Workers) (bytes : List �
 runs_with_are_safe options One bytes d a doc h run = run_is_safe options bytes d a doc h run
 runs_with_are_safe options (Several n) bytes d a doc h run = pool_is_safe options bytes d a doc h run
 
-verify_is_safe : (bytes : List ℕ) (d : Document_data) (a : Answer_data) → SpellsDocument bytes d → Verifies d a → IsOfRun (status_of a.verdict) → SpellsSafeMachines bytes
-verify_is_safe bytes d a doc (verifying.IsRefused r h is) run = absurd (no_run a _ is (refusal_is_no_run d.names r) run)
-verify_is_safe bytes d a doc (verifying.IsBlamed ps ms h b e is) run = absurd (no_run a _ is (λ e. e) run)
-verify_is_safe bytes d a doc (verifying.IsVerified ps ms h e is) run =
+-- machines whose document is verified are safe
+own_is_safe : (bytes : List ℕ) (d : Document_data) (ps : List Projection_data) (ms : List Machine_data) → SpellsDocument bytes d → IsVerified d ps ms → SpellsSafeMachines bytes
+own_is_safe bytes d ps ms doc verified =
+    let h = verified.has in
     let spelt = spelt_session bytes d doc in
     let spells = spelt_machines bytes d doc in
     let session = session_of d ps ms spelt h.projections_are.well_formed h.projections_are.projected h.machines_are h.well_formed in
@@ -129,8 +131,16 @@ verify_is_safe bytes d a doc (verifying.IsVerified ps ms h e is) run =
       well_formed = session.well_formed;
       projected = h.projections_are.projected;
       one_each = one_place_each bytes d.protocol d.machines spells;
-      safe = subst IsSafe h.machines_are (verified_safe d.protocol d.derivations ms ps session (spelt.a_derivation_each ∙ spelt.roles) e);
+      safe = subst IsSafe h.machines_are (verified_safe d.protocol d.derivations ms ps session (spelt.a_derivation_each ∙ spelt.roles) verified.none);
     }
+
+verify_is_safe : (bytes : List ℕ) (d : Document_data) (a : Answer_data) → SpellsDocument bytes d → Verifies d a → IsOfRun (status_of a.verdict) → SpellsSafeMachines bytes
+verify_is_safe bytes d a doc (verifying.IsRefused r h is) run = absurd (no_run a _ is (refusal_is_no_run d.names r) run)
+verify_is_safe bytes d a doc (verifying.IsReported ps ms h is) run = own_is_safe bytes d ps ms doc h
+
+migrate_is_safe : (bytes : List ℕ) (d : Document_data) (a : Answer_data) → SpellsDocument bytes d → Migrates d a → IsOfRun (status_of a.verdict) → SpellsSafeMachines bytes
+migrate_is_safe bytes d a doc (migrating.IsRefused r h is) run = absurd (no_run a _ is (refusal_is_no_run d.names r) run)
+migrate_is_safe bytes d a doc (migrating.IsMigrated ps ms h shows) run = own_is_safe bytes d ps ms doc h
 
 -- what a task answers to a document tells that its machines are safe
 abbrev TellsSafe : DocumentTask → List ℕ → Answer_data → Type 0
@@ -148,6 +158,9 @@ checks_safely bound asked bytes a h run = text_is_safe (on_document.Check (recor
 
 verifies_safely : (bytes : List ℕ) (a : Answer_data) → AnswersText on_document.Verify bytes a → IsOfRun (status_of a.verdict) → SpellsSafeMachines bytes
 verifies_safely bytes a h run = text_is_safe on_document.Verify bytes a (λ d doc k is. verify_is_safe bytes d a doc k is) h run
+
+migrates_safely : (bytes : List ℕ) (a : Answer_data) → AnswersText on_document.Migrate bytes a → IsOfRun (status_of a.verdict) → SpellsSafeMachines bytes
+migrates_safely bytes a h run = text_is_safe on_document.Migrate bytes a (λ d doc k is. migrate_is_safe bytes d a doc k is) h run
 
 runs_safely : (options : RunOptions) (workers : Workers) (bytes : List ℕ) (a : Answer_data) → AnswersText (on_document.Run options workers) bytes a → IsOfRun (status_of a.verdict)
     → SpellsSafeMachines bytes
@@ -183,6 +196,11 @@ module _ {S K : Type 0} (call : Call S K) (reply : Reply) (ends : Ends call repl
   verified_is_safe spells = if_told call.input.left _ _ (λ bytes told fine.
       let is = told_is_run call.words (task.OnDocument on_document.Verify) bytes call.output reply spells told (fine_is_run reply.status fine) in
       verifies_safely bytes is.0 is.1 is.2) ends.answer.told
+
+  pub migrated_is_safe : SpellsMigrate call.words → IfSome call.input.left (λ bytes. reply.status ≡ status.Fine → SpellsSafeMachines bytes)
+  migrated_is_safe spells = if_told call.input.left _ _ (λ bytes told fine.
+      let is = told_is_run call.words (task.OnDocument on_document.Migrate) bytes call.output reply spells told (fine_is_run reply.status fine) in
+      migrates_safely bytes is.0 is.1 is.2) ends.answer.told
 
   pub runs_are_safe : (options : RunOptions) → SpellsRun call.words options → IfSome call.input.left (λ bytes. IsOfRun reply.status → SpellsSafeMachines bytes)
   runs_are_safe options spells = if_told call.input.left _ _ (λ bytes told run.

@@ -1,5 +1,5 @@
 -- What a `check` without options answers whose source and sink never fail.
-use Rattle.std.proofs.Common.{◌≡◌, ◌⊎◌, ℕ, ◌<◌, ◌≤◌, List, [], ◌∷◌, length, Option, Some, false, refl, subst, inl, inr, codes, arith}
+use Rattle.std.proofs.Common.{◌≡◌, ◌⊎◌, ℕ, ◌≤◌, List, [], ◌∷◌, length, Option, Some, false, refl, subst, inl, inr, codes, arith}
 use Rattle.std.specs.Prelude.{IfSome}
 use Rattle.std.specs.Io.KnownBytes.{IsAtEnd}
 use Rattle.rs_io.specs.Faults.{Rose}
@@ -7,7 +7,7 @@ use Rattle.rs_model.specs.declared.limits.TheConstants.{DEFAULT_BOUND, MOST_BYTE
 use Rattle.rs_tool.specs.Calls.{Ends, Tells, TellsAll, TellsPart, TellsReadFault, TellsNoMemory}
 use Rattle.rs_tool.specs.Data.{CallInput, CallOutput, call_of}
 use Rattle.rs_tool.specs.Never.{IsStatusOfAnswer}
-use Rattle.rs_tool.specs.Tasks.{AskForWorkers, ReadTheInput}
+use Rattle.rs_tool.specs.Tasks.{AskForWorkers}
 use Rattle.rs_tool.specs.declared.statuses.Reply.{Reply}
 use Rattle.rs_tool.specs.declared.statuses.Status.TheVariants as status
 use Rattle.rs_tool.proofs.MadeReady.{not_asked}

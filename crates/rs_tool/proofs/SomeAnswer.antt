@@ -7,7 +7,6 @@ use Rattle.rs_model.specs.declared.limits.TheConstants.{MOST_BYTES}
 use Rattle.rs_model.specs.declared.demos.Demo.{Demo}
 use Rattle.rs_global.specs.Texts.{protocol_text}
 use Rattle.rs_global.proofs.Canonical.{canonical_is_there}
-use Rattle.rs_project.specs.Data.{Projection_data}
 use Rattle.rs_derive.specs.Data.{Derivation_data}
 use Rattle.rs_tool.specs.Pipelines.{pipeline_text, pipeline_of, pipeline_summary}
 use Rattle.rs_model.specs.declared.limits.TheConstants.{DEFAULT_BOUND}
@@ -32,30 +31,31 @@ use Rattle.rs_answers.specs.RefusalTexts.{usage, too_large, fault_answer, wf_ans
 use Rattle.rs_answers.specs.Refusals.{IsWithoutSession, HasNoDerivation, refusal_answer}
 use Rattle.rs_answers.specs.Report.{report}
 use Rattle.rs_answers.proofs.PoolAnswers.{some_with}
-use Rattle.rs_answers.specs.Sessions.{HasMachines}
 use Rattle.rs_answers.specs.Shown.{Shows}
-use Rattle.rs_documents.specs.Canonical.{AreShown, AreCanonicalMachines, derivations_text}
+use Rattle.rs_documents.specs.Canonical.{derivations_text}
+use Rattle.rs_documents.proofs.OneCanonical.{some_lines}
 use Rattle.rs_answers.specs.Tables as tables
 use Rattle.rs_answers.specs.Tables.{tables_text}
 use Rattle.rs_documents.proofs.CanShow.{role_names}
-use Rattle.rs_machines.proofs.Canonical as of_machines
 use Rattle.rs_documents.proofs.OneDocument.{spelt_or_faulty}
+use Rattle.rs_answers.specs.Migrates as migrating
 use Rattle.rs_answers.specs.Verifying as verifying
-use Rattle.rs_answers.specs.Verifying.{first_blame}
-use Rattle.rs_answers.proofs.Verified.{some_verifying}
+use Rattle.rs_answers.specs.Verifying.{HasNone, those_there}
+use Rattle.rs_answers.proofs.Verified.{Fails, Passes, Tested, tested_by}
 use Rattle.rs_answers.proofs.SomeSession.{Decision, AllProject, OneDoesnt, first_ones, Prepared, NotSo, Derived, prepared}
 
 record Some_for (t : DocumentTask) (d : Document_data) : Type 0 where
   answer : Answer_data
   answers : AnswersDocument t d answer
 
-verified_by : (d : Document_data) (ps : List Projection_data) (ms : List Machine_data) → HasMachines d ps ms → Some_for on_document.Verify d
-verified_by d ps ms h = let a = some_verifying d ps ms h (first_blame 0 d.derivations ms ps) refl in record { answer = a.0; answers = a.1 }
+tested : (d : Document_data) → Prepared 1 d → Tested d
+tested d (NotSo why (IsWithoutSession r h)) = Fails r (HasNone r h)
+tested d (NotSo why (HasNoDerivation ps ms h role fault u)) = tested_by d ps ms h
+tested d (Derived ps ms ds h found) = tested_by d ps ms h
 
-verified : (d : Document_data) → Prepared 1 d → Some_for on_document.Verify d
-verified d (NotSo why (IsWithoutSession r h)) = record { answer = refusal_answer d.names r; answers = verifying.IsRefused r h refl }
-verified d (NotSo why (HasNoDerivation ps ms h role fault u)) = verified_by d ps ms h
-verified d (Derived ps ms ds h found) = verified_by d ps ms h
+verified : (d : Document_data) → Tested d → Some_for on_document.Verify d
+verified d (Fails why h) = record { answer = refusal_answer d.names why; answers = verifying.IsRefused why h refl }
+verified d (Passes ps ms h) = record { answer = report d.names.roles (those_there d.derivations); answers = verifying.IsReported ps ms h refl }
 
 tabled : (d : Document_data) → first_fault d.protocol ≡ None → Decision d.protocol d.protocol.roles → Some_for on_document.Project d
 tabled d none (OneDoesnt role fault h) = record { answer = proj_answer d.names fault; answers = tables.HasNoProjection none role fault h refl }
@@ -66,20 +66,12 @@ some_tables : (d : Document_data) → (o : Option WfFault) → first_fault d.pro
 some_tables d (Some f) e = record { answer = wf_answer d.names f; answers = tables.IsIllFormed f e refl }
 some_tables d None e = tabled d e (first_ones d.protocol (no_fault d.protocol e) d.protocol.roles (omega arith))
 
-lines : (names : Names_data) (machines : List (Option Machine_data)) → AreShown names machines → (text : List ℕ) × AreCanonicalMachines names machines text
-lines names [] h = ([], refl)
-lines names (None ∷ ms) h = lines names ms h.1
-lines names (Some m ∷ ms) h =
-    let line = of_machines.canonical_text_is_there names m h.0.0 h.0.1 in
-    let later = lines names ms h.1 in
-    (line.0 ++ later.0, (line.0, later.0, line.1, later.1, refl))
-
 shown_with : (bytes : List ℕ) (d : Document_data) (derivations : List (Option Derivation_data)) → SpellsDocument bytes d → (a : Answer_data) × Shows (record d { derivations = derivations }) a
 shown_with bytes d derivations h =
     let r = role_names bytes d h in
     let enough = r.1 in
     let c = canonical_is_there d.names d.protocol r.3 enough.roles enough.labels in
-    let l = lines d.names d.machines r.2 in (
+    let l = some_lines d.names d.machines r.2 in (
       record { text = protocol_text c.0 ++ (l.0 ++ derivations_text d.names derivations); verdict = Fine },
       record {
         text = record { front = protocol_text c.0; back = l.0; protocol = record { tree = c.0; canonical = c.1; whole = refl }; machines = l.1; whole = refl };
@@ -89,6 +81,10 @@ shown_with bytes d derivations h =
 
 shown : (bytes : List ℕ) (d : Document_data) → SpellsDocument bytes d → Some_for on_document.Show d
 shown bytes d h = let s = shown_with bytes d d.derivations h in record { answer = s.0; answers = s.1 }
+
+migrated : (bytes : List ℕ) (d : Document_data) → SpellsDocument bytes d → Tested d → Some_for on_document.Migrate d
+migrated bytes d doc (Fails why h) = record { answer = refusal_answer d.names why; answers = migrating.IsRefused why h refl }
+migrated bytes d doc (Passes ps ms h) = let s = shown bytes d doc in record { answer = s.answer; answers = migrating.IsMigrated ps ms h s.answers }
 
 -- of an accepted session something is told, and it is fine
 pub some_telling : (asked : Bool) (bytes : List ℕ) (d : Document_data) (derivations : List Derivation_data) → SpellsDocument bytes d
@@ -104,7 +100,8 @@ checked bound asked bytes d doc (Derived projections machines derivations h foun
 
 document_answer : (t : DocumentTask) (bytes : List ℕ) (d : Document_data) → SpellsDocument bytes d → Some_for t d
 document_answer (on_document.Check options) bytes d h = checked options.bound options.derivations bytes d h (prepared options.bound bytes d h (first_fault d.protocol) refl)
-document_answer on_document.Verify bytes d h = verified d (prepared 1 bytes d h (first_fault d.protocol) refl)
+document_answer on_document.Verify bytes d h = verified d (tested d (prepared 1 bytes d h (first_fault d.protocol) refl))
+document_answer on_document.Migrate bytes d h = migrated bytes d h (tested d (prepared 1 bytes d h (first_fault d.protocol) refl))
 document_answer on_document.Show bytes d h = shown bytes d h
 document_answer on_document.Project bytes d h = some_tables d (first_fault d.protocol) refl
 document_answer (on_document.Run options workers) bytes d h =

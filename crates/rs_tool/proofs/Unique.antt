@@ -1,12 +1,10 @@
 -- Words and bytes have one answer.
 use Rattle.std.proofs.Common.{◌≡◌, ◌⊎◌, inl, inr, ℕ, ◌≤◌, ◌<◌, Option, None, arith, Bool, true, false, List, [], ◌∷◌, ◌++◌, Some, length, refl, sym, ap, subst, ◌∙◌}
-use Rattle.std.proofs.lemmas.Option.{same_Some}
 use Rattle.rs_model.specs.Data.{Names_data, Machine_data}
 use Rattle.rs_model.specs.declared.limits.TheConstants.{MOST_BYTES}
 use Rattle.rs_model.specs.declared.demos.Demo.{Demo}
 use Rattle.rs_global.proofs.Canonical.{canonical_text_is_one}
 use Rattle.rs_global.specs.Canonical.{IsTextShaped}
-use Rattle.rs_project.specs.Data.{Projection_data}
 use Rattle.rs_derive.specs.Data.{Derivation_data}
 use Rattle.rs_tool.specs.Pipelines.{pipeline_text, pipeline_of, pipeline_summary}
 use Rattle.rs_model.specs.declared.limits.TheConstants.{DEFAULT_BOUND}
@@ -25,26 +23,27 @@ use Rattle.rs_answers.specs.Checks.{Checks, TellsAccepted, with_derivations}
 use Rattle.rs_documents.specs.Data.{Document_data}
 use Rattle.rs_answers.specs.Data.{Answer_data}
 use Rattle.rs_documents.specs.Documents.{SpellsDocument}
-use Rattle.rs_answers.specs.RefusalTexts.{blame_answer, fault_answer, wf_answer, proj_answer}
+use Rattle.rs_answers.specs.RefusalTexts.{fault_answer, wf_answer, proj_answer}
 use Rattle.rs_answers.specs.Refusals.{refusal_answer}
 use Rattle.rs_answers.specs.Pools.{RunsWith}
 use Rattle.rs_model.specs.declared.runs.RunOptions.{RunOptions}
 use Rattle.rs_answers.proofs.PoolAnswers.{one_by_one, one_by_workers}
 use Rattle.rs_model.specs.declared.runs.Workers.{Workers}
 use Rattle.rs_model.specs.declared.runs.Workers.TheVariants.{One, Several}
-use Rattle.rs_answers.specs.Sessions.{HasMachines}
-use Rattle.rs_documents.specs.Canonical.{AreCanonicalMachines, AreShown, derivations_text}
+use Rattle.rs_documents.specs.Canonical.{AreShown, derivations_text}
+use Rattle.rs_documents.proofs.OneCanonical.{one_text_each}
 use Rattle.rs_answers.specs.Shown.{Shows}
+use Rattle.rs_answers.specs.Migrates as migrating
+use Rattle.rs_answers.specs.Migrates.{Migrates}
 use Rattle.rs_answers.specs.Verifying as verifying
-use Rattle.rs_answers.specs.Verifying.{RoleBlame, Verifies, first_blame}
+use Rattle.rs_answers.specs.Verifying.{Verifies}
 use Rattle.rs_answers.specs.Tables as tables
 use Rattle.rs_answers.specs.Tables.{Projects, tables_text}
 use Rattle.rs_tool.specs.Tasks.{AskForWorkers}
 use Rattle.rs_words.specs.Tasks.{workers_of}
 use Rattle.rs_documents.proofs.CanShow.{role_names}
-use Rattle.rs_machines.proofs.Canonical as of_machines
 use Rattle.rs_documents.proofs.OneDocument.{no_fault as no_text_fault, one_document, one_fault}
-use Rattle.rs_answers.proofs.OneReason.{one_unprojectable, one_projection_list, not_unprojectable, one_reason, has_a_session, same_session, one_session_derived, one_refusal, not_refused}
+use Rattle.rs_answers.proofs.OneReason.{one_unprojectable, one_projection_list, not_unprojectable, one_session_derived, one_refusal, not_refused, one_unverified, not_unverified}
 
 short_and_long : (bytes : List ℕ) → length bytes ≤ MOST_BYTES → MOST_BYTES < length bytes → ⊥
 short_and_long bytes s l = absurd (omega arith)
@@ -61,17 +60,10 @@ one_tables d a b (tables.HasTables ps h x) (tables.IsIllFormed g e y) = let none
 one_tables d a b (tables.HasTables ps h x) (tables.HasNoProjection none s g e y) = absurd (not_unprojectable d ps s g h e)
 one_tables d a b (tables.HasTables ps h x) (tables.HasTables qs k y) = x ∙ ap (λ z. record { text = tables_text d.names z; verdict = Fine }) (one_projection_list d ps qs h k) ∙ sym y
 
-one_lines : (names : Names_data) (machines : List (Option Machine_data)) (x y : List ℕ) → AreShown names machines → AreCanonicalMachines names machines x → AreCanonicalMachines names machines y
-    → x ≡ y
-one_lines names [] x y s h k = h ∙ sym k
-one_lines names (None ∷ ms) x y s h k = one_lines names ms x y s.1 h k
-one_lines names (Some m ∷ ms) x y s h k =
-    h.4 ∙ ap (λ z. z ++ h.1) (of_machines.canonical_text_is_one names m h.0 k.0 s.0.0 h.2 k.2) ∙ ap (λ z. k.0 ++ z) (one_lines names ms h.1 k.1 s.1 h.3 k.3) ∙ sym k.4
-
 one_shown : (d : Document_data) (a b : Answer_data) → IsTextShaped d.protocol → AreShown d.names d.machines → Shows d a → Shows d b → a ≡ b
 one_shown d a b shaped there h k =
     let front = canonical_text_is_one d.names d.protocol h.text.front k.text.front shaped h.text.protocol k.text.protocol in
-    let back = one_lines d.names d.machines h.text.back k.text.back there h.text.machines k.text.machines in
+    let back = one_text_each d.names d.machines h.text.back k.text.back there h.text.machines k.text.machines in
     let last = derivations_text d.names d.derivations in
     let text : a.text ≡ b.text = h.text.whole ∙ ap (λ z. z ++ (h.text.back ++ last)) front ∙ ap (λ z. k.text.front ++ (z ++ last)) back ∙ sym k.text.whole in
     ap (λ z. record { text = z; verdict = a.verdict }) text ∙ ap (λ z. record { text = b.text; verdict = z }) (h.fine ∙ sym k.fine)
@@ -92,26 +84,17 @@ one_check bound asked bytes d a b doc (checks.IsAccepted ps ms ds h f x) (checks
     let P : List Derivation_data → Type 0 = λ z. TellsAccepted asked d z a in
     one_telling asked bytes d es a b doc (subst P (one_session_derived bound d ps qs ms ns ds es h k f g) x) y
 
--- whom a document blames is one
-same_blame : (d : Document_data) (ps qs : List Projection_data) (ms ns : List Machine_data) → HasMachines d ps ms → HasMachines d qs ns
-    → first_blame 0 d.derivations ms ps ≡ first_blame 0 d.derivations ns qs
-same_blame d ps qs ms ns h k =
-    let same = same_session d ps qs ms ns h k in
-    ap (λ z. first_blame 0 d.derivations z ps) same.1 ∙ ap (λ z. first_blame 0 d.derivations ns z) same.0
-
 one_verifying : (d : Document_data) (a b : Answer_data) → Verifies d a → Verifies d b → a ≡ b
-one_verifying d a b (verifying.IsRefused r h x) (verifying.IsRefused s k y) = x ∙ ap (refusal_answer d.names) (one_reason d r s h k) ∙ sym y
-one_verifying d a b (verifying.IsRefused r h x) (verifying.IsBlamed ps ms k w e y) = absurd (has_a_session d ps ms r k h)
-one_verifying d a b (verifying.IsRefused r h x) (verifying.IsVerified ps ms k e y) = absurd (has_a_session d ps ms r k h)
-one_verifying d a b (verifying.IsBlamed ps ms h v e x) (verifying.IsRefused s k y) = absurd (has_a_session d ps ms s h k)
-one_verifying d a b (verifying.IsBlamed ps ms h v e x) (verifying.IsBlamed qs ns k w f y) =
-    let same : Some v ≡ Some w = sym e ∙ same_blame d ps qs ms ns h k ∙ f in
-    let is : v ≡ w = same_Some v w same in
-    x ∙ ap (λ (z : RoleBlame). blame_answer d.names z.role z.blame) is ∙ sym y
-one_verifying d a b (verifying.IsBlamed ps ms h v e x) (verifying.IsVerified qs ns k f y) = let clash : Some v ≡ None = sym e ∙ same_blame d ps qs ms ns h k ∙ f in absurd cc
-one_verifying d a b (verifying.IsVerified ps ms h e x) (verifying.IsRefused s k y) = absurd (has_a_session d ps ms s h k)
-one_verifying d a b (verifying.IsVerified ps ms h e x) (verifying.IsBlamed qs ns k w f y) = let clash : None ≡ Some w = sym e ∙ same_blame d ps qs ms ns h k ∙ f in absurd cc
-one_verifying d a b (verifying.IsVerified ps ms h e x) (verifying.IsVerified qs ns k f y) = x ∙ sym y
+one_verifying d a b (verifying.IsRefused r h x) (verifying.IsRefused s k y) = x ∙ ap (refusal_answer d.names) (one_unverified d r s h k) ∙ sym y
+one_verifying d a b (verifying.IsRefused r h x) (verifying.IsReported ps ms k y) = absurd (not_unverified d ps ms r k h)
+one_verifying d a b (verifying.IsReported ps ms h x) (verifying.IsRefused s k y) = absurd (not_unverified d ps ms s h k)
+one_verifying d a b (verifying.IsReported ps ms h x) (verifying.IsReported qs ns k y) = x ∙ sym y
+
+one_migrating : (bytes : List ℕ) (d : Document_data) (a b : Answer_data) → SpellsDocument bytes d → Migrates d a → Migrates d b → a ≡ b
+one_migrating bytes d a b doc (migrating.IsRefused r h x) (migrating.IsRefused s k y) = x ∙ ap (refusal_answer d.names) (one_unverified d r s h k) ∙ sym y
+one_migrating bytes d a b doc (migrating.IsRefused r h x) (migrating.IsMigrated ps ms k y) = absurd (not_unverified d ps ms r k h)
+one_migrating bytes d a b doc (migrating.IsMigrated ps ms h x) (migrating.IsRefused s k y) = absurd (not_unverified d ps ms s h k)
+one_migrating bytes d a b doc (migrating.IsMigrated ps ms h x) (migrating.IsMigrated qs ns k y) = one_show bytes d a b doc x y
 
 -- two answers are one, or these workers are several, and both tell that a run was stopped
 abbrev AreOne : Workers → Answer_data → Answer_data → Type 0
@@ -136,6 +119,7 @@ workers_on t = workers_of (task.OnDocument t)
 one_of_document : (t : DocumentTask) (bytes : List ℕ) (d : Document_data) (a b : Answer_data) → SpellsDocument bytes d → AnswersDocument t d a → AnswersDocument t d b → AreOne (workers_on t) a b
 one_of_document (on_document.Check options) bytes d a b doc h k = inl (one_check options.bound options.derivations bytes d a b doc h k)
 one_of_document on_document.Verify bytes d a b doc h k = inl (one_verifying d a b h k)
+one_of_document on_document.Migrate bytes d a b doc h k = inl (one_migrating bytes d a b doc h k)
 one_of_document (on_document.Run options workers) bytes d a b doc h k = one_with options workers bytes d a b doc h k
 one_of_document on_document.Show bytes d a b doc h k = inl (one_show bytes d a b doc h k)
 one_of_document on_document.Project bytes d a b doc h k = inl (one_tables d a b h k)

@@ -3,6 +3,7 @@ use Rattle.std.specs.Prelude.{◌≡◌, ℕ, ◌<◌, ◌≤◌, ◌++◌, code
 use Rattle.rs_answers.specs.Checks.{Checks}
 use Rattle.rs_answers.specs.Data.{Answer_data}
 use Rattle.rs_answers.specs.Demos.{AnswersDemo}
+use Rattle.rs_answers.specs.Migrates.{Migrates}
 use Rattle.rs_answers.specs.Pools.{RunsWith}
 use Rattle.rs_answers.specs.RefusalTexts.{usage, too_large, fault_answer}
 use Rattle.rs_answers.specs.Shown.{Shows}
@@ -24,6 +25,7 @@ use Rattle.rs_words.specs.declared.tasks.Task.TheVariants as task
 abbrev pub AnswersDocument : DocumentTask → Document_data → Answer_data → Type 0
 AnswersDocument (on_document.Check options) d answer = Checks options.bound options.derivations d answer
 AnswersDocument on_document.Verify d answer = Verifies d answer
+AnswersDocument on_document.Migrate d answer = Migrates d answer
 AnswersDocument on_document.Show d answer = Shows d answer
 AnswersDocument on_document.Project d answer = Projects d answer
 AnswersDocument (on_document.Run options workers) d answer = RunsWith workers options d answer

@@ -31,6 +31,10 @@ SpellsCheck words bound = (derivations : Bool) × SpellsTask words (task.OnDocum
 abbrev pub SpellsVerify : List (List ℕ) → Type 0
 SpellsVerify words = SpellsTask words (task.OnDocument on_document.Verify)
 
+-- the words are those of `migrate`
+abbrev pub SpellsMigrate : List (List ℕ) → Type 0
+SpellsMigrate words = SpellsTask words (task.OnDocument on_document.Migrate)
+
 -- the words are those of a `run` with these options, by any number of workers
 abbrev pub SpellsRun : List (List ℕ) → RunOptions → Type 0
 SpellsRun words options = (workers : Workers) × SpellsTask words (task.OnDocument (on_document.Run options workers))

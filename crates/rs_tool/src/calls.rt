@@ -14,7 +14,7 @@ ghost use Rattle.rs_tool.specs.Headline.{SpellsSafeMachines};
 ghost use Rattle.rs_tool.specs.Preparing.{AnswersAlone, AnswersTo, Delivers};
 ghost use Rattle.rs_tool.specs.RunHeadline.{IsOfRun};
 ghost use Rattle.rs_tool.specs.Sessions.{HasItsSession};
-ghost use Rattle.rs_tool.specs.Tasks.{SpellsCheck, SpellsDemo, SpellsRun, SpellsVerify};
+ghost use Rattle.rs_tool.specs.Tasks.{SpellsCheck, SpellsDemo, SpellsMigrate, SpellsRun, SpellsVerify};
 ghost use Rattle.rs_words.specs.Meaning.{SpellsTask};
 ghost use Rattle.rs_words.specs.Words.{bytes_of_words};
 
@@ -120,7 +120,7 @@ fn deliver<K: Sink>(given: Result<AnswerWithSession, CallStop>, sink: &mut K) ->
 
 /// Carries out the words, as the program does, without threads.
 ///
-/// `check`, `verify`, `show`, `project`, `run` and `demo` read the source to its end and write their answer. The text of an answer is made whole
+/// `check`, `verify`, `migrate`, `show`, `project`, `run` and `demo` read the source to its end and write their answer. The text of an answer is made whole
 /// before its first byte is written: with the statuses `ReadFault` and `NoMemory` nothing is written, with `WriteFault`
 /// a first part of the text. `gen` and words that spell no task read nothing. That workers are needed is told exactly where the
 /// words are a `run` or a `demo` by several, and nothing was then read or written; only want of memory goes before it.
@@ -134,6 +134,8 @@ pub fn command_serial<S: Source, K: Sink>(
     ensures headline { IfAnswered result (λ reply. (bound : ℕ) → SpellsCheck (bytes_of_words words.now) bound
         → IfSome (S.left source.old) (λ bytes. reply.status ≡ Status.Fine → SpellsSafeMachines bytes)) }
     ensures verified { IfAnswered result (λ reply. SpellsVerify (bytes_of_words words.now)
+        → IfSome (S.left source.old) (λ bytes. reply.status ≡ Status.Fine → SpellsSafeMachines bytes)) }
+    ensures migrated { IfAnswered result (λ reply. SpellsMigrate (bytes_of_words words.now)
         → IfSome (S.left source.old) (λ bytes. reply.status ≡ Status.Fine → SpellsSafeMachines bytes)) }
     ensures run { IfAnswered result (λ reply. (options : RunOptions) → SpellsRun (bytes_of_words words.now) options
         → IfSome (S.left source.old) (λ bytes. IsOfRun reply.status → SpellsSafeMachines bytes)) }
@@ -197,6 +199,8 @@ pub fn command<R: Threads + Wait + Sync, S: Source, K: Sink, G: Gate + Sync>(
     ensures headline { (bound : ℕ) → SpellsCheck (bytes_of_words words.now) bound
         → IfSome (S.left source.old) (λ bytes. result.status ≡ Status.Fine → SpellsSafeMachines bytes) }
     ensures verified { SpellsVerify (bytes_of_words words.now)
+        → IfSome (S.left source.old) (λ bytes. result.status ≡ Status.Fine → SpellsSafeMachines bytes) }
+    ensures migrated { SpellsMigrate (bytes_of_words words.now)
         → IfSome (S.left source.old) (λ bytes. result.status ≡ Status.Fine → SpellsSafeMachines bytes) }
     ensures run { (options : RunOptions) → SpellsRun (bytes_of_words words.now) options
         → IfSome (S.left source.old) (λ bytes. IsOfRun result.status → SpellsSafeMachines bytes) }

@@ -102,11 +102,12 @@ task_is_in : (name : Bytes) (value : Bytes → Option Bytes) → IfSome (task_of
 task_is_in name value =
     either_is_in (bytes_eq name (codes "check")) _ _ (check_is_in (value (codes "bound")) (is_some (value (codes "derivations")))) (
     either_is_in (bytes_eq name (codes "verify")) _ _ tt (
+    either_is_in (bytes_eq name (codes "migrate")) _ _ tt (
     either_is_in (bytes_eq name (codes "show")) _ _ tt (
     either_is_in (bytes_eq name (codes "project")) _ _ tt (
     either_is_in (bytes_eq name (codes "run")) _ _ (run_is_in (value (codes "bound")) (value (codes "ring")) (value (codes "workers")) (value (codes "limit")) (value (codes "seed"))) (
     either_is_in (bytes_eq name (codes "demo")) _ _ (demo_is_in (value (codes "name")) (value (codes "ring")) (value (codes "workers"))) (
-    either_is_in (bytes_eq name (codes "gen")) _ None (gen_is_in (value (codes "number"))) tt))))))
+    either_is_in (bytes_eq name (codes "gen")) _ None (gen_is_in (value (codes "number"))) tt)))))))
 
 pub spelt_numbers_are_in_range : (words : List Bytes) (t : Task) → SpellsTask words t → IsInRange t
 spelt_numbers_are_in_range words t s = go (task_of s.form.name (λ id. text_of_use id s.uses)) s.task_is (task_is_in s.form.name (λ id. text_of_use id s.uses))

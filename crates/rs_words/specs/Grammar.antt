@@ -44,7 +44,7 @@ gen_form = record { name = codes "gen"; choices = []; word = Some (codes "number
 
 -- all commands
 abbrev pub forms : List Form
-forms = check_form ∷ bare_form (codes "verify") ∷ bare_form (codes "show") ∷ bare_form (codes "project") ∷ run_form ∷ demo_form ∷ gen_form ∷ []
+forms = check_form ∷ bare_form (codes "verify") ∷ bare_form (codes "migrate") ∷ bare_form (codes "show") ∷ bare_form (codes "project") ∷ run_form ∷ demo_form ∷ gen_form ∷ []
 
 -- the bytes begin with `-`
 abbrev pub begins_with_dash : Bytes → Bool

@@ -91,6 +91,7 @@ abbrev pub task_of : Bytes → (Bytes → Option Bytes) → Option Task
 task_of name value =
     if bytes_eq name (codes "check") then check_task (value (codes "bound")) (is_some (value (codes "derivations")))
     else if bytes_eq name (codes "verify") then Some (task.OnDocument on_document.Verify)
+    else if bytes_eq name (codes "migrate") then Some (task.OnDocument on_document.Migrate)
     else if bytes_eq name (codes "show") then Some (task.OnDocument on_document.Show)
     else if bytes_eq name (codes "project") then Some (task.OnDocument on_document.Project)
     else if bytes_eq name (codes "run") then run_task (value (codes "bound")) (value (codes "ring")) (value (codes "workers")) (value (codes "limit")) (value (codes "seed"))

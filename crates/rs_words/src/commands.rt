@@ -135,6 +135,7 @@ pub(crate) fn all_commands<'a>(alloc: Global) -> Result<Command<'a>, AllocError>
 {
     let program = with_made(program(alloc), check_command(alloc))?;
     let program = with_command(program, Command::new(alloc, "verify"))?;
+    let program = with_command(program, Command::new(alloc, "migrate"))?;
     let program = with_command(program, Command::new(alloc, "show"))?;
     let program = with_command(program, Command::new(alloc, "project"))?;
     let program = with_made(program, run_command(alloc))?;

@@ -178,6 +178,8 @@ fn task_of(alloc: Global, name: &str, found: &ArgMatches<'_>) -> Result<Option<T
         )
     } else if name == "verify" {
         Ok(Some(Task::OnDocument(DocumentTask::Verify)))
+    } else if name == "migrate" {
+        Ok(Some(Task::OnDocument(DocumentTask::Migrate)))
     } else if name == "show" {
         Ok(Some(Task::OnDocument(DocumentTask::Show)))
     } else if name == "project" {

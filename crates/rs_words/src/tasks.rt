@@ -26,6 +26,8 @@ pub enum DocumentTask {
     Check(CheckOptions),
     /// The derivations that it has are checked.
     Verify,
+    /// The derivations that it has are checked, and it is printed in its canonical form with them.
+    Migrate,
     /// It is printed in its canonical form.
     Show,
     /// The projection onto each role is printed.

@@ -1,4 +1,4 @@
-use Rattle.std.proofs.Common.{ℕ, subst}
+use Rattle.std.proofs.Common.{subst}
 use Rattle.rs_core.specs.Draws.{by_draws}
 use Rattle.rs_core.specs.Runs.{FaultTells}
 use Rattle.rs_core.specs.declared.runs.RunFault.{RunFault}

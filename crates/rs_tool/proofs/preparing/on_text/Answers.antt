@@ -1,4 +1,4 @@
-use Rattle.std.proofs.Common.{◌≡◌, Bool, sym, subst}
+use Rattle.std.proofs.Common.{Bool, sym, subst}
 use Rattle.std.specs.Prelude.{IfOk}
 use Rattle.std.proofs.lemmas.Result.{IfOk-weaker}
 use Rattle.rs_answers.specs.Checks.{Checks}
@@ -39,6 +39,14 @@ returns-else-options c =
     document_leads c.args.task (on_document.Check c.in-Check.options) c.args.bytes.now c.in-Ok.document c.check.result c.answered-else-options.result c.in-Check.is c.requires.short c.in-Ok.ensures.ok
     (λ h. h)
     c.answered-else-options.ensures (subst (λ (b : Bool). IfOk c.check.result (Checks c.in-Check.options.bound b c.in-Ok.document)) (sym c.if-options.false) c.check.ensures)
+
+pub migrate-requires-clause-shown : goal.migrate-requires-clause-shown
+migrate-requires-clause-shown c = can_show c.args.bytes.now c.in-Ok.document c.in-Ok.ensures.ok c.in-Ok.ensures.ready.sound
+
+pub returns-in-Migrate : goal.returns-in-Migrate
+returns-in-Migrate c =
+    document_leads c.args.task on_document.Migrate c.args.bytes.now c.in-Ok.document c.migrate.result c.answered-in-Migrate.result c.in-Migrate.is c.requires.short c.in-Ok.ensures.ok (λ h. h)
+    c.answered-in-Migrate.ensures c.migrate.ensures
 
 pub returns-in-Verify : goal.returns-in-Verify
 returns-in-Verify c =

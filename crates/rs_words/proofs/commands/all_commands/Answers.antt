@@ -11,12 +11,14 @@ add a b = with_subcommand a b.top
 pub returns : goal.returns
 returns c =
     let verify : app_of c.new.result ≡ new_app (codes "verify") = search rules in
-    let show : app_of c.new-2.result ≡ new_app (codes "show") = search rules in
-    let project : app_of c.new-3.result ≡ new_app (codes "project") = search rules in
+    let migrate : app_of c.new-2.result ≡ new_app (codes "migrate") = search rules in
+    let show : app_of c.new-3.result ≡ new_app (codes "show") = search rules in
+    let project : app_of c.new-4.result ≡ new_app (codes "project") = search rules in
     let one = c.in_ok-program.ensures (app_of_form check_form) c.check_command.ensures.app ∙ ap (λ a. add a (app_of_form check_form)) c.program.ensures.app in
     let two = c.in_ok-program-2.ensures.app ∙ ap₂ add one verify in
-    let three = c.in_ok-program-3.ensures.app ∙ ap₂ add two show in
-    let four = c.in_ok-program-4.ensures.app ∙ ap₂ add three project in
-    let five = c.in_ok-program-5.ensures (app_of_form run_form) c.run_command.ensures.app ∙ ap (λ a. add a (app_of_form run_form)) four in
-    let six = c.in_ok-program-6.ensures (app_of_form demo_form) c.demo_command.ensures.app ∙ ap (λ a. add a (app_of_form demo_form)) five in
-    IfOk-weaker c.with_made-4.result _ _ (λ r h. h (app_of_form gen_form) c.gen_command.ensures.app ∙ ap (λ a. add a (app_of_form gen_form)) six) c.with_made-4.ensures
+    let three = c.in_ok-program-3.ensures.app ∙ ap₂ add two migrate in
+    let four = c.in_ok-program-4.ensures.app ∙ ap₂ add three show in
+    let five = c.in_ok-program-5.ensures.app ∙ ap₂ add four project in
+    let six = c.in_ok-program-6.ensures (app_of_form run_form) c.run_command.ensures.app ∙ ap (λ a. add a (app_of_form run_form)) five in
+    let seven = c.in_ok-program-7.ensures (app_of_form demo_form) c.demo_command.ensures.app ∙ ap (λ a. add a (app_of_form demo_form)) six in
+    IfOk-weaker c.with_made-4.result _ _ (λ r h. h (app_of_form gen_form) c.gen_command.ensures.app ∙ ap (λ a. add a (app_of_form gen_form)) seven) c.with_made-4.ensures
