@@ -2,10 +2,10 @@
 `first_fault` gives the status and the answer of the first fault of a text, or None where the text spells a document."""
 import re
 
-LIMITS = {'nesting', 'roles', 'nodes', 'labels', 'name'}
+LIMITS = {'nesting', 'roles', 'nodes', 'labels', 'name', 'acts'}
 SORTS = {b'unit', b'bool', b'nat', b'int', b'bytes', b'list'}
 MOST_BYTES, MOST_ROLES, MOST_LABELS, MOST_TALKS, MOST_ACTS, MOST_NESTING = 1_048_576, 16, 256, 1_024, 256, 200
-MOST_NODES, MOST_NAME, MOST_NUMBER, MOST_BOUND = 65_536, 64, 4_294_967_295, 64
+MOST_NODES, MOST_NAME, MOST_NUMBER, MOST_BOUND, MOST_PENDING, MOST_ROWS = 65_536, 64, 4_294_967_295, 64, 64, 1_024
 GAP = re.compile(rb'(?:[ \t\r\n]|#[^\n]*)*')
 TOKEN = re.compile(rb'(?P<word>[A-Za-z_][A-Za-z0-9_]*)|(?P<number>[0-9]+)|(?P<mark>->|[!?:.,{}()\[\]])')
 
@@ -78,8 +78,8 @@ class Reader:
             raise Fault('unknown role', token.at)
         return token.text
 
-    def role(self, wanted='role'):
-        return self.known(self.want(wanted, Token.is_name))
+    def role(self):
+        return self.known(self.want('role', Token.is_name))
 
     def label(self):
         token = self.want('label', lambda token: token.kind == 'word')
@@ -162,8 +162,12 @@ class Reader:
         self.sort_in_parentheses()
         self.mark('.')
 
-    def read_act(self, wanted):
-        self.role(wanted)
+    def read_act(self, wanted, count):
+        """An act with so many before it in its list."""
+        token = self.want(wanted, Token.is_name)
+        self.known(token)
+        if count == MOST_PENDING:
+            raise Fault('acts', token.at)
         self.mark('!', '?', wanted='! or ?')
         self.label()
         self.sort_in_parentheses()
@@ -172,9 +176,25 @@ class Reader:
         self.mark('[')
         if self.peek().kind == ']':
             return self.next()
-        self.read_act('act or ]')
+        self.read_act('act or ]', 0)
+        count = 1
         while self.mark(',', ']', wanted=', or ]') == ',':
-            self.read_act('role')
+            self.read_act('role', count)
+            count += 1
+
+    def read_lists(self):
+        """The lists of format 2, as far as the number of the first node; how many there are."""
+        count, wanted, in_list = 0, 'pending or node', 0
+        while True:
+            token = self.want(wanted, lambda token: in_list and token.kind == ',' or token.kind == 'word' and token.text == b'pending' or token.kind == 'number' and int(token.text) == 0)
+            if token.kind == 'number':
+                return count
+            if token.kind == 'word':
+                count, in_list = count + 1, 0
+                self.want('pending number', lambda token: token.kind == 'number' and int(token.text) == count)
+                self.mark(':')
+            self.read_act('role', in_list)
+            wanted, in_list = ', pending or node', in_list + 1
 
     def read_numbers(self):
         self.mark('[')
@@ -183,23 +203,53 @@ class Reader:
         while self.mark(',', ']', wanted=', or ]') == ',':
             self.number()
 
-    def read_nodes(self):
+    def read_nodes(self, lists=None):
+        """The nodes of format 1, or those of format 2 behind so many lists and the number of the first node."""
         count = 0
         while True:
-            token = self.want('node or }' if count else 'node', lambda token: count and token.kind == '}' or token.kind == 'number' and int(token.text) == count)
-            if token.kind == '}':
-                return
-            if count == MOST_NODES:
-                raise Fault('nodes', token.at)
+            if lists is None or count:
+                token = self.want('node or }' if count else 'node', lambda token: count and token.kind == '}' or token.kind == 'number' and int(token.text) == count)
+                if token.kind == '}':
+                    return
+                if count == MOST_NODES:
+                    raise Fault('nodes', token.at)
             count += 1
             self.mark(':')
             self.number()
-            self.read_acts()
+            if lists is None:
+                self.read_acts()
+            else:
+                self.word(b'with')
+                self.want('pending number', lambda token: token.kind == 'number' and int(token.text) <= lists)
+                self.word(b'above')
             self.number()
             self.word(b'rank')
             self.number()
             self.word(b'next')
             self.read_numbers()
+
+    def read_table(self):
+        self.mark('{')
+        count = 0
+        while True:
+            token = self.want('state or }' if count else 'state', lambda token: count and token.kind == '}' or token.kind == 'number' and int(token.text) == count)
+            if token.kind == '}':
+                return
+            if count == MOST_ROWS:
+                raise Fault('nodes', token.at)
+            count += 1
+            token = self.want('role or end', lambda token: token.is_name() or token.text == b'end')
+            if token.text == b'end':
+                continue
+            self.known(token)
+            self.mark('!', '?', wanted='! or ?')
+            self.mark('{')
+            while True:
+                self.label()
+                self.sort_in_parentheses()
+                self.want('next state', lambda token: token.kind == 'number')
+                if self.mark(',', '}', wanted=', or }') == '}':
+                    break
 
     def new_role(self, seen):
         token = self.want('role', Token.is_name)
@@ -212,8 +262,8 @@ class Reader:
         self.read_body(False, {}, 0, 0)
         machines, derivations = set(), set()
         while True:
-            wanted = 'derivation or the end' if derivations else 'machine, derivation or the end'
-            known = (b'derivation',) if derivations else (b'machine', b'derivation')
+            wanted = 'derivation or the end' if derivations else 'machine, table, derivation or the end'
+            known = (b'derivation',) if derivations else (b'machine', b'table', b'derivation')
             token = self.want(wanted, lambda token: token.kind == 'end' or token.kind == 'word' and token.text in known)
             if token.kind == 'end':
                 return
@@ -222,12 +272,18 @@ class Reader:
                 self.mark(':')
                 self.nodes = 0
                 self.read_body(True, {}, 0, 0)
+            elif token.text == b'table':
+                self.new_role(machines)
+                self.read_table()
             else:
                 self.new_role(derivations)
-                self.word(b'bound')
+                has_lists = self.want('bound or format', lambda token: token.kind == 'word' and token.text in (b'bound', b'format')).text == b'format'
+                if has_lists:
+                    self.want('2', lambda token: token.kind == 'number' and int(token.text) == 2)
+                    self.word(b'bound')
                 self.want('number from 1 to 64', lambda token: token.kind == 'number' and 1 <= int(token.text) <= MOST_BOUND)
                 self.mark('{')
-                self.read_nodes()
+                self.read_nodes(self.read_lists() if has_lists else None)
 
 
 def first_fault(text):
