@@ -203,16 +203,19 @@ class Reader:
         while self.mark(',', ']', wanted=', or ]') == ',':
             self.number()
 
+    def has_further(self, wanted, count, most):
+        """The number of a further node or row, behind so many, or the end of all."""
+        token = self.want(wanted + ' or }' if count else wanted, lambda token: count and token.kind == '}' or token.kind == 'number' and int(token.text) == count)
+        if token.kind == 'number' and count == most:
+            raise Fault('nodes', token.at)
+        return token.kind == 'number'
+
     def read_nodes(self, lists=None):
         """The nodes of format 1, or those of format 2 behind so many lists and the number of the first node."""
         count = 0
         while True:
-            if lists is None or count:
-                token = self.want('node or }' if count else 'node', lambda token: count and token.kind == '}' or token.kind == 'number' and int(token.text) == count)
-                if token.kind == '}':
-                    return
-                if count == MOST_NODES:
-                    raise Fault('nodes', token.at)
+            if (lists is None or count) and not self.has_further('node', count, MOST_NODES):
+                return
             count += 1
             self.mark(':')
             self.number()
@@ -232,11 +235,8 @@ class Reader:
         self.mark('{')
         count = 0
         while True:
-            token = self.want('state or }' if count else 'state', lambda token: count and token.kind == '}' or token.kind == 'number' and int(token.text) == count)
-            if token.kind == '}':
+            if not self.has_further('state', count, MOST_ROWS):
                 return
-            if count == MOST_ROWS:
-                raise Fault('nodes', token.at)
             count += 1
             token = self.want('role or end', lambda token: token.is_name() or token.text == b'end')
             if token.text == b'end':
