@@ -5,7 +5,7 @@ ghost use Rattle.std.specs.Prelude.{◌≤◌, length};
 use rs_model::NoMemory;
 use rs_text::{
     FaultKind, Lexer, Stop, Text, TextFault, TextKind, TokenKind, Wanted, expected, fault,
-    next_token, number, place,
+    next_token, place,
 };
 use std::alloc::Global;
 use std::test::Fail;
@@ -127,11 +127,11 @@ fn cuts_tokens(rt: HostRuntime) -> Result<(), Fail> {
 
 #[test]
 fn reads_numbers(rt: HostRuntime) {
-    assert!(rt; number(b"0") == Some(0));
-    assert!(rt; number(b"0064") == Some(64));
-    assert!(rt; number(b"4294967295") == Some(4294967295));
-    assert!(rt; number(b"4294967296").is_none());
-    assert!(rt; number(b"18446744073709551616").is_none());
+    assert!(rt; next_token(b"0", 0).value() == Some(0));
+    assert!(rt; next_token(b"0064", 0).value() == Some(64));
+    assert!(rt; next_token(b"4294967295", 0).value() == Some(4294967295));
+    assert!(rt; next_token(b"4294967296", 0).value().is_none());
+    assert!(rt; next_token(b"18446744073709551616", 0).value().is_none());
 }
 
 #[test]

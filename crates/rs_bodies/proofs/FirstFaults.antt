@@ -33,14 +33,13 @@ use Rattle.rs_bodies.specs.Scenes.{Scene}
 use Rattle.rs_bodies.specs.Misplaced.{fault_by, fault_of}
 use Rattle.rs_bodies.specs.Faults.{Begins, IsInPart, EndsByName, IsInReach, FaultAt}
 use Rattle.rs_text.specs.FirstFaults.{IsWhole, IsClear}
-use Rattle.rs_bodies.specs.Feeding.{Fed, start_of_part, feed_at, feed_turn, feed_next, is_read, no_frames, behind_body, feeding}
+use Rattle.rs_bodies.specs.Feeding.{Fed, start_of_part, feed_at, feed_turn, is_read, no_frames, behind_body, feeding}
 use Rattle.rs_text.specs.Readings.{feed_sign}
 use Rattle.rs_text.proofs.Leading.{NotExpected, Lands, sign_behind, lexeme, Leads, leads_split, Reached}
 use Rattle.rs_bodies.proofs.FaultPlaces.{place_wants, opening_wants, wanted_behind_head, wanted_by, fault_seen, is_named, is_named_in, is_named_of, NamedBy, PlaceAgrees, place_passes, tree_passes}
 use Rattle.rs_bodies.proofs.FaultCuts.{takes, Grows, place_grows, word_grows, place_begins, acts_tail, offers_tail}
 use Rattle.rs_text.proofs.Judging.{IsProper, Here, Wholeness, wholeness, a_faulty, a_whole}
 use Rattle.rs_bodies.proofs.FaultSteps.{said, ToldUnexpected, Steps, IsMarkMode, steps, whole_fed}
-use Rattle.rs_text.proofs.Standing.{StopsAtEnd}
 use Rattle.rs_text.proofs.Arms.{arm_not}
 
 -- a place stands behind these tokens
@@ -468,34 +467,6 @@ pub verdict : (dia : Dialect) (old : Names_data) (xs : List Sign) (t : Sign) (at
 verdict dia old xs t at n r reach there proper unread = verdict_by dia old t (wholeness t) xs at n r reach there proper unread
 
 -- ---- the end
-
--- the end and a faulty token are never taken, and what stands behind them doesn't count
-end_next : (fs : List Frame) (at : ℕ) (r d : Reader_data) → feed_next fs finish at r ≡ Ok d → ⊥
-end_next [] at r d h = cc
-end_next (f ∷ fs) at r d h = cc
-
-end_turn : (dia : Dialect) (from : Link) (p : Role) (at : ℕ) (r d : Reader_data) → feed_turn dia from p finish at r ≡ Ok d → ⊥
-end_turn Talks from p at r d h = cc
-end_turn Acts from p at r d h = cc
-
-end_arms : (dia : Dialect) (act : ℕ) (at : ℕ) (n : Lexeme) (r d : Reader_data) → feed_at dia (mode.AtArms act) finish at n r ≡ Ok d → ⊥
-end_arms Talks act at n r d h = cc
-end_arms Acts act at n r d h = cc
-
-end_stops : (dia : Dialect) (m : Mode) (at : ℕ) (next : Lexeme) (r d : Reader_data) → feed_at dia m finish at next r ≡ Ok d → ⊥
-end_stops dia mode.Next at next r d h = end_next r.frames at r d h
-end_stops dia (mode.AtTurn from p) at next r d h = end_turn dia from p at r d h
-end_stops dia (mode.AtArms act) at next r d h = end_arms dia act at next r d h
-end_stops dia (mode.InMessage act place.Label) at next r d h = cc
-end_stops dia _ at next r d h = cc
-
-end_same : (dia : Dialect) (m : Mode) (at : ℕ) (n k : Lexeme) (r : Reader_data) → feed_at dia m finish at n r ≡ feed_at dia m finish at k r
-end_same dia mode.Next at n k r = refl
-end_same dia _ at n k r = refl
-
--- the end is never taken, and nothing behind it counts
-pub at_end : (dia : Dialect) → StopsAtEnd (feeding dia)
-at_end dia = record { never = λ at n r d h. end_stops dia r.mode at n r d h; same = λ at n k r. end_same dia r.mode at n k r }
 
 -- ---- faulty tokens behind a word
 

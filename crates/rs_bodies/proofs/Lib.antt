@@ -18,7 +18,7 @@ pub mod SpeltLaws
 pub mod Placing
 pub mod Sounding
 pub mod GraphLaws
-pub mod Taken
+pub mod PartReads
 pub mod Refusals
 pub mod Heads
 pub mod PlacesIn

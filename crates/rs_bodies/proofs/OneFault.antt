@@ -30,7 +30,8 @@ use Rattle.rs_bodies.specs.Feeding.{Fed, PartAnswer, start_of_part, feed_at, fee
 use Rattle.rs_bodies.proofs.FaultRuns.{Follower, a_broken, a_name, follower, a_turn}
 use Rattle.rs_bodies.proofs.FaultPlaces.{place_wants, wanted_behind, wanted_by, fault_seen, is_named, is_named_of, NamedBy, PlaceAgrees, place_passes, opening_wants}
 use Rattle.rs_bodies.proofs.FaultSteps.{whole_fed, by_name_fault, by_turn_fault}
-use Rattle.rs_bodies.proofs.FirstFaults.{There, agree, begins_there, Verdict, verdict, Next, next_here, at_end}
+use Rattle.rs_bodies.proofs.FirstFaults.{There, agree, begins_there, Verdict, verdict, Next, next_here}
+use Rattle.rs_bodies.specs.Ends.{at_end}
 use Rattle.rs_text.proofs.Judging.{Ahead, Judges, found, first_of, proper_sign, same_place}
 use Rattle.rs_text.proofs.Leading.{Reached, reach_on, calm_if, calm_not, calm_none, NotExpected, Lands, sign_behind, lexeme, Leads, faulty_calm, leads_split}
 use Rattle.rs_text.proofs.Keeping.{tokens}

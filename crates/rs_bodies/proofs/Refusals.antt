@@ -18,9 +18,7 @@ use Rattle.rs_bodies.specs.Spellings.{Spells}
 use Rattle.rs_bodies.proofs.SpeltRuns.{sound}
 use Rattle.rs_bodies.specs.Feeding.{HasLabels, start_of_part, feeding, first_roles, Leaves, Reads, answer_of_reading}
 use Rattle.rs_text.specs.Readings.{fault_of_stop, StopsBy}
-use Rattle.rs_text.proofs.RefusedReadings.{RefusedBy}
 use Rattle.rs_bodies.proofs.OneFault.{leaves}
-use Rattle.rs_bodies.proofs.Taken.{Took, took_labels}
 use Rattle.rs_text.proofs.Keeping.{tokens}
 use Rattle.rs_bodies.specs.declared.dialects.Dialect.{Dialect}
 use Rattle.rs_bodies.specs.declared.dialects.Dialect.TheVariants.{Talks, Acts}
@@ -29,12 +27,6 @@ left_by : (dia : Dialect) (old new : Names_data) (bytes : List ℕ) (at : ℕ) (
     → KeepsBy dia old new → (last_of (feeding dia) (start_of_part dia old) (Ok (start_of_part dia old)) ls).labels ≡ new.labels → LeavesBy dia old new bytes at f.kind f.at
 left_by Talks old new bytes at ls f lexed h kept k = tt
 left_by Acts old new bytes at ls f lexed h kept k = inr (leaves old new bytes at ls f lexed h kept.roles k)
-
--- a refusal leaves the labels of the reader that refused
-pub labels_left : (dia : Dialect) (s : Stop) (o d : Reader_data) (bytes : List ℕ) (at now : ℕ) (labels : List (List ℕ)) → now ≤ length bytes → Took dia o bytes at d now
-    → RefusedBy (feeding dia) s o bytes at d → d.labels ≡ labels → Leaves dia s o bytes at labels
-labels_left dia stops.Memory o d bytes at now labels within took h k = took_labels dia o d bytes at now labels within took (sym k)
-labels_left dia (stops.Fault f) o d bytes at now labels within took h k = λ ls lexed. ap (λ z. z.labels) (h ls lexed) ∙ k
 
 -- refused memory leaves the labels of some first tokens
 left_memory : (dia : Dialect) (old new : Names_data) (bytes : List ℕ) (at : ℕ) (k : TextKind) (offset : ℕ) → k ≡ kind.NoMemory → HasLabels dia old.labels new.labels bytes at → KeepsBy dia old new

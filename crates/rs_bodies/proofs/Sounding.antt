@@ -25,13 +25,11 @@ use Rattle.rs_bodies.specs.declared.reading.Link.TheVariants as link
 use Rattle.std.specs.List.{list_all}
 use Rattle.std.proofs.lemmas.Bool.{leb-false}
 use Rattle.rs_model.specs.Data.{Names_data}
-use Rattle.rs_text.specs.Lexing.{next_lexeme}
 use Rattle.rs_text.specs.Sound.{IsSound}
 use Rattle.rs_text.specs.Words.{is_word, is_role_word}
 use Rattle.rs_text.proofs.Basics.{some_is, both}
 use Rattle.rs_text.proofs.Judging.{IsNamed}
 use Rattle.rs_text.proofs.Naming.{decides_sound, new_differ, new_all}
-use Rattle.rs_text.proofs.Judging as judging
 use Rattle.rs_text.proofs.MessageLaws.{GoodLabels, GoodBehind, labels_first, label_good, message_good}
 use Rattle.rs_text.specs.Messages.{MessageFed, goes_on, ends, feed_label, feed_message}
 use Rattle.rs_bodies.specs.Drafts.{names_read}
@@ -43,7 +41,7 @@ use Rattle.rs_bodies.proofs.Labels.{Takes, take_sign, is_of_talks}
 use Rattle.rs_bodies.specs.Feeding.{feed_of, start_of_part, first_roles, PartAnswer, answer_of_reading, ReadsAs}
 use Rattle.std.proofs.Common.{Result}
 use Rattle.rs_text.specs.Readings.{Reading, read_all}
-use Rattle.rs_text.proofs.Keeping.{tokens, kept, KeptIn, if_ok}
+use Rattle.rs_text.proofs.Keeping.{Keeps, tokens, kept, KeptIn, if_ok}
 use Rattle.rs_bodies.proofs.FaultRuns.{linked_length, placed_length}
 
 -- names that are still sound, with further labels behind the old ones
@@ -228,10 +226,15 @@ own_on Acts old t at next r d w e own =
 abbrev pub Kept : (dia : Dialect) → Names_data → Reader_data → Type 0
 Kept dia old d = Good dia old d × Own dia old d
 
+both_kept : (P Q : Reader_data → Type 0) (x : Fed) → IfOk x P → ((d : Reader_data) → x ≡ Ok d → Q d) → IfOk x (λ d. P d × Q d)
+both_kept P Q (Err e) h k = tt
+both_kept P Q (Ok d) h k = (h, k d refl)
+
 -- a token that is taken keeps the names good
-kept_on : (dia : Dialect) (old : Names_data) (t : Sign) (at : ℕ) (next : Lexeme) (r d : Reader_data) → IsNamed t → feed_sign (feeding dia) t at next r ≡ Ok d → Kept dia old r → Kept dia old d
-kept_on dia old (broken k) at next r d name f h = absurd (cc f)
-kept_on dia old t at next r d name f h = (if_ok (feed_of dia t at next r) d (Good dia old) f (keep_at dia old r.mode t at next r name h.0), own_on dia old t at next r d tt f h.1)
+pub kept_each : (dia : Dialect) (old : Names_data) → Keeps (feeding dia) (Kept dia old)
+kept_each dia old (broken k) at n r name h = tt
+kept_each dia old t at n r name h =
+    both_kept (Good dia old) (Own dia old) (feed_of dia t at n r) (keep_at dia old r.mode t at n r name h.0) (λ d f. own_on dia old t at n r d tt f h.1)
 
 own_first : (dia : Dialect) (r : Reader_data) → r ≡ start_of_part dia (names_read r) → Own dia (names_read r) r
 own_first Talks r e = tt
@@ -253,16 +256,6 @@ kept_sound dia old r g = (decides_sound (names_read r)).0 (rw (g.0.0.roles_diffe
 pub kept_keeps : (dia : Dialect) (old : Names_data) (r : Reader_data) → Kept dia old r → KeepsBy dia old (names_read r)
 kept_keeps Talks old r g = tt
 kept_keeps Acts old r g = record { later = g.0.0.labels_good.later; roles = g.1.0; labels = g.0.0.labels_good.labels_are }
-
-pub kept_fed : (dia : Dialect) (old : Names_data) (bytes : List ℕ) (now : ℕ) (t next : Lexeme) (r d : Reader_data) → t ≡ next_lexeme bytes now → feed_sign (feeding dia) t.sign t.from next r ≡ Ok d
-    → Kept dia old r → Kept dia old d
-kept_fed dia old bytes now t next r d e f h = kept_on dia old t.sign t.from next r d (judging.named bytes now t e) f h
-
-pub same_sound : (r d : Reader_data) → names_read d ≡ names_read r → IsSound (names_read r) → IsSound (names_read d)
-same_sound r d e h = subst IsSound (sym e) h
-
-pub same_keeps : (dia : Dialect) (old : Names_data) (r d : Reader_data) → names_read d ≡ names_read r → KeepsBy dia old (names_read r) → KeepsBy dia old (names_read d)
-same_keeps dia old r d e h = subst (λ (z : Names_data). KeepsBy dia old z) (sym e) h
 
 -- ---- what is read
 

@@ -1,5 +1,9 @@
 -- Headline: the two dialects of bodies, and all that they differ in.
 use Rattle.std.specs.Prelude.{ℕ, List, [], ◌∷◌, Bool, true, false}
+use Rattle.rs_model.specs.declared.graph.Arm.{Arm}
+use Rattle.rs_model.specs.declared.graph.Role.{Role}
+use Rattle.rs_model.specs.declared.machines.State.{State}
+use Rattle.rs_model.specs.declared.machines.State.TheVariants as state
 use Rattle.rs_model.specs.declared.limits.TheConstants.{MOST_ACTS, MOST_TALKS}
 use Rattle.rs_text.specs.Signs.{Sign, plain, arrow, bang, question, colon}
 use Rattle.rs_bodies.specs.declared.dialects.Dialect.{Dialect}
@@ -16,6 +20,11 @@ pub data BehindRole : Dialect → Type 0 where
 abbrev pub mark_sign : Mark → Sign
 mark_sign mark.Puts = bang
 mark_sign mark.Takes = question
+
+-- puts to the peer by these arms, or takes from it
+abbrev pub state_by_mark : Mark → Role → List Arm → State
+state_by_mark mark.Puts peer arms = state.Puts peer arms
+state_by_mark mark.Takes peer arms = state.Takes peer arms
 
 -- the tokens of a turn
 abbrev pub turn_signs : (d : Dialect) → BehindRole d → List Sign

@@ -30,7 +30,8 @@ use Rattle.rs_bodies.specs.declared.reading.Mode.TheVariants as mode
 use Rattle.rs_text.specs.declared.reading.Stop.{Stop}
 use Rattle.rs_text.specs.declared.reading.Stop.TheVariants as stops
 use Rattle.rs_bodies.specs.Data.{Reader_data, Draft_data, Spelling_data}
-use Rattle.rs_text.specs.Readings.{Automaton, Reading, fault, expected, read_all, ReadsBy, StopsBy, last_of, Fails}
+use Rattle.rs_text.specs.Readings as readings
+use Rattle.rs_text.specs.Readings.{Automaton, Reading, fault, expected, read_all, ReadsBy, StopsBy, last_of}
 use Rattle.rs_bodies.specs.Drafts.{with_arm, spelling_read, names_read}
 use Rattle.rs_bodies.specs.Faults.{labels_among}
 
@@ -305,5 +306,4 @@ pub record HasStopped (d : Dialect) (bytes : List ℕ) (at : ℕ) (old new : Rea
 
 -- a method takes one step of the reader; where it stops the names are as before
 abbrev pub Feeds : Result (Unit {0}) Stop → Fed → (old new : Reader_data) → Type 0
-Feeds (Ok done) fed old new = fed ≡ Ok new
-Feeds (Err stop) fed old new = Fails stop fed × (names_read new ≡ names_read old)
+Feeds result fed old new = readings.Feeds names_read result fed old new

@@ -25,3 +25,5 @@ pub mod Printing
 pub mod Faults
 pub mod Drafts
 pub mod Feeding
+pub mod PartFeeding
+pub mod Ends

@@ -6,16 +6,44 @@ ghost use Rattle.rs_text.specs.Sound.{AreReadable, IsSound};
 ghost use Rattle.rs_bodies.specs.Dialects.{most};
 ghost use Rattle.rs_bodies.specs.Drafts.{names_read, spelling_read};
 ghost use Rattle.rs_bodies.specs.Faults.{FirstFault, KeepsBy, LeavesBy};
-ghost use Rattle.rs_bodies.specs.Feeding.{start_of_part, first_roles, HasLabels, HasRead, HasStopped};
+ghost use Rattle.rs_bodies.specs.Feeding.{start_of_part, first_roles, HasRead, HasStopped};
 ghost use Rattle.rs_bodies.specs.Read.{IsPartRead};
 
 use crate::dialects::Dialect;
 use crate::points::{Spelling, points, settled_number};
 use crate::reading::Reader;
 use rs_model::{Names, NoMemory};
-use rs_text::{Stop, TextFault, next_token};
+use rs_text::{Stop, TextFault, TextToken, TokenReader, read_tokens};
 use std::alloc::Global;
 use std::mem;
+
+/// Reads a part of a dialect, token by token.
+#[derive(Drop)]
+struct PartReader<'a> {
+    dialect: Dialect,
+    reader: Reader<'a>,
+}
+
+impl<'a> TokenReader<'a> for PartReader<'a> {
+    ghost use Rattle.rs_bodies.specs.Ends.{part_stops_at_end};
+    ghost use Rattle.rs_bodies.specs.PartFeeding.{feeding_part, names_of_part};
+
+    ghost automaton = { feeding_part };
+
+    ghost stops_at_end = { part_stops_at_end };
+
+    ghost names = { names_of_part };
+
+    #[inline(always)]
+    fn feed(&mut self, token: &TextToken<'a>, bytes: &'a [u8]) -> Result<(), Stop> {
+        self.reader.feed(self.dialect, token, bytes)
+    }
+
+    #[inline(always)]
+    fn is_read(&self) -> bool {
+        self.reader.is_read()
+    }
+}
 
 /// Reads a part from the offset `at` on, a roles line with a protocol or a machine, and gives what it spells and the
 /// offset of the first byte behind it that is neither a blank nor in a comment, or the length. The names are sound, with
@@ -46,8 +74,10 @@ pub fn read_part(
 {
     let roles = mem::replace(&mut names.roles, Vec::new(alloc));
     let labels = mem::replace(&mut names.labels, Vec::new(alloc));
-    let mut reader = Reader::new(alloc, dialect, roles, labels);
-    let result = read_with(alloc, dialect, &mut reader, bytes, at);
+    let reader = Reader::new(alloc, dialect, roles, labels);
+    let mut part = PartReader { dialect, reader };
+    let result = read_with(alloc, &mut part, bytes, at);
+    let PartReader { reader, .. } = part;
     names.roles = reader.roles.into_names();
     names.labels = reader.labels.into_names();
     match result {
@@ -59,22 +89,21 @@ pub fn read_part(
 /// Reads the part and gives what was read.
 fn read_with<'a>(
     alloc: Global,
-    dialect: Dialect,
-    reader: &mut Reader<'a>,
+    part: &mut PartReader<'a>,
     bytes: &'a [u8],
     at: usize,
 ) -> Result<(Spelling, usize), Stop>
     requires at { at ≤ length bytes.now }
-    requires sound { IsSound (names_read reader.old) }
-    requires begun { reader.old ≡ start_of_part dialect (names_read reader.old) }
-    ensures ok { IfOk result (λ r. HasRead dialect bytes.now at reader.old reader.new r.1) }
-    ensures spelling { IfOk result (λ r. (r.0 ≡ spelling_read reader.new) × (length r.0.points ≤ most dialect)) }
-    ensures err { IfErr result (λ e. HasStopped dialect bytes.now at reader.old reader.new e) }
-    ensures sound { IsSound (names_read reader.new) }
-    ensures kept { KeepsBy dialect (names_read reader.old) (names_read reader.new) }
+    requires sound { IsSound (names_read part.old.reader) }
+    requires begun { part.old.reader ≡ start_of_part part.old.dialect (names_read part.old.reader) }
+    ensures ok { IfOk result (λ r. HasRead part.old.dialect bytes.now at part.old.reader part.new.reader r.1) }
+    ensures spelling { IfOk result (λ r. (r.0 ≡ spelling_read part.new.reader) × (length r.0.points ≤ most part.old.dialect)) }
+    ensures err { IfErr result (λ e. HasStopped part.old.dialect bytes.now at part.old.reader part.new.reader e) }
+    ensures sound { IsSound (names_read part.new.reader) }
+    ensures kept { KeepsBy part.old.dialect (names_read part.old.reader) (names_read part.new.reader) }
 {
-    let until = read(dialect, reader, bytes, at)?;
-    let spelling = spelling(alloc, reader)?;
+    let until = read_tokens(part, bytes, at)?;
+    let spelling = spelling(alloc, &part.reader)?;
     Ok((spelling, until))
 }
 
@@ -90,29 +119,4 @@ fn spelling(alloc: Global, reader: &Reader) -> Result<Spelling, NoMemory>
         ended: reader.ended,
         start: settled_number(last, reader.start),
     })
-}
-
-fn read<'a>(
-    dialect: Dialect,
-    reader: &mut Reader<'a>,
-    bytes: &'a [u8],
-    at: usize,
-) -> Result<usize, Stop>
-    requires at { at ≤ length bytes.now }
-    requires sound { IsSound (names_read reader.old) }
-    requires begun { reader.old ≡ start_of_part dialect (names_read reader.old) }
-    ensures ok { IfOk result (λ until. HasRead dialect bytes.now at reader.old reader.new until) }
-    ensures err { IfErr result (λ e. HasStopped dialect bytes.now at reader.old reader.new e) }
-    ensures labels { HasLabels dialect reader.old.labels reader.new.labels bytes.now at }
-    ensures sound { IsSound (names_read reader.new) }
-    ensures kept { KeepsBy dialect (names_read reader.old) (names_read reader.new) }
-{
-    let mut until = at;
-    while !reader.is_read() {
-        let token = next_token(bytes, until);
-        reader.feed(dialect, &token, bytes)?;
-        until = token.until();
-    }
-    let behind = next_token(bytes, until);
-    Ok(behind.from())
 }

@@ -132,28 +132,6 @@ fn is_turn(dialect: Dialect, token: &TextToken) -> bool
     }
 }
 
-/// Whether the token is this plain word.
-#[inline(always)]
-fn is_text(token: &TextToken, word: &[u8]) -> bool
-    ensures { result ≡ is_text word.now (plain_text token.now.sign) }
-{
-    match token.plain() {
-        Some(text) => text == word,
-        None => false,
-    }
-}
-
-/// The role with this name.
-#[tactic(auto, using(rs_text::proofs::Numbers::place_below))]
-fn role_named(roles: &NameTable, word: &[u8]) -> Option<Role>
-    requires { length roles.now ≤ MOST_ROLES }
-    ensures some { IfSome result (λ role. place_of word.now roles.now ≡ Some role.0) }
-    ensures none { IfNone result (place_of word.now roles.now ≡ None) }
-{
-    let place = roles.find(word)?;
-    Some(Role(place as u8))
-}
-
 // The steps are inline, so that a token need not be laid out in memory.
 impl<'a> Reader<'a> {
     /// A reader before its first token.
@@ -220,7 +198,7 @@ impl<'a> Reader<'a> {
     fn roles(&mut self, token: &TextToken) -> Result<(), Stop>
         ensures { spec.Feeds result (spec.feed_roles token.now.sign token.now.from self.old) self.old self.new }
     {
-        if !is_text(token, b"roles".as_slice()) {
+        if !token.is_keyword(b"roles") {
             return expected(Wanted::Roles, token.from());
         }
         self.mode = Mode::FirstRole;
@@ -272,7 +250,7 @@ impl<'a> Reader<'a> {
         ensures kept { OnErr result (names_read self.new ≡ names_read self.old) }
         ensures fault { IfErr result (λ e. e ≡ Stop.Fault (record { kind = TextKind.Expected Wanted.CommaOrProtocol; at = token.now.from })) }
     {
-        if !is_text(token, b"protocol".as_slice()) {
+        if !token.is_keyword(b"protocol") {
             return expected(Wanted::CommaOrProtocol, token.from());
         }
         self.mode = Mode::Body { from: Link::Start };
@@ -284,7 +262,7 @@ impl<'a> Reader<'a> {
     fn machine(&mut self, token: &TextToken) -> Result<(), Stop>
         ensures { spec.Feeds result (spec.feed_machine token.now.sign token.now.from self.old) self.old self.new }
     {
-        if !is_text(token, b"machine".as_slice()) {
+        if !token.is_keyword(b"machine") {
             return expected(Wanted::PartOrEnd, token.from());
         }
         self.mode = Mode::AtRole;
@@ -298,7 +276,7 @@ impl<'a> Reader<'a> {
         let Some(word) = token.plain() else {
             return expected(Wanted::Role, token.from());
         };
-        let role = role_named(&self.roles, word);
+        let role = self.roles.find_role(word);
         self.set_role(role, token.from())
     }
 
@@ -454,7 +432,7 @@ impl<'a> Reader<'a> {
         let Some(word) = token.plain() else {
             return expected(Wanted::Role, token.from());
         };
-        let Some(receiver) = role_named(&self.roles, word) else {
+        let Some(receiver) = self.roles.find_role(word) else {
             return fault(TextKind::UnknownRole, token.from());
         };
         self.begin_act(
@@ -683,7 +661,7 @@ impl<'a> Reader<'a> {
             (nearest_binding word.now self.old.bound) from at self.old) self.old self.new }
     {
         if is_turn(dialect, next) {
-            let first = role_named(&self.roles, word);
+            let first = self.roles.find_role(word);
             self.begin_head(dialect, from, first, at)
         } else {
             let act = bound_number(self.bound.as_slice(), word);

@@ -29,7 +29,8 @@ use Rattle.rs_text.proofs.Basics.{two_true}
 use Rattle.rs_text.proofs.Written.{written_cut}
 use Rattle.rs_derivations.specs.Canonical.{tree_of_act, tree_of_node, tree_of, canonical_text}
 use Rattle.rs_derivations.specs.declared.formats.Format.TheVariants.{Two}
-use Rattle.rs_derivations.specs.Derivations.{acts_of, acts_of_number, labels_of_acts, peers_of_acts, names_of, role_named, label_named, act_of_tree, node_of_tree, derivation_of}
+use Rattle.rs_derivations.specs.Derivations.{acts_of, acts_of_number, labels_of_acts, peers_of_acts, names_of, act_of_tree, node_of_tree, derivation_of}
+use Rattle.rs_text.specs.KnownNames.{role_named, label_named}
 use Rattle.rs_derivations.specs.PendingLists.{lists_of, list_number}
 use Rattle.rs_derivations.specs.Numbers.{HasSmallNumbers, AreSmall}
 use Rattle.rs_derivations.specs.Printable.{peer_of, label_number, IsPrintable}

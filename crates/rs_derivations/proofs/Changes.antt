@@ -19,8 +19,11 @@ use Rattle.rs_derivations.specs.Cuts.{ActCut, behind_peer, behind_mark, behind_l
 use Rattle.rs_derivations.specs.Cuts.{at_rank_word, at_rank, at_next_word, at_nexts, at_next, behind_next, Head, ActsHome, of_node, of_list, Cut, at_begin, at_role, behind_role, at_format_number, behind_format, at_bound}
 use Rattle.rs_derivations.specs.Cuts.{at_brace, at_lists, at_list_number, at_list_colon, in_acts, in_node, at_pending_number, at_above_word, at_end}
 use Rattle.rs_derivations.specs.Derivations.{acts_of, written_lists, labels_of_acts, peers_of_acts}
-use Rattle.rs_derivations.specs.Faults.{number_value, fault_of_role, fault_of_label, fault_of_node, fault_of_peer, acts_before, fault_of}
-use Rattle.rs_derivations.specs.Feeding.{is_colon, is_comma, is_open_brace, is_close_brace, is_open_bracket, is_close_bracket, is_keyword, mark_kind, is_none_of, is_some_of, is_bound}
+use Rattle.rs_derivations.specs.Faults.{fault_of_node, fault_of_peer, acts_before, fault_of}
+use Rattle.rs_text.specs.TokenTests.{number_value}
+use Rattle.rs_text.specs.NameFaults.{fault_of_role, fault_of_label}
+use Rattle.rs_derivations.specs.Feeding.{mark_kind, is_none_of, is_some_of, is_bound}
+use Rattle.rs_text.specs.TokenTests.{is_colon, is_comma, is_open_brace, is_close_brace, is_open_bracket, is_close_bracket, is_keyword}
 use Rattle.rs_derivations.specs.Trees.{ActTree, PendingTree, NodeTree}
 use Rattle.rs_derivations.proofs.Grows.{is_open_paren, is_close_paren, act_tree, node_tree, derivation_tree, first_head, listed, acted, mark_step, label_step, sorted_step, sort_step, act_grows, first_step}
 use Rattle.rs_derivations.proofs.Grows.{begin_step, list_step, act_step, acts_end, acts_grow, number_step, state_step, pending_step, with_step, above_step, rank_step, ended, next_step, node_grows}

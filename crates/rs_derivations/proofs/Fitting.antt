@@ -14,8 +14,9 @@ use Rattle.rs_text.specs.Signs.{Sign}
 use Rattle.rs_text.proofs.Basics.{both}
 use Rattle.rs_text.proofs.Naming.{grown_append}
 use Rattle.rs_derivations.specs.Cuts.{Cut, at_begin}
-use Rattle.rs_derivations.specs.Faults.{fault_of_role, fault_of_peer, fault_of}
-use Rattle.rs_derivations.specs.Spells.{AreKnown}
+use Rattle.rs_derivations.specs.Faults.{fault_of_peer, fault_of}
+use Rattle.rs_text.specs.NameFaults.{fault_of_role}
+use Rattle.rs_text.specs.KnownNames.{AreKnown}
 use Rattle.rs_derivations.specs.Trees.{ActTree}
 use Rattle.rs_derivations.proofs.Changes.{up_to, ordinals_of, labels_in, roles_in, ordinals_in, count_in, Adds, Change}
 

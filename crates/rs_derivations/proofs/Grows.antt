@@ -20,8 +20,9 @@ use Rattle.rs_derivations.specs.Cuts.{ActCut, behind_peer, behind_mark, behind_l
 use Rattle.rs_derivations.specs.Cuts.{at_rank_word, at_rank, at_next_word, at_nexts, at_next, behind_next, Head, ActsHome, of_node, of_list, Cut, at_begin, at_role, behind_role, at_format_number, behind_format, at_bound}
 use Rattle.rs_derivations.specs.Cuts.{at_brace, at_lists, at_list_number, at_list_colon, in_acts, in_node, at_pending_number, at_above_word, at_end, act_cut_signs, elements_with_commas, acts_cut_signs, node_behind_pending}
 use Rattle.rs_derivations.specs.Cuts.{node_before_nexts, node_cut_signs, signs_before_nodes, signs_before_node, signs_before_acts, cut_signs, IsBegun, IsAtNode, IsInNode, IsHome, IsPlace}
-use Rattle.rs_derivations.specs.Faults.{number_value}
-use Rattle.rs_derivations.specs.Feeding.{is_colon, is_comma, is_open_brace, is_close_brace, is_open_bracket, is_close_bracket, is_keyword, mark_kind, is_none_of, is_some_of, is_bound}
+use Rattle.rs_text.specs.TokenTests.{number_value}
+use Rattle.rs_derivations.specs.Feeding.{mark_kind, is_none_of, is_some_of, is_bound}
+use Rattle.rs_text.specs.TokenTests.{is_colon, is_comma, is_open_brace, is_close_brace, is_open_bracket, is_close_bracket, is_keyword}
 use Rattle.rs_derivations.specs.Lists.{list_with_separators, with_separators}
 use Rattle.rs_derivations.specs.Spells.{HasItsList}
 use Rattle.rs_derivations.specs.Trees.{ActTree, ListsTree, PendingTree, NodeTree, DerivationTree, mark_sign, act_signs, acts_signs, number_signs, numbers_signs, list_signs, lists_signs_from, lists_signs, pending_signs}

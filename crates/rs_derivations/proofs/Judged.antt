@@ -1,5 +1,5 @@
 -- The fault that the reader tells is the first one of the text, and what it reads is spelt there.
-use Rattle.std.proofs.Common.{◌≡◌, ◌⊎◌, inl, inr, ℕ, ◌≤◌, List, [], ◌∷◌, ◌++◌, length, Bool, true, false, ◌==◌, if◌then◌else◌, Option, Some, None, IfSome, Ok, Err, refl, sym, ap, ◌∙◌, subst}
+use Rattle.std.proofs.Common.{◌≡◌, ◌⊎◌, inl, inr, ℕ, ◌≤◌, List, [], ◌∷◌, ◌++◌, length, Bool, true, false, ◌==◌, if◌then◌else◌, Option, Some, None, IfSome, Ok, refl, sym, ap, ◌∙◌, subst}
 use Rattle.std.specs.Option.{option_map}
 use Rattle.rs_model.specs.Data.{Names_data}
 use Rattle.rs_model.specs.declared.limits.TheConstants.{MOST_LABELS}
@@ -15,13 +15,9 @@ use Rattle.rs_text.specs.Lexemes.{Lexeme, signs_of}
 use Rattle.rs_text.specs.Lexing.{Lexed}
 use Rattle.rs_text.specs.Readings.{Reading, feed_sign, next_lexeme_of, read_all}
 use Rattle.rs_text.specs.Seen.{plain_text, word_text}
-use Rattle.rs_text.specs.Signs.{Sign, broken, finish}
+use Rattle.rs_text.specs.Signs.{Sign, broken}
 use Rattle.rs_text.proofs.Judging as judging
 use Rattle.rs_text.proofs.Judging.{Here, IsProper, proper_sign, Judges, Halt, halt, Wholeness, a_faulty, a_whole, wholeness}
-use Rattle.rs_text.proofs.Standing.{StopsAtEnd}
-use Rattle.rs_derivations.specs.declared.reading.Mode.{Mode}
-use Rattle.rs_text.specs.declared.messages.MessagePlace.TheVariants as place
-use Rattle.rs_derivations.specs.declared.reading.Mode.TheVariants as mode
 use Rattle.rs_derivations.specs.Data.{Reader_data}
 use Rattle.rs_text.specs.Names.{names_with}
 use Rattle.rs_derivations.proofs.ReadDerivations.{derivation_read}
@@ -36,8 +32,11 @@ use Rattle.rs_derivations.specs.declared.formats.Format.TheVariants.{One, Two}
 use Rattle.rs_derivations.specs.Cuts.{behind_peer, behind_mark, behind_label, behind_paren, behind_sort, ActsCut, at_act, in_act, behind_act, NodeCut, at_number, at_colon, at_state, at_pending, at_above}
 use Rattle.rs_derivations.specs.Cuts.{at_rank_word, at_rank, at_next_word, at_nexts, at_next, behind_next, Head, ActsHome, of_node, of_list, Cut, at_begin, at_role, in_acts, in_node, at_end, cut_signs, wanted_of, IsPlace}
 use Rattle.rs_derivations.specs.Derivations.{written_lists, labels_of_acts, derivation_of}
-use Rattle.rs_derivations.specs.Faults.{Begins, IsInDerivation, StandsAt, IsMisplaced, FaultAt, number_value, fault_of_role, fault_of_label, fault_of_node, fault_of_peer, acts_before, fault_in_acts, fault_in_node, fault_of}
-use Rattle.rs_derivations.specs.Feeding.{Fed, start_of_derivation, feed_no_act, feed_behind_acts, feed_at, is_read, feeding, names_read}
+use Rattle.rs_derivations.specs.Faults.{Begins, IsInDerivation, StandsAt, IsMisplaced, FaultAt, fault_of_node, fault_of_peer, acts_before, fault_in_acts, fault_in_node, fault_of}
+use Rattle.rs_text.specs.TokenTests.{number_value}
+use Rattle.rs_text.specs.NameFaults.{fault_of_role, fault_of_label}
+use Rattle.rs_derivations.specs.Ends.{at_end_stops}
+use Rattle.rs_derivations.specs.Feeding.{Fed, start_of_derivation, feed_at, is_read, feeding, names_read}
 use Rattle.rs_derivations.proofs.Fitting.{FitsSo, fits_first, few_lists, lists_few, fits_on, fits_back}
 use Rattle.rs_derivations.proofs.Grows.{number_step, act_step, label_step, role_step, acts_grow, node_grows, grows, GoesOn, goes_on}
 
@@ -311,34 +310,6 @@ verdict_by _ (a_faulty j) old xs at n r s h proper = inl (faulty old xs j at n.s
 verdict_by _ (a_whole t w) old xs at n r s h proper =
     subst (λ (z : Fed). judging.Verdict (FaultAt old) LeavesAny r xs t at n z) (sym (fed_is old xs t at n r s w))
     (verdict_of old xs t at n r s h proper w (grows s.place t) (fault_of old s.place t) refl refl)
-
--- ---- the end
-
-abbrev IsRefused : Fed → Type 0
-IsRefused (Ok d) = ⊥
-IsRefused (Err e) = Unit {0}
-
-no_act_refused : (f : Format) (at : ℕ) (r : Reader_data) → IsRefused (feed_no_act f false at r)
-no_act_refused One at r = tt
-no_act_refused Two at r = tt
-
-behind_acts_refused : (f : Format) (at : ℕ) (r : Reader_data) → IsRefused (feed_behind_acts f finish at r)
-behind_acts_refused One at r = tt
-behind_acts_refused Two at r = tt
-
-end_refused : (m : Mode) (at : ℕ) (r : Reader_data) → IsRefused (feed_at m finish at r)
-end_refused mode.AtAct at r = no_act_refused r.format at r
-end_refused mode.BehindAct at r = behind_acts_refused r.format at r
-end_refused mode.Derivation at r = tt
-end_refused (mode.InMessage p m place.Label) at r = tt
-end_refused _ at r = tt
-
-end_stops : (m : Mode) (at : ℕ) (r d : Reader_data) → feed_at m finish at r ≡ Ok d → ⊥
-end_stops m at r d h = subst IsRefused h (end_refused m at r)
-
--- the end is never taken, and nothing behind it counts
-pub at_end_stops : StopsAtEnd feeding
-at_end_stops = record { never = λ at n r d h. end_stops r.mode at r d h; same = λ at n k r. refl }
 
 -- ---- the whole
 

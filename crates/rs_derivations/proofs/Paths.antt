@@ -20,7 +20,8 @@ use Rattle.rs_derivations.specs.Cuts.{at_rank_word, at_rank, at_next_word, at_ne
 use Rattle.rs_derivations.specs.Cuts.{at_brace, at_lists, at_list_number, at_list_colon, in_acts, in_node, at_pending_number, at_above_word, at_end, act_cut_signs, elements_with_commas, acts_cut_signs, node_behind_pending}
 use Rattle.rs_derivations.specs.Cuts.{node_before_nexts, node_cut_signs, signs_before_nodes, cut_signs, IsInNode, IsPlace}
 use Rattle.rs_derivations.specs.Faults.{Begins}
-use Rattle.rs_derivations.specs.Feeding.{is_bound, is_comma}
+use Rattle.rs_derivations.specs.Feeding.{is_bound}
+use Rattle.rs_text.specs.TokenTests.{is_comma}
 use Rattle.rs_derivations.specs.Lists.{with_separators}
 use Rattle.rs_derivations.specs.Spells.{HaveActs, HasItsList, IsFormed}
 use Rattle.rs_derivations.specs.Trees.{ActTree, PendingTree, NodeTree, DerivationTree, mark_sign, act_signs, acts_signs, number_signs, numbers_signs, list_signs, lists_signs_from, pending_signs, node_signs}

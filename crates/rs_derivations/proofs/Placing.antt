@@ -20,10 +20,11 @@ use Rattle.rs_derivations.specs.Derivations.{acts_of_number}
 use Rattle.rs_derivations.specs.declared.reading.Mode.{Mode}
 use Rattle.rs_derivations.specs.declared.reading.Mode.TheVariants as mode
 use Rattle.rs_derivations.specs.Data.{Reader_data}
-use Rattle.rs_derivations.specs.Faults.{number_value}
+use Rattle.rs_text.specs.TokenTests.{number_value}
 use Rattle.rs_derivations.specs.Feeding.{Fed, in_mode, passes, feed_derivation_role, feed_role, feed_behind_role, feed_format, feed_bound, behind_brace, beginning, feed_beginning, feed_list_number, feed_node, feed_state}
 use Rattle.rs_derivations.specs.Feeding.{feed_pending_number, feed_acts_end, feed_peer, feed_no_act, feed_act, feed_mark, in_message, feed_list_end, feed_behind_acts, feed_behind_act, feed_above, feed_rank, feed_node_end, feed_next}
-use Rattle.rs_derivations.specs.Feeding.{feed_behind_next, feed_rest, feed_middle, feed_at, feeding, is_bound, is_some_of, is_none_of, is_comma, is_close_bracket, is_close_brace, mark_kind}
+use Rattle.rs_derivations.specs.Feeding.{feed_behind_next, feed_outside, feed_at, feeding, is_bound, is_some_of, is_none_of, mark_kind}
+use Rattle.rs_text.specs.TokenTests.{is_comma, is_close_bracket, is_close_brace}
 
 -- the fault stands there
 abbrev Stays : ℕ → Fed → Type 0
@@ -127,42 +128,39 @@ behind_next n true c at r h = tt
 behind_next n false true at r h = tt
 behind_next n false false at r h = h
 
-rest : (n : ℕ) (m : Mode) (t : Sign) (at : ℕ) (r : Reader_data) → at ≤ n → Stays n (feed_rest m t at r)
-rest n mode.AtAbove t at r h = above n (number_value t) at r h
-rest n mode.AtRankWord t at r h = passed n _ _ mode.AtRank at r h
-rest n mode.AtRank t at r h = rank n (number_value t) at r h
-rest n mode.AtNextWord t at r h = passed n _ _ mode.AtNexts at r h
-rest n mode.AtNexts t at r h = passed n _ _ mode.AtNext at r h
-rest n mode.AtNext t at r h = next n (number_value t) (is_close_bracket t) at r h
-rest n mode.BehindNext t at r h = behind_next n (is_comma t) (is_close_bracket t) at r h
-rest n _ t at r h = h
-
-middle : (n : ℕ) (m : Mode) (t : Sign) (at : ℕ) (r : Reader_data) → at ≤ n → Stays n (feed_middle m t at r)
-middle n mode.AtNode t at r h = node n (number_value t) (is_close_brace t) at r h
-middle n mode.AtColon t at r h = passed n _ _ mode.AtState at r h
-middle n mode.AtState t at r h = state n (number_value t) at r h
-middle n mode.AtActs t at r h = passed n _ _ mode.AtAct at r h
-middle n mode.AtWith t at r h = passed n _ _ mode.AtPendingNumber at r h
-middle n mode.AtPendingNumber t at r h = pending_number n (number_value t) at r h
-middle n mode.AtAboveWord t at r h = passed n _ _ mode.AtAbove at r h
-middle n mode.AtAct t at r h = act n (plain_text t) (is_close_bracket t) at r h
-middle n (mode.AtMark p) t at r h = mark n p (mark_kind t) at r h
-middle n (mode.InMessage p m x) t at r h = message n p m (feed_message x t at r.labels) r (message_below n x t at r.labels h)
-middle n mode.BehindAct t at r h = behind_act n t at r h
-middle n m t at r h = rest n m t at r h
+outside : (n : ℕ) (m : Mode) (t : Sign) (at : ℕ) (r : Reader_data) → at ≤ n → Stays n (feed_outside m t at r)
+outside n mode.Derivation t at r h = passed n _ _ mode.AtRole at r h
+outside n mode.AtRole t at r h = role n (plain_text t) at r h
+outside n mode.BehindRole t at r h = behind_role n _ _ at r h
+outside n mode.AtFormatNumber t at r h = format n (number_value t) at r h
+outside n mode.BehindFormat t at r h = passed n _ _ mode.AtBound at r h
+outside n mode.AtBound t at r h = bound n (number_value t) at r h
+outside n mode.AtBrace t at r h = passed n _ _ (behind_brace r.format) at r h
+outside n mode.AtLists t at r h = begin n (beginning t) at r h
+outside n mode.AtListNumber t at r h = list_number n (number_value t) at r h
+outside n mode.AtListColon t at r h = passed n _ _ mode.AtAct at r h
+outside n mode.AtActs t at r h = passed n _ _ mode.AtAct at r h
+outside n mode.AtAct t at r h = act n (plain_text t) (is_close_bracket t) at r h
+outside n (mode.AtMark p) t at r h = mark n p (mark_kind t) at r h
+outside n (mode.InMessage p m x) t at r h = message n p m (feed_message x t at r.labels) r (message_below n x t at r.labels h)
+outside n mode.BehindAct t at r h = behind_act n t at r h
+outside n _ t at r h = h
 
 fed : (n : ℕ) (m : Mode) (t : Sign) (at : ℕ) (r : Reader_data) → at ≤ n → Stays n (feed_at m t at r)
-fed n mode.Derivation t at r h = passed n _ _ mode.AtRole at r h
-fed n mode.AtRole t at r h = role n (plain_text t) at r h
-fed n mode.BehindRole t at r h = behind_role n _ _ at r h
-fed n mode.AtFormatNumber t at r h = format n (number_value t) at r h
-fed n mode.BehindFormat t at r h = passed n _ _ mode.AtBound at r h
-fed n mode.AtBound t at r h = bound n (number_value t) at r h
-fed n mode.AtBrace t at r h = passed n _ _ (behind_brace r.format) at r h
-fed n mode.AtLists t at r h = begin n (beginning t) at r h
-fed n mode.AtListNumber t at r h = list_number n (number_value t) at r h
-fed n mode.AtListColon t at r h = passed n _ _ mode.AtAct at r h
-fed n m t at r h = middle n m t at r h
+fed n mode.AtNode t at r h = node n (number_value t) (is_close_brace t) at r h
+fed n mode.AtColon t at r h = passed n _ _ mode.AtState at r h
+fed n mode.AtState t at r h = state n (number_value t) at r h
+fed n mode.AtWith t at r h = passed n _ _ mode.AtPendingNumber at r h
+fed n mode.AtPendingNumber t at r h = pending_number n (number_value t) at r h
+fed n mode.AtAboveWord t at r h = passed n _ _ mode.AtAbove at r h
+fed n mode.AtAbove t at r h = above n (number_value t) at r h
+fed n mode.AtRankWord t at r h = passed n _ _ mode.AtRank at r h
+fed n mode.AtRank t at r h = rank n (number_value t) at r h
+fed n mode.AtNextWord t at r h = passed n _ _ mode.AtNexts at r h
+fed n mode.AtNexts t at r h = passed n _ _ mode.AtNext at r h
+fed n mode.AtNext t at r h = next n (number_value t) (is_close_bracket t) at r h
+fed n mode.BehindNext t at r h = behind_next n (is_comma t) (is_close_bracket t) at r h
+fed n m t at r h = outside n m t at r h
 
 -- no fault stands further on
 pub stays_below : StaysBelow feeding

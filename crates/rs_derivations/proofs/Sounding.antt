@@ -7,20 +7,19 @@ use Rattle.rs_model.specs.declared.limits.TheConstants.{MOST_BOUND, MOST_CANDIDA
 use Rattle.rs_prefix.specs.declared.earliest.ActKind.{ActKind}
 use Rattle.rs_text.specs.declared.faults.TextKind.TheVariants as kind
 use Rattle.rs_text.specs.declared.faults.Wanted.{Wanted}
-use Rattle.rs_text.specs.Lexemes.{Lexeme}
-use Rattle.rs_text.specs.Lexing.{next_lexeme}
 use Rattle.rs_text.specs.Names.{place_of, differ}
-use Rattle.rs_text.specs.Readings.{fault, expected, feed_sign}
+use Rattle.rs_text.specs.Readings.{AreNamesBehind, fault, expected}
 use Rattle.rs_text.specs.Seen.{plain_text}
 use Rattle.rs_text.specs.Signs.{Sign, broken}
 use Rattle.rs_text.specs.Sound.{IsSound}
 use Rattle.rs_text.specs.Words.{is_word, is_role_word}
-use Rattle.rs_text.proofs.Judging.{IsNamed, named}
+use Rattle.rs_text.proofs.Judging.{IsNamed}
 use Rattle.rs_text.proofs.Basics.{both}
 use Rattle.rs_text.proofs.MessageLaws.{GoodLabels, GoodBehind, labels_first, message_good}
 use Rattle.rs_text.proofs.Naming.{decides_sound}
 use Rattle.rs_text.specs.Messages.{MessageFed, goes_on, ends, feed_message}
-use Rattle.rs_text.proofs.Keeping.{if_ok}
+use Rattle.rs_text.proofs.Keeping as kept
+use Rattle.rs_text.proofs.Taking.{kept_behind}
 use Rattle.rs_text.specs.declared.faults.TextFault.{TextFault}
 use Rattle.rs_derivations.specs.declared.formats.Format.{Format}
 use Rattle.rs_derivations.specs.declared.formats.Format.TheVariants.{One, Two}
@@ -28,11 +27,12 @@ use Rattle.rs_derivations.specs.Derivations.{acts_of_number}
 use Rattle.rs_derivations.specs.declared.reading.Mode.{Mode}
 use Rattle.rs_derivations.specs.declared.reading.Mode.TheVariants as mode
 use Rattle.rs_derivations.specs.Data.{Reader_data}
-use Rattle.rs_derivations.specs.Faults.{number_value}
+use Rattle.rs_text.specs.TokenTests.{number_value}
 use Rattle.rs_text.specs.Kept.{Keeps}
 use Rattle.rs_derivations.specs.Feeding.{Fed, in_mode, passes, feed_derivation_role, feed_role, feed_behind_role, feed_format, feed_bound, behind_brace, beginning, feed_beginning, feed_list_number, feed_node, feed_state}
 use Rattle.rs_derivations.specs.Feeding.{feed_pending_number, feed_acts_end, feed_peer, feed_no_act, feed_act, feed_mark, in_message, feed_list_end, feed_behind_acts, feed_behind_act, feed_above, feed_rank, feed_node_end, feed_next}
-use Rattle.rs_derivations.specs.Feeding.{feed_behind_next, feed_rest, feed_middle, feed_at, feeding, is_bound, is_some_of, is_none_of, is_comma, is_close_bracket, is_close_brace, mark_kind, feed_of, names_read}
+use Rattle.rs_derivations.specs.Feeding.{feed_behind_next, feed_outside, feed_at, feeding, is_bound, is_some_of, is_none_of, mark_kind, names_read}
+use Rattle.rs_text.specs.TokenTests.{is_comma, is_close_bracket, is_close_brace}
 
 -- names that are still sound, with further labels behind the old ones
 pub record GoodNames (old : Names_data) (roles labels : List (List ℕ)) : Type 0 where
@@ -143,66 +143,65 @@ behind_next old true c at r h = h
 behind_next old false true at r h = h
 behind_next old false false at r h = tt
 
-rest : (old : Names_data) (m : Mode) (t : Sign) (at : ℕ) (r : Reader_data) → Good old r → Stays old (feed_rest m t at r)
-rest old mode.AtAbove t at r h = above old (number_value t) at r h
-rest old mode.AtRankWord t at r h = passed old _ _ mode.AtRank at r h
-rest old mode.AtRank t at r h = rank old (number_value t) at r h
-rest old mode.AtNextWord t at r h = passed old _ _ mode.AtNexts at r h
-rest old mode.AtNexts t at r h = passed old _ _ mode.AtNext at r h
-rest old mode.AtNext t at r h = next old (number_value t) (is_close_bracket t) at r h
-rest old mode.BehindNext t at r h = behind_next old (is_comma t) (is_close_bracket t) at r h
-rest old _ t at r h = tt
-
-middle : (old : Names_data) (m : Mode) (t : Sign) (at : ℕ) (r : Reader_data) → IsNamed t → Good old r → Stays old (feed_middle m t at r)
-middle old mode.AtNode t at r n h = node old (number_value t) (is_close_brace t) at r h
-middle old mode.AtColon t at r n h = passed old _ _ mode.AtState at r h
-middle old mode.AtState t at r n h = state old (number_value t) at r h
-middle old mode.AtActs t at r n h = passed old _ _ mode.AtAct at r h
-middle old mode.AtWith t at r n h = passed old _ _ mode.AtPendingNumber at r h
-middle old mode.AtPendingNumber t at r n h = pending_number old (number_value t) at r h
-middle old mode.AtAboveWord t at r n h = passed old _ _ mode.AtAbove at r h
-middle old mode.AtAct t at r n h = act old (plain_text t) (is_close_bracket t) at r h
-middle old (mode.AtMark p) t at r n h = mark old p (mark_kind t) at r h
-middle old (mode.InMessage p m x) t at r n h = message old p m (feed_message x t at r.labels) r (message_good old.labels r.labels x t at n h.labels_good) h
-middle old mode.BehindAct t at r n h = behind_act old t at r h
-middle old m t at r n h = rest old m t at r h
+outside : (old : Names_data) (m : Mode) (t : Sign) (at : ℕ) (r : Reader_data) → IsNamed t → Good old r → Stays old (feed_outside m t at r)
+outside old mode.Derivation t at r n h = passed old _ _ mode.AtRole at r h
+outside old mode.AtRole t at r n h = role old (plain_text t) at r h
+outside old mode.BehindRole t at r n h = behind_role old _ _ at r h
+outside old mode.AtFormatNumber t at r n h = format old (number_value t) at r h
+outside old mode.BehindFormat t at r n h = passed old _ _ mode.AtBound at r h
+outside old mode.AtBound t at r n h = bound old (number_value t) at r h
+outside old mode.AtBrace t at r n h = passed old _ _ (behind_brace r.format) at r h
+outside old mode.AtLists t at r n h = begin old (beginning t) at r h
+outside old mode.AtListNumber t at r n h = list_number old (number_value t) at r h
+outside old mode.AtListColon t at r n h = passed old _ _ mode.AtAct at r h
+outside old mode.AtActs t at r n h = passed old _ _ mode.AtAct at r h
+outside old mode.AtAct t at r n h = act old (plain_text t) (is_close_bracket t) at r h
+outside old (mode.AtMark p) t at r n h = mark old p (mark_kind t) at r h
+outside old (mode.InMessage p m x) t at r n h = message old p m (feed_message x t at r.labels) r (message_good old.labels r.labels x t at n h.labels_good) h
+outside old mode.BehindAct t at r n h = behind_act old t at r h
+outside old _ t at r n h = tt
 
 fed : (old : Names_data) (m : Mode) (t : Sign) (at : ℕ) (r : Reader_data) → IsNamed t → Good old r → Stays old (feed_at m t at r)
-fed old mode.Derivation t at r n h = passed old _ _ mode.AtRole at r h
-fed old mode.AtRole t at r n h = role old (plain_text t) at r h
-fed old mode.BehindRole t at r n h = behind_role old _ _ at r h
-fed old mode.AtFormatNumber t at r n h = format old (number_value t) at r h
-fed old mode.BehindFormat t at r n h = passed old _ _ mode.AtBound at r h
-fed old mode.AtBound t at r n h = bound old (number_value t) at r h
-fed old mode.AtBrace t at r n h = passed old _ _ (behind_brace r.format) at r h
-fed old mode.AtLists t at r n h = begin old (beginning t) at r h
-fed old mode.AtListNumber t at r n h = list_number old (number_value t) at r h
-fed old mode.AtListColon t at r n h = passed old _ _ mode.AtAct at r h
-fed old m t at r n h = middle old m t at r n h
+fed old mode.AtNode t at r n h = node old (number_value t) (is_close_brace t) at r h
+fed old mode.AtColon t at r n h = passed old _ _ mode.AtState at r h
+fed old mode.AtState t at r n h = state old (number_value t) at r h
+fed old mode.AtWith t at r n h = passed old _ _ mode.AtPendingNumber at r h
+fed old mode.AtPendingNumber t at r n h = pending_number old (number_value t) at r h
+fed old mode.AtAboveWord t at r n h = passed old _ _ mode.AtAbove at r h
+fed old mode.AtAbove t at r n h = above old (number_value t) at r h
+fed old mode.AtRankWord t at r n h = passed old _ _ mode.AtRank at r h
+fed old mode.AtRank t at r n h = rank old (number_value t) at r h
+fed old mode.AtNextWord t at r n h = passed old _ _ mode.AtNexts at r h
+fed old mode.AtNexts t at r n h = passed old _ _ mode.AtNext at r h
+fed old mode.AtNext t at r n h = next old (number_value t) (is_close_bracket t) at r h
+fed old mode.BehindNext t at r n h = behind_next old (is_comma t) (is_close_bracket t) at r h
+fed old m t at r n h = outside old m t at r n h
 
-good_on : (old : Names_data) (t : Sign) (at : ℕ) (next : Lexeme) (r d : Reader_data) → IsNamed t → feed_sign feeding t at next r ≡ Ok d → Good old r → Good old d
-good_on old (broken k) at next r d name f h = absurd (cc f)
-good_on old t at next r d name f h = if_ok (feed_of t at r) d (Good old) f (fed old r.mode t at r name h)
-
--- a token that is taken keeps the names good
-pub good_fed : (old : Names_data) (bytes : List ℕ) (now : ℕ) (t next : Lexeme) (r d : Reader_data) → t ≡ next_lexeme bytes now → feed_sign feeding t.sign t.from next r ≡ Ok d → Good old r → Good old d
-good_fed old bytes now t next r d e f h = good_on old t.sign t.from next r d (named bytes now t e) f h
+good_kept : (old : Names_data) → kept.Keeps feeding (Good old)
+good_kept old (broken k) at next r name h = tt
+good_kept old t at next r name h = fed old r.mode t at r name h
 
 -- names that were sound are good at first
-pub good_first : (r : Reader_data) → IsSound (names_read r) → Good (names_read r) r
+good_first : (r : Reader_data) → IsSound (names_read r) → Good (names_read r) r
 good_first r s = record { roles_are = refl; labels_good = labels_first (names_read r) s }
 
-pub good_sound : (old : Names_data) (r : Reader_data) → IsSound old → Good old r → IsSound (names_read r)
+good_sound : (old : Names_data) (r : Reader_data) → IsSound old → Good old r → IsSound (names_read r)
 good_sound old r s g =
     let t = both (differ old.roles && list_all is_role_word old.roles) (differ old.labels && list_all is_word old.labels) ((decides_sound old).1 s) in
     let u : (differ r.roles && list_all is_role_word r.roles) ≡ true = ap (λ z. differ z && list_all is_role_word z) g.roles_are ∙ t.0 in
     (decides_sound (names_read r)).0 (rw (u, g.labels_good.labels_differ, g.labels_good.words) refl)
 
-pub good_keeps : (old : Names_data) (r : Reader_data) → Good old r → Keeps old (names_read r)
+good_keeps : (old : Names_data) (r : Reader_data) → Good old r → Keeps old (names_read r)
 good_keeps old r g = record { later = g.labels_good.later; roles = g.roles_are; labels = g.labels_good.labels_are }
 
-pub same_sound : (r d : Reader_data) → names_read d ≡ names_read r → IsSound (names_read r) → IsSound (names_read d)
-same_sound r d e h = subst IsSound (sym e) h
+-- the reader that has such names is good
+good_behind : (o : Reader_data) (bytes : List ℕ) (at : ℕ) (found : Names_data) → IsSound (names_read o) → (b : AreNamesBehind feeding names_read o bytes at found) → Good (names_read o) b.reader
+good_behind o bytes at found s b = kept_behind feeding (Good (names_read o)) (good_kept (names_read o)) names_read o bytes at found (good_first o s) b
 
-pub same_keeps : (old : Names_data) (r d : Reader_data) → names_read d ≡ names_read r → Keeps old (names_read r) → Keeps old (names_read d)
-same_keeps old r d e h = subst (λ (z : Names_data). Keeps old z) (sym e) h
+-- the names are sound behind any first tokens
+pub sound_behind : (o : Reader_data) (bytes : List ℕ) (at : ℕ) (found : Names_data) → IsSound (names_read o) → AreNamesBehind feeding names_read o bytes at found → IsSound found
+sound_behind o bytes at found s b = subst IsSound (sym b.names_are) (good_sound (names_read o) b.reader s (good_behind o bytes at found s b))
+
+-- those that were there stay in their places
+pub keeps_behind : (o : Reader_data) (bytes : List ℕ) (at : ℕ) (found : Names_data) → IsSound (names_read o) → AreNamesBehind feeding names_read o bytes at found → Keeps (names_read o) found
+keeps_behind o bytes at found s b = subst (λ (z : Names_data). Keeps (names_read o) z) (sym b.names_are) (good_keeps (names_read o) b.reader (good_behind o bytes at found s b))

@@ -35,11 +35,15 @@ use Rattle.rs_derivations.specs.Cuts.{ActCut, behind_peer, behind_mark, behind_l
 use Rattle.rs_derivations.specs.Cuts.{at_rank_word, at_rank, at_next_word, at_nexts, at_next, behind_next, Head, ActsHome, of_node, of_list, Cut, at_begin, at_role, behind_role, at_format_number, behind_format, at_bound}
 use Rattle.rs_derivations.specs.Cuts.{at_brace, at_lists, at_list_number, at_list_colon, in_acts, in_node, at_pending_number, at_above_word, at_end, wanted_of, node_wanted, act_wanted, next_wanted, format_of_home}
 use Rattle.rs_derivations.specs.Data.{Reader_data}
-use Rattle.rs_derivations.specs.Derivations.{acts_of_number, acts_of_pending, acts_of, labels_of_acts, with_new_labels, role_named, label_named, act_of_kind, act_of_tree, node_of_tree}
-use Rattle.rs_derivations.specs.Faults.{number_value, fault_of_role, fault_of_label, fault_of_node, fault_of_peer, acts_before, fault_of}
+use Rattle.rs_derivations.specs.Derivations.{acts_of_number, acts_of_pending, acts_of, labels_of_acts, act_of_kind, act_of_tree, node_of_tree}
+use Rattle.rs_text.specs.KnownNames.{with_new_labels, role_named, label_named}
+use Rattle.rs_derivations.specs.Faults.{fault_of_node, fault_of_peer, acts_before, fault_of}
+use Rattle.rs_text.specs.TokenTests.{number_value}
+use Rattle.rs_text.specs.NameFaults.{fault_of_role, fault_of_label}
 use Rattle.rs_derivations.specs.Feeding.{Fed, start_of_derivation, no_node, behind_state, feed_derivation_role, feed_role, feed_format, feed_bound, behind_brace, first_node, beginning, feed_beginning, feed_list_number}
 use Rattle.rs_derivations.specs.Feeding.{feed_node, feed_state, feed_pending_number, feed_peer, feed_act, feed_mark, in_message, feed_list_end, feed_behind_acts, feed_above, feed_rank, feed_next, feed_at, passes}
-use Rattle.rs_derivations.specs.Feeding.{is_colon, is_comma, is_open_brace, is_close_brace, is_open_bracket, is_close_bracket, is_keyword, mark_kind, is_none_of, is_some_of, is_bound}
+use Rattle.rs_derivations.specs.Feeding.{mark_kind, is_none_of, is_some_of, is_bound}
+use Rattle.rs_text.specs.TokenTests.{is_colon, is_comma, is_open_brace, is_close_brace, is_open_bracket, is_close_bracket, is_keyword}
 use Rattle.rs_derivations.specs.Trees.{ActTree, ListsTree, PendingTree, NodeTree}
 use Rattle.rs_derivations.proofs.Grows.{act_tree, node_tree, derivation_tree, first_head, listed, acted, mark_step, label_step, sorted_step, act_grows, first_step, begin_step, list_step, act_step, acts_end}
 use Rattle.rs_derivations.proofs.Grows.{number_step, state_step, with_step, above_step, rank_step, ended, next_step, role_step, format_step, bound_step, opened, grows}

@@ -26,7 +26,8 @@ use Rattle.rs_text.specs.Arms.{sort_or_unit}
 use Rattle.rs_derive.specs.Data.{DNode_data, Derivation_data}
 use Rattle.rs_derivations.specs.declared.formats.Format.{Format}
 use Rattle.rs_derivations.specs.declared.formats.Format.TheVariants.{One, Two}
-use Rattle.rs_derivations.specs.Derivations.{acts_of, acts_of_number, acts_of_pending, written_lists, act_of_kind, role_named, label_named, labels_of_acts, peers_of_acts, act_of_tree}
+use Rattle.rs_derivations.specs.Derivations.{acts_of, acts_of_number, acts_of_pending, written_lists, act_of_kind, labels_of_acts, peers_of_acts, act_of_tree}
+use Rattle.rs_text.specs.KnownNames.{role_named, label_named}
 use Rattle.rs_derivations.specs.Derivations.{node_of_tree, derivation_of, names_of}
 use Rattle.rs_derivations.specs.Printable.{peer_of, label_number, IsPrintable}
 use Rattle.rs_derivations.specs.Spells.{Fits, SpellsDerivation}

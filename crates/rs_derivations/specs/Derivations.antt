@@ -11,7 +11,7 @@ use Rattle.rs_prefix.specs.declared.earliest.ActKind.{ActKind}
 use Rattle.rs_prefix.specs.declared.earliest.ActKind.TheVariants as act
 use Rattle.rs_derive.specs.Data.{DNode_data, Derivation_data}
 use Rattle.rs_text.specs.Arms.{sort_or_unit}
-use Rattle.rs_text.specs.Names.{place_of, names_with, number_or}
+use Rattle.rs_text.specs.KnownNames.{label_named, role_named, with_new_labels}
 use Rattle.rs_derivations.specs.declared.formats.Format.{Format}
 use Rattle.rs_derivations.specs.declared.formats.Format.TheVariants.{One, Two}
 use Rattle.rs_derivations.specs.Trees.{ActTree, ListsTree, PendingTree, NodeTree, DerivationTree}
@@ -43,21 +43,9 @@ labels_of_acts acts = map (λ a. a.label) acts
 abbrev pub peers_of_acts : List ActTree → List (List ℕ)
 peers_of_acts acts = map (λ a. a.peer) acts
 
--- the names that were there, with the labels that are new behind them in order of their first places
-abbrev pub with_new_labels : Names_data → List (List ℕ) → Names_data
-with_new_labels old labels = record { roles = old.roles; labels = names_with old.labels labels }
-
 -- the names with the labels of a tree
 abbrev pub names_of : Names_data → DerivationTree → Names_data
 names_of old t = with_new_labels old (labels_of_acts (acts_of t))
-
--- roles and labels are known by the places of their names
-abbrev pub role_named : Names_data → List ℕ → Role
-role_named names name = record { 0 = number_or (place_of name names.roles) }
-
--- the label with that name
-abbrev pub label_named : Names_data → List ℕ → Label
-label_named names name = record { 0 = number_or (place_of name names.labels) }
 
 -- a send or a receive
 abbrev pub act_of_kind : ActKind → Role → Label → Sort → Act

@@ -2,37 +2,24 @@
 use Rattle.std.specs.Prelude.{◌≡◌, ℕ, ◌⊎◌, List, [], ◌∷◌, ◌++◌, length, Option, Some, None, nat_le, ◌==◌, if◌then◌else◌}
 use Rattle.std.specs.List.{flat_map}
 use Rattle.rs_model.specs.Data.{Names_data}
-use Rattle.rs_model.specs.declared.limits.TheConstants.{MOST_BOUND, MOST_LABELS, MOST_CANDIDATES}
+use Rattle.rs_model.specs.declared.limits.TheConstants.{MOST_BOUND, MOST_CANDIDATES}
 use Rattle.rs_text.specs.declared.tokens.FaultKind.{FaultKind}
 use Rattle.rs_text.specs.declared.faults.Wanted.{Wanted}
 use Rattle.rs_text.specs.declared.faults.TextKind.{TextKind}
 use Rattle.rs_text.specs.declared.faults.TextKind.TheVariants as kind
 use Rattle.rs_text.specs.Faults.{kind_of}
 use Rattle.rs_text.specs.FirstFaults.{IsWhole, FirstFaultBy}
+use Rattle.rs_text.specs.NameFaults.{fault_of_label, fault_of_role}
 use Rattle.rs_text.specs.Names.{names_with, is_among}
 use Rattle.rs_text.specs.Seen.{plain_text, word_text}
-use Rattle.rs_text.specs.Signs.{Sign, number, broken}
+use Rattle.rs_text.specs.Signs.{Sign, broken}
+use Rattle.rs_text.specs.TokenTests.{number_value}
 use Rattle.rs_derivations.specs.declared.formats.Format.{Format}
 use Rattle.rs_derivations.specs.declared.formats.Format.TheVariants.{One, Two}
 use Rattle.rs_derivations.specs.Cuts.{behind_mark, ActsCut, at_act, in_act, NodeCut, at_number, ActsHome, of_node, of_list, Cut, at_role, in_acts, in_node, at_end, cut_signs, wanted_of, IsPlace}
 use Rattle.rs_derivations.specs.Derivations.{written_lists, labels_of_acts}
 use Rattle.rs_derivations.specs.Spells.{IsFormed}
 use Rattle.rs_derivations.specs.Trees.{ActTree, NodeTree, DerivationTree, derivation_signs}
-
--- the value of a number
-abbrev pub number_value : Sign → Option ℕ
-number_value (number n) = Some n
-number_value _ = None
-
--- a role is known
-abbrev pub fault_of_role : Names_data → Option (List ℕ) → Option TextKind
-fault_of_role old None = None
-fault_of_role old (Some name) = if is_among name old.roles then None else Some kind.UnknownRole
-
--- a label is there, or there is room for it
-abbrev pub fault_of_label : List (List ℕ) → Option (List ℕ) → Option TextKind
-fault_of_label labels None = None
-fault_of_label labels (Some name) = if is_among name labels then None else if nat_le MOST_LABELS (length labels) then Some kind.TooManyLabels else None
 
 -- there is room for the node with the right number
 abbrev pub fault_of_node : ℕ → Option ℕ → Option TextKind

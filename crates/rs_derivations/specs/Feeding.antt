@@ -1,5 +1,5 @@
 -- Steps: how the reader goes on, token by token.
-use Rattle.std.specs.Prelude.{◌≡◌, ℕ, suc, List, [], ◌∷◌, ◌++◌, codes, length, Option, Some, None, Bool, true, false, ◌&&◌, nat_le, ◌==◌, if◌then◌else◌, Result, Ok, Err}
+use Rattle.std.specs.Prelude.{ℕ, suc, List, [], ◌∷◌, ◌++◌, codes, length, Option, Some, None, Bool, true, false, ◌&&◌, nat_le, ◌==◌, if◌then◌else◌, Result, Ok, Err}
 use Rattle.rs_model.specs.Data.{Names_data}
 use Rattle.rs_model.specs.declared.graph.Label.{Label}
 use Rattle.rs_model.specs.declared.graph.Role.{Role}
@@ -15,10 +15,11 @@ use Rattle.rs_text.specs.declared.faults.Wanted.TheVariants as wanted
 use Rattle.rs_text.specs.declared.messages.MessagePlace.TheVariants as place
 use Rattle.rs_text.specs.Messages.{MessageFed, goes_on, ends, feed_message}
 use Rattle.rs_text.specs.Names.{place_of}
-use Rattle.rs_text.specs.Readings.{Automaton, fault, expected, Fails}
+use Rattle.rs_text.specs.Readings as readings
+use Rattle.rs_text.specs.Readings.{Automaton, fault, expected}
 use Rattle.rs_text.specs.declared.reading.Stop.{Stop}
-use Rattle.rs_text.specs.Seen.{is_text, plain_text}
-use Rattle.rs_text.specs.Signs.{Sign, bang, question, colon, comma, open_brace, close_brace, open_bracket, close_bracket}
+use Rattle.rs_text.specs.Seen.{plain_text}
+use Rattle.rs_text.specs.Signs.{Sign, bang, question}
 use Rattle.rs_derivations.specs.declared.formats.Format.{Format}
 use Rattle.rs_derivations.specs.declared.formats.Format.TheVariants.{One, Two}
 use Rattle.rs_derivations.specs.declared.reading.Mode.{Mode}
@@ -26,49 +27,15 @@ use Rattle.rs_derivations.specs.declared.reading.Mode.TheVariants as mode
 use Rattle.rs_derivations.specs.Cuts.{node_wanted, act_wanted, next_wanted}
 use Rattle.rs_derivations.specs.Data.{Reader_data}
 use Rattle.rs_derivations.specs.Derivations.{acts_of_number, act_of_kind}
-use Rattle.rs_derivations.specs.Faults.{number_value}
+use Rattle.rs_text.specs.TokenTests.{is_close_brace, is_close_bracket, is_colon, is_comma, is_keyword, is_open_brace, is_open_bracket, number_value}
 
 -- ---- which token it is
-
--- a colon
-abbrev pub is_colon : Sign → Bool
-is_colon colon = true
-is_colon _ = false
-
--- a comma
-abbrev pub is_comma : Sign → Bool
-is_comma comma = true
-is_comma _ = false
-
--- an open brace
-abbrev pub is_open_brace : Sign → Bool
-is_open_brace open_brace = true
-is_open_brace _ = false
-
--- a close brace
-abbrev pub is_close_brace : Sign → Bool
-is_close_brace close_brace = true
-is_close_brace _ = false
-
--- an open bracket
-abbrev pub is_open_bracket : Sign → Bool
-is_open_bracket open_bracket = true
-is_open_bracket _ = false
-
--- a close bracket
-abbrev pub is_close_bracket : Sign → Bool
-is_close_bracket close_bracket = true
-is_close_bracket _ = false
 
 -- a mark, which tells the kind of an act
 abbrev pub mark_kind : Sign → Option ActKind
 mark_kind bang = Some act.Send
 mark_kind question = Some act.Receive
 mark_kind _ = None
-
--- that word
-abbrev pub is_keyword : List ℕ → Sign → Bool
-is_keyword word t = is_text word (plain_text t)
 
 -- there are none
 abbrev pub is_none_of : {A : Type 0} → List A → Bool
@@ -247,45 +214,41 @@ feed_next None closes at r = if closes && is_none_of r.node.next then feed_node_
 abbrev pub feed_behind_next : Bool → Bool → ℕ → Reader_data → Fed
 feed_behind_next goes closes at r = if goes then in_mode mode.AtNext r else if closes then feed_node_end r else expected wanted.CommaOrCloseBracket at
 
--- one token of a node, from its above state on
-abbrev pub feed_rest : Mode → Sign → ℕ → Reader_data → Fed
-feed_rest mode.AtAbove t at r = feed_above (number_value t) at r
-feed_rest mode.AtRankWord t at r = passes (is_keyword (codes "rank") t) wanted.Rank mode.AtRank at r
-feed_rest mode.AtRank t at r = feed_rank (number_value t) at r
-feed_rest mode.AtNextWord t at r = passes (is_keyword (codes "next") t) wanted.Next mode.AtNexts at r
-feed_rest mode.AtNexts t at r = passes (is_open_bracket t) wanted.OpenBracket mode.AtNext at r
-feed_rest mode.AtNext t at r = feed_next (number_value t) (is_close_bracket t) at r
-feed_rest mode.BehindNext t at r = feed_behind_next (is_comma t) (is_close_bracket t) at r
-feed_rest _ t at r = expected wanted.DerivationOrEnd at
+-- one token of the head, or of acts
+abbrev pub feed_outside : Mode → Sign → ℕ → Reader_data → Fed
+feed_outside mode.Derivation t at r = passes (is_keyword (codes "derivation") t) wanted.DerivationOrEnd mode.AtRole at r
+feed_outside mode.AtRole t at r = feed_role (plain_text t) at r
+feed_outside mode.BehindRole t at r = feed_behind_role (is_keyword (codes "bound") t) (is_keyword (codes "format") t) at r
+feed_outside mode.AtFormatNumber t at r = feed_format (number_value t) at r
+feed_outside mode.BehindFormat t at r = passes (is_keyword (codes "bound") t) wanted.Bound mode.AtBound at r
+feed_outside mode.AtBound t at r = feed_bound (number_value t) at r
+feed_outside mode.AtBrace t at r = passes (is_open_brace t) wanted.OpenBrace (behind_brace r.format) at r
+feed_outside mode.AtLists t at r = feed_beginning (beginning t) at r
+feed_outside mode.AtListNumber t at r = feed_list_number (number_value t) at r
+feed_outside mode.AtListColon t at r = passes (is_colon t) wanted.Colon mode.AtAct at r
+feed_outside mode.AtActs t at r = passes (is_open_bracket t) wanted.OpenBracket mode.AtAct at r
+feed_outside mode.AtAct t at r = feed_act (plain_text t) (is_close_bracket t) at r
+feed_outside (mode.AtMark p) t at r = feed_mark p (mark_kind t) at r
+feed_outside (mode.InMessage p m x) t at r = in_message p m (feed_message x t at r.labels) r
+feed_outside mode.BehindAct t at r = feed_behind_act t at r
+feed_outside _ t at r = expected wanted.DerivationOrEnd at
 
--- one token of a list or a node before that
-abbrev pub feed_middle : Mode → Sign → ℕ → Reader_data → Fed
-feed_middle mode.AtNode t at r = feed_node (number_value t) (is_close_brace t) at r
-feed_middle mode.AtColon t at r = passes (is_colon t) wanted.Colon mode.AtState at r
-feed_middle mode.AtState t at r = feed_state (number_value t) at r
-feed_middle mode.AtActs t at r = passes (is_open_bracket t) wanted.OpenBracket mode.AtAct at r
-feed_middle mode.AtWith t at r = passes (is_keyword (codes "with") t) wanted.With mode.AtPendingNumber at r
-feed_middle mode.AtPendingNumber t at r = feed_pending_number (number_value t) at r
-feed_middle mode.AtAboveWord t at r = passes (is_keyword (codes "above") t) wanted.Above mode.AtAbove at r
-feed_middle mode.AtAct t at r = feed_act (plain_text t) (is_close_bracket t) at r
-feed_middle (mode.AtMark p) t at r = feed_mark p (mark_kind t) at r
-feed_middle (mode.InMessage p m x) t at r = in_message p m (feed_message x t at r.labels) r
-feed_middle mode.BehindAct t at r = feed_behind_act t at r
-feed_middle m t at r = feed_rest m t at r
-
--- a token before that
+-- one token of a node but its acts, or one of those
 abbrev pub feed_at : Mode → Sign → ℕ → Reader_data → Fed
-feed_at mode.Derivation t at r = passes (is_keyword (codes "derivation") t) wanted.DerivationOrEnd mode.AtRole at r
-feed_at mode.AtRole t at r = feed_role (plain_text t) at r
-feed_at mode.BehindRole t at r = feed_behind_role (is_keyword (codes "bound") t) (is_keyword (codes "format") t) at r
-feed_at mode.AtFormatNumber t at r = feed_format (number_value t) at r
-feed_at mode.BehindFormat t at r = passes (is_keyword (codes "bound") t) wanted.Bound mode.AtBound at r
-feed_at mode.AtBound t at r = feed_bound (number_value t) at r
-feed_at mode.AtBrace t at r = passes (is_open_brace t) wanted.OpenBrace (behind_brace r.format) at r
-feed_at mode.AtLists t at r = feed_beginning (beginning t) at r
-feed_at mode.AtListNumber t at r = feed_list_number (number_value t) at r
-feed_at mode.AtListColon t at r = passes (is_colon t) wanted.Colon mode.AtAct at r
-feed_at m t at r = feed_middle m t at r
+feed_at mode.AtNode t at r = feed_node (number_value t) (is_close_brace t) at r
+feed_at mode.AtColon t at r = passes (is_colon t) wanted.Colon mode.AtState at r
+feed_at mode.AtState t at r = feed_state (number_value t) at r
+feed_at mode.AtWith t at r = passes (is_keyword (codes "with") t) wanted.With mode.AtPendingNumber at r
+feed_at mode.AtPendingNumber t at r = feed_pending_number (number_value t) at r
+feed_at mode.AtAboveWord t at r = passes (is_keyword (codes "above") t) wanted.Above mode.AtAbove at r
+feed_at mode.AtAbove t at r = feed_above (number_value t) at r
+feed_at mode.AtRankWord t at r = passes (is_keyword (codes "rank") t) wanted.Rank mode.AtRank at r
+feed_at mode.AtRank t at r = feed_rank (number_value t) at r
+feed_at mode.AtNextWord t at r = passes (is_keyword (codes "next") t) wanted.Next mode.AtNexts at r
+feed_at mode.AtNexts t at r = passes (is_open_bracket t) wanted.OpenBracket mode.AtNext at r
+feed_at mode.AtNext t at r = feed_next (number_value t) (is_close_bracket t) at r
+feed_at mode.BehindNext t at r = feed_behind_next (is_comma t) (is_close_bracket t) at r
+feed_at m t at r = feed_outside m t at r
 
 -- a token in the mode of the reader
 abbrev pub feed_of : Sign → ℕ → Reader_data → Fed
@@ -310,5 +273,4 @@ names_read r = record { roles = r.roles; labels = r.labels }
 
 -- a method takes one step of the reader; where it stops the names are as before
 abbrev pub Feeds : Result (Unit {0}) Stop → Fed → (old new : Reader_data) → Type 0
-Feeds (Ok done) fed old new = fed ≡ Ok new
-Feeds (Err stop) fed old new = Fails stop fed × (names_read new ≡ names_read old)
+Feeds result fed old new = readings.Feeds names_read result fed old new

@@ -13,3 +13,4 @@ pub mod Read
 pub mod Numbers
 pub mod Data
 pub mod Feeding
+pub mod Ends

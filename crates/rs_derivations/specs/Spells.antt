@@ -1,13 +1,14 @@
 -- Public: what a text spells.
-use Rattle.std.specs.Prelude.{◌≡◌, ℕ, ◌≤◌, List, ◌∷◌, ◌++◌, length, true}
-use Rattle.std.specs.List.{All, list_all}
+use Rattle.std.specs.Prelude.{◌≡◌, ℕ, ◌≤◌, List, ◌∷◌, ◌++◌, length}
+use Rattle.std.specs.List.{All}
 use Rattle.rs_model.specs.Data.{Names_data}
 use Rattle.rs_model.specs.Limits.{IsBound}
 use Rattle.rs_model.specs.declared.limits.TheConstants.{MOST_BOUND, MOST_LABELS, MOST_CANDIDATES}
 use Rattle.rs_derive.specs.Data.{Derivation_data}
 use Rattle.rs_text.specs.Lexemes.{Lexeme, signs_of}
 use Rattle.rs_text.specs.Tokens.{AreTokens}
-use Rattle.rs_text.specs.Names.{is_among, names_with}
+use Rattle.rs_text.specs.KnownNames.{AreKnown}
+use Rattle.rs_text.specs.Names.{names_with}
 use Rattle.rs_derivations.specs.declared.formats.Format.{Format}
 use Rattle.rs_derivations.specs.declared.formats.Format.TheVariants.{One, Two}
 use Rattle.rs_derivations.specs.Derivations.{acts_of, written_lists, derivation_of, labels_of_acts, peers_of_acts, names_of}
@@ -29,10 +30,6 @@ pub record IsFormed (t : DerivationTree) : Type 0 where
   pub some : 1 ≤ length t.nodes
   pub lists : HaveActs t.format t.lists
   pub numbers : All (λ n. HasItsList t.format t.lists n.pending) t.nodes
-
--- the roles are known
-abbrev pub AreKnown : Names_data → List (List ℕ) → Type 0
-AreKnown old roles = list_all (λ x. is_among x old.roles) roles ≡ true
 
 -- its role and all peers are known, no list has more than 64 acts, there are at most 65,536 nodes, and with its labels at
 -- most 256 labels

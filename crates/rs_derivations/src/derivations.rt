@@ -1,18 +1,16 @@
 //! The reader of derivations.
 
-ghost use Rattle.std.specs.Prelude.{◌≤◌, length, IfOk, IfErr, Ok};
+ghost use Rattle.std.specs.Prelude.{◌≤◌, length, IfOk, IfErr};
 ghost use Rattle.rs_text.specs.FirstFaults.{IsRefusal};
 ghost use Rattle.rs_text.specs.Kept.{Keeps};
-ghost use Rattle.rs_text.specs.Readings.{ReadsBy, StopsBy};
-ghost use Rattle.rs_text.specs.Sound.{AreReadable, IsSound};
+ghost use Rattle.rs_text.specs.Sound.{AreReadable};
 ghost use Rattle.rs_derivations.specs.Faults.{FirstFault};
-ghost use Rattle.rs_derivations.specs.Feeding.{feeding, names_read};
 ghost use Rattle.rs_derivations.specs.Read.{IsDerivationRead};
 
 use crate::reading::Reader;
 use rs_derive::Derivation;
 use rs_model::Names;
-use rs_text::{Stop, TextFault, next_token};
+use rs_text::{TextFault, read_tokens};
 use std::alloc::Global;
 use std::mem;
 
@@ -44,7 +42,7 @@ pub fn read_derivation(
 {
     let labels = mem::replace(&mut names.labels, Vec::new(alloc));
     let mut reader = Reader::new(alloc, names.roles.as_slice(), labels);
-    let result = read(&mut reader, bytes, at);
+    let result = read_tokens(&mut reader, bytes, at);
     names.labels = reader.labels.into_names();
     let derivation = Derivation {
         role: reader.role,
@@ -55,21 +53,4 @@ pub fn read_derivation(
         Ok(until) => Ok((derivation, until)),
         Err(stop) => Err(stop.into_fault(at)),
     }
-}
-
-fn read(reader: &mut Reader, bytes: &[u8], at: usize) -> Result<usize, Stop>
-    requires at { at ≤ length bytes.now }
-    requires sound { IsSound (names_read reader.old) }
-    ensures ok { IfOk result (λ until. ReadsBy feeding reader.old bytes.now at (Ok (record { reader = reader.new; until = until }))) }
-    ensures within { IfOk result (λ until. until ≤ length bytes.now) }
-    ensures err { IfErr result (λ e. StopsBy feeding e reader.old bytes.now at) }
-    ensures sound { IsSound (names_read reader.new) }
-    ensures kept { Keeps (names_read reader.old) (names_read reader.new) }
-{
-    let mut token = next_token(bytes, at);
-    while !reader.is_read() {
-        reader.feed(&token)?;
-        token = next_token(bytes, token.until());
-    }
-    Ok(token.from())
 }

@@ -10,7 +10,7 @@ ghost use Rattle.rs_text.specs.Readings.{feed_sign};
 ghost use Rattle.rs_text.specs.Seen.{plain_text, is_text};
 ghost use Rattle.rs_derivations.specs.declared.formats.Format.TheVariants.{One};
 ghost use Rattle.rs_derivations.specs.Derivations.{acts_of_number, act_of_kind};
-ghost use Rattle.rs_derivations.specs.Faults.{number_value};
+ghost use Rattle.rs_text.specs.TokenTests.{is_close_bracket, number_value};
 ghost use Rattle.rs_derivations.specs.Cuts as cuts;
 ghost use Rattle.rs_derivations.specs.Feeding as spec;
 ghost use Rattle.rs_derivations.specs.Feeding.{names_read};
@@ -21,8 +21,8 @@ use rs_graph::NodeRow;
 use rs_model::{Act, Label, MOST_BOUND, MOST_CANDIDATES, Name, NoMemory, Role, Sort};
 use rs_prefix::{ActKind, Pending};
 use rs_text::{
-    MessagePlace, MessageStep, NameTable, Stop, Terminal, TextKind, TextToken, Wanted, expected,
-    fault, feed_message, find,
+    MessagePlace, MessageStep, NameTable, Stop, Terminal, TextKind, TextToken, TokenReader, Wanted,
+    expected, fault, feed_message, find_role,
 };
 use std::alloc::Global;
 use std::marker::Model;
@@ -132,27 +132,6 @@ fn act_of(peer: Role, kind: ActKind, label: Label, sort: Sort) -> Act
     }
 }
 
-/// The role with this name.
-#[tactic(auto, using(rs_text::proofs::Numbers::place_below))]
-fn role_named(roles: &[Name], word: &[u8]) -> Option<Role>
-    requires { length roles.now ≤ MOST_ROLES }
-    ensures some { IfSome result (λ role. place_of word.now roles.now ≡ Some role.0) }
-    ensures none { IfNone result (place_of word.now roles.now ≡ None) }
-{
-    let place = find(roles, word)?;
-    Some(Role(place as u8))
-}
-
-/// The value of a number.
-fn value(token: &TextToken) -> Option<u32>
-    ensures { result ≡ number_value token.now.sign }
-{
-    match token.terminal() {
-        Terminal::Number(value) => Some(value),
-        _ => None,
-    }
-}
-
 /// The number of a token, or that a number is wanted in its place.
 fn wanted_number(number: Option<u32>, at: usize) -> Result<u32, Stop>
     ensures { MatchOption number (result ≡ Err (Stop.Fault (record { kind = TextKind.Expected Wanted.Number; at = at }))) (λ n. result ≡ Ok n) }
@@ -160,69 +139,6 @@ fn wanted_number(number: Option<u32>, at: usize) -> Result<u32, Stop>
     match number {
         Some(number) => Ok(number),
         None => expected(Wanted::Number, at),
-    }
-}
-
-fn is_keyword(token: &TextToken, word: &[u8]) -> bool
-    ensures { result ≡ spec.is_keyword word.now token.now.sign }
-{
-    match token.plain() {
-        Some(text) => text == word,
-        None => false,
-    }
-}
-
-fn is_colon(token: &TextToken) -> bool
-    ensures { result ≡ spec.is_colon token.now.sign }
-{
-    match token.terminal() {
-        Terminal::Colon => true,
-        _ => false,
-    }
-}
-
-fn is_comma(token: &TextToken) -> bool
-    ensures { result ≡ spec.is_comma token.now.sign }
-{
-    match token.terminal() {
-        Terminal::Comma => true,
-        _ => false,
-    }
-}
-
-fn is_open_brace(token: &TextToken) -> bool
-    ensures { result ≡ spec.is_open_brace token.now.sign }
-{
-    match token.terminal() {
-        Terminal::OpenBrace => true,
-        _ => false,
-    }
-}
-
-fn is_close_brace(token: &TextToken) -> bool
-    ensures { result ≡ spec.is_close_brace token.now.sign }
-{
-    match token.terminal() {
-        Terminal::CloseBrace => true,
-        _ => false,
-    }
-}
-
-fn is_open_bracket(token: &TextToken) -> bool
-    ensures { result ≡ spec.is_open_bracket token.now.sign }
-{
-    match token.terminal() {
-        Terminal::OpenBracket => true,
-        _ => false,
-    }
-}
-
-fn is_close_bracket(token: &TextToken) -> bool
-    ensures { result ≡ spec.is_close_bracket token.now.sign }
-{
-    match token.terminal() {
-        Terminal::CloseBracket => true,
-        _ => false,
     }
 }
 
@@ -247,10 +163,10 @@ fn is_bound(number: u32) -> bool
 fn beginning(token: &TextToken) -> Option<Mode>
     ensures { result ≡ spec.beginning token.now.sign }
 {
-    if is_keyword(token, b"pending") {
+    if token.is_keyword(b"pending") {
         return Some(Mode::AtListNumber);
     }
-    let number = value(token)?;
+    let number = token.value()?;
     if number == 0 {
         Some(Mode::AtColon)
     } else {
@@ -325,6 +241,7 @@ fn has_no_numbers(numbers: &[u32]) -> bool
     }
 }
 
+// The steps are inline, so that a token need not be laid out in memory.
 impl<'a> Reader<'a> {
     /// A reader before its first token.
     pub fn new(alloc: Global, roles: &'a [Name], labels: Vec<Name>) -> Reader<'a>
@@ -348,6 +265,7 @@ impl<'a> Reader<'a> {
     }
 
     /// Passes the right token.
+    #[inline(always)]
     fn pass(&mut self, right: bool, wanted: Wanted, mode: Mode, at: usize) -> Result<(), Stop>
         ensures { spec.Feeds result (spec.passes right wanted mode at self.old) self.old self.new }
     {
@@ -365,7 +283,7 @@ impl<'a> Reader<'a> {
         let Some(word) = token.plain() else {
             return expected(Wanted::Role, token.from());
         };
-        let role = role_named(self.roles, word);
+        let role = find_role(self.roles, word);
         self.set_role(role, token.from())
     }
 
@@ -451,6 +369,7 @@ impl<'a> Reader<'a> {
     }
 
     /// A further node, by its number, or the end.
+    #[inline(always)]
     fn node(&mut self, number: Option<u32>, closes: bool, at: usize) -> Result<(), Stop>
         ensures { spec.Feeds result (spec.feed_node number closes at self.old) self.old self.new }
     {
@@ -469,6 +388,7 @@ impl<'a> Reader<'a> {
         Ok(())
     }
 
+    #[inline(always)]
     fn state(&mut self, number: Option<u32>, at: usize) -> Result<(), Stop>
         ensures { spec.Feeds result (spec.feed_state number at self.old) self.old self.new }
     {
@@ -481,6 +401,7 @@ impl<'a> Reader<'a> {
     }
 
     /// The number of the node's list.
+    #[inline(always)]
     fn pending_number(&mut self, number: Option<u32>, at: usize) -> Result<(), Stop>
         ensures { spec.Feeds result (spec.feed_pending_number number at self.old) self.old self.new }
     {
@@ -504,17 +425,19 @@ impl<'a> Reader<'a> {
     }
 
     /// A further act, by its peer, or the end of the acts.
+    #[inline(always)]
     fn act(&mut self, token: &TextToken) -> Result<(), Stop>
-        ensures { spec.Feeds result (spec.feed_act (plain_text token.now.sign) (spec.is_close_bracket token.now.sign) token.now.from self.old) self.old self.new }
+        ensures { spec.Feeds result (spec.feed_act (plain_text token.now.sign) (is_close_bracket token.now.sign) token.now.from self.old) self.old self.new }
     {
         let Some(word) = token.plain() else {
-            return self.no_act(is_close_bracket(token), token.from());
+            return self.no_act(token.is_close_bracket(), token.from());
         };
-        let peer = role_named(self.roles, word);
+        let peer = find_role(self.roles, word);
         self.begin_pending(peer, token.from())
     }
 
     /// In format 1 the end of no acts.
+    #[inline(always)]
     fn no_act(&mut self, closes: bool, at: usize) -> Result<(), Stop>
         ensures { spec.Feeds result (spec.feed_no_act self.old.format closes at self.old) self.old self.new }
     {
@@ -530,6 +453,7 @@ impl<'a> Reader<'a> {
         }
     }
 
+    #[inline(always)]
     fn begin_pending(&mut self, peer: Option<Role>, at: usize) -> Result<(), Stop>
         ensures { spec.Feeds result (spec.feed_peer (option_map (λ role. role.0) peer) at self.old) self.old self.new }
     {
@@ -543,6 +467,7 @@ impl<'a> Reader<'a> {
         Ok(())
     }
 
+    #[inline(always)]
     fn mark(&mut self, peer: Role, kind: Option<ActKind>, at: usize) -> Result<(), Stop>
         ensures { spec.Feeds result (spec.feed_mark peer kind at self.old) self.old self.new }
     {
@@ -557,6 +482,7 @@ impl<'a> Reader<'a> {
         Ok(())
     }
 
+    #[inline(always)]
     fn message(
         &mut self,
         peer: Role,
@@ -576,6 +502,7 @@ impl<'a> Reader<'a> {
     }
 
     /// The act is pending.
+    #[inline(always)]
     fn pend(&mut self, peer: Role, kind: ActKind, label: Label, sort: Sort) -> Result<(), Stop>
         ensures ok { OnOk result (spec.feed_pending peer kind label sort self.old ≡ Ok self.new) }
         ensures err { IfErr result (λ e. e ≡ Stop.Memory) }
@@ -586,16 +513,17 @@ impl<'a> Reader<'a> {
         Ok(())
     }
 
+    #[inline(always)]
     fn behind_act(&mut self, token: &TextToken) -> Result<(), Stop>
         ensures { spec.Feeds result (spec.feed_behind_act token.now.sign token.now.from self.old) self.old self.new }
     {
-        if is_comma(token) {
+        if token.is_comma() {
             self.mode = Mode::AtAct;
             return Ok(());
         }
         match self.format {
             Format::One => {
-                if !is_close_bracket(token) {
+                if !token.is_close_bracket() {
                     return expected(Wanted::CommaOrCloseBracket, token.from());
                 }
                 self.end_acts();
@@ -618,6 +546,7 @@ impl<'a> Reader<'a> {
         Ok(())
     }
 
+    #[inline(always)]
     fn above(&mut self, number: Option<u32>, at: usize) -> Result<(), Stop>
         ensures { spec.Feeds result (spec.feed_above number at self.old) self.old self.new }
     {
@@ -626,6 +555,7 @@ impl<'a> Reader<'a> {
         Ok(())
     }
 
+    #[inline(always)]
     fn rank(&mut self, number: Option<u32>, at: usize) -> Result<(), Stop>
         ensures { spec.Feeds result (spec.feed_rank number at self.old) self.old self.new }
     {
@@ -647,6 +577,7 @@ impl<'a> Reader<'a> {
     }
 
     /// A further next, or the end of the node.
+    #[inline(always)]
     fn next(&mut self, number: Option<u32>, closes: bool, at: usize) -> Result<(), Stop>
         ensures { spec.Feeds result (spec.feed_next number closes at self.old) self.old self.new }
     {
@@ -661,6 +592,7 @@ impl<'a> Reader<'a> {
         Ok(())
     }
 
+    #[inline(always)]
     fn behind_next(&mut self, goes: bool, closes: bool, at: usize) -> Result<(), Stop>
         ensures { spec.Feeds result (spec.feed_behind_next goes closes at self.old) self.old self.new }
     {
@@ -674,114 +606,103 @@ impl<'a> Reader<'a> {
         expected(Wanted::CommaOrCloseBracket, at)
     }
 
-    /// Takes one token of the text, whatever stands behind it.
-    pub fn feed(&mut self, token: &TextToken) -> Result<(), Stop>
-        ensures { (next : Lexeme) → spec.Feeds result (feed_sign spec.feeding token.now.sign token.now.from next self.old) self.old self.new }
+    /// Takes one that isn't faulty: the tokens of nodes come first, since there are most of them.
+    #[inline(always)]
+    fn feed_whole(&mut self, token: &TextToken) -> Result<(), Stop>
+        ensures { spec.Feeds result (spec.feed_of token.now.sign token.now.from self.old) self.old self.new }
     {
+        let at = token.from();
+        match self.mode {
+            Mode::AtNode => self.node(token.value(), token.is_close_brace(), at),
+            Mode::AtColon => self.pass(token.is_colon(), Wanted::Colon, Mode::AtState, at),
+            Mode::AtState => self.state(token.value(), at),
+            Mode::AtWith => {
+                let right = token.is_keyword(b"with");
+                self.pass(right, Wanted::With, Mode::AtPendingNumber, at)
+            }
+            Mode::AtPendingNumber => self.pending_number(token.value(), at),
+            Mode::AtAboveWord => {
+                let right = token.is_keyword(b"above");
+                self.pass(right, Wanted::Above, Mode::AtAbove, at)
+            }
+            Mode::AtAbove => self.above(token.value(), at),
+            Mode::AtRankWord => {
+                let right = token.is_keyword(b"rank");
+                self.pass(right, Wanted::Rank, Mode::AtRank, at)
+            }
+            Mode::AtRank => self.rank(token.value(), at),
+            Mode::AtNextWord => {
+                let right = token.is_keyword(b"next");
+                self.pass(right, Wanted::Next, Mode::AtNexts, at)
+            }
+            Mode::AtNexts => {
+                let right = token.is_open_bracket();
+                self.pass(right, Wanted::OpenBracket, Mode::AtNext, at)
+            }
+            Mode::AtNext => self.next(token.value(), token.is_close_bracket(), at),
+            Mode::BehindNext => self.behind_next(token.is_comma(), token.is_close_bracket(), at),
+            _ => self.feed_outside(token),
+        }
+    }
+
+    /// A token of the head, or of acts.
+    #[inline(always)]
+    fn feed_outside(&mut self, token: &TextToken) -> Result<(), Stop>
+        ensures { spec.Feeds result (spec.feed_outside self.old.mode token.now.sign token.now.from self.old) self.old self.new }
+    {
+        let at = token.from();
+        match self.mode {
+            Mode::Derivation => {
+                let right = token.is_keyword(b"derivation");
+                self.pass(right, Wanted::DerivationOrEnd, Mode::AtRole, at)
+            }
+            Mode::AtRole => self.own_role(token),
+            Mode::BehindRole => {
+                let bound = token.is_keyword(b"bound");
+                self.behind_role(bound, token.is_keyword(b"format"), at)
+            }
+            Mode::AtFormatNumber => self.format(token.value(), at),
+            Mode::BehindFormat => {
+                let right = token.is_keyword(b"bound");
+                self.pass(right, Wanted::Bound, Mode::AtBound, at)
+            }
+            Mode::AtBound => self.bound(token.value(), at),
+            Mode::AtBrace => self.brace(token.is_open_brace(), at),
+            Mode::AtLists => self.begin(beginning(token), at),
+            Mode::AtListNumber => self.list_number(token.value(), at),
+            Mode::AtListColon => self.pass(token.is_colon(), Wanted::Colon, Mode::AtAct, at),
+            Mode::AtActs => {
+                let right = token.is_open_bracket();
+                self.pass(right, Wanted::OpenBracket, Mode::AtAct, at)
+            }
+            Mode::AtAct => self.act(token),
+            Mode::AtMark { peer } => self.mark(peer, mark_kind(token), at),
+            Mode::InMessage { peer, kind, place } => self.message(peer, kind, place, token),
+            Mode::BehindAct => self.behind_act(token),
+            _ => expected(Wanted::DerivationOrEnd, at),
+        }
+    }
+}
+
+impl<'a, 't> TokenReader<'t> for Reader<'a> {
+    ghost use Rattle.rs_derivations.specs.Ends.{at_end_stops};
+    ghost use Rattle.rs_derivations.specs.Feeding.{feeding, names_read};
+
+    ghost automaton = { feeding };
+
+    ghost stops_at_end = { at_end_stops };
+
+    ghost names = { names_read };
+
+    #[inline(always)]
+    fn feed(&mut self, token: &TextToken<'t>, _bytes: &'t [u8]) -> Result<(), Stop> {
         match token.terminal() {
             Terminal::Faulty(kind) => fault(TextKind::from(kind), token.from()),
             _ => self.feed_whole(token),
         }
     }
 
-    /// Takes one that isn't faulty: from the head, and of a list as far as its acts.
-    fn feed_whole(&mut self, token: &TextToken) -> Result<(), Stop>
-        ensures { spec.Feeds result (spec.feed_of token.now.sign token.now.from self.old) self.old self.new }
-    {
-        let at = token.from();
-        match self.mode {
-            Mode::Derivation => {
-                let right = is_keyword(token, b"derivation");
-                self.pass(right, Wanted::DerivationOrEnd, Mode::AtRole, at)
-            }
-            Mode::AtRole => self.own_role(token),
-            Mode::BehindRole => {
-                let bound = is_keyword(token, b"bound");
-                self.behind_role(bound, is_keyword(token, b"format"), at)
-            }
-            Mode::AtFormatNumber => self.format(value(token), at),
-            Mode::BehindFormat => {
-                let right = is_keyword(token, b"bound");
-                self.pass(right, Wanted::Bound, Mode::AtBound, at)
-            }
-            Mode::AtBound => self.bound(value(token), at),
-            Mode::AtBrace => self.brace(is_open_brace(token), at),
-            Mode::AtLists => self.begin(beginning(token), at),
-            Mode::AtListNumber => self.list_number(value(token), at),
-            Mode::AtListColon => {
-                let right = is_colon(token);
-                self.pass(right, Wanted::Colon, Mode::AtAct, at)
-            }
-            _ => self.feed_middle(token),
-        }
-    }
-
-    /// A token of acts, or of a node as far as them.
-    fn feed_middle(&mut self, token: &TextToken) -> Result<(), Stop>
-        ensures { spec.Feeds result (spec.feed_middle self.old.mode token.now.sign token.now.from self.old) self.old self.new }
-    {
-        let at = token.from();
-        match self.mode {
-            Mode::AtNode => self.node(value(token), is_close_brace(token), at),
-            Mode::AtColon => {
-                let right = is_colon(token);
-                self.pass(right, Wanted::Colon, Mode::AtState, at)
-            }
-            Mode::AtState => self.state(value(token), at),
-            Mode::AtActs => {
-                let right = is_open_bracket(token);
-                self.pass(right, Wanted::OpenBracket, Mode::AtAct, at)
-            }
-            Mode::AtWith => {
-                let right = is_keyword(token, b"with");
-                self.pass(right, Wanted::With, Mode::AtPendingNumber, at)
-            }
-            Mode::AtPendingNumber => self.pending_number(value(token), at),
-            Mode::AtAboveWord => {
-                let right = is_keyword(token, b"above");
-                self.pass(right, Wanted::Above, Mode::AtAbove, at)
-            }
-            Mode::AtAct => self.act(token),
-            Mode::AtMark { peer } => self.mark(peer, mark_kind(token), at),
-            Mode::InMessage { peer, kind, place } => self.message(peer, kind, place, token),
-            Mode::BehindAct => self.behind_act(token),
-            _ => self.feed_rest(token),
-        }
-    }
-
-    /// A token of a node from its above state on.
-    fn feed_rest(&mut self, token: &TextToken) -> Result<(), Stop>
-        ensures { spec.Feeds result (spec.feed_rest self.old.mode token.now.sign token.now.from self.old) self.old self.new }
-    {
-        let at = token.from();
-        match self.mode {
-            Mode::AtAbove => self.above(value(token), at),
-            Mode::AtRankWord => {
-                let right = is_keyword(token, b"rank");
-                self.pass(right, Wanted::Rank, Mode::AtRank, at)
-            }
-            Mode::AtRank => self.rank(value(token), at),
-            Mode::AtNextWord => {
-                let right = is_keyword(token, b"next");
-                self.pass(right, Wanted::Next, Mode::AtNexts, at)
-            }
-            Mode::AtNexts => {
-                let right = is_open_bracket(token);
-                self.pass(right, Wanted::OpenBracket, Mode::AtNext, at)
-            }
-            Mode::AtNext => self.next(value(token), is_close_bracket(token), at),
-            Mode::BehindNext => {
-                let goes = is_comma(token);
-                self.behind_next(goes, is_close_bracket(token), at)
-            }
-            _ => expected(Wanted::DerivationOrEnd, at),
-        }
-    }
-
-    /// Whether the whole derivation is read.
-    pub fn is_read(&self) -> bool
-        ensures { result ≡ spec.is_read self.now }
-    {
+    fn is_read(&self) -> bool {
         self.mode == Mode::Behind
     }
 }

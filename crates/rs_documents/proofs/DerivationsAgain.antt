@@ -9,7 +9,8 @@ use Rattle.rs_derivations.proofs.Again.{AreNamed, IsShown, listed, place_at, sho
 use Rattle.rs_derivations.proofs.Listed.{IsListed, TellsApart, all_changed, each_list, number_changed}
 use Rattle.rs_derivations.proofs.Writable.{each_number}
 use Rattle.rs_derivations.specs.Canonical.{canonical_text, tree_of, tree_of_act, tree_of_node}
-use Rattle.rs_derivations.specs.Derivations.{act_of_tree, act_of_kind, acts_of, derivation_of, labels_of_acts, node_of_tree, role_named}
+use Rattle.rs_derivations.specs.Derivations.{act_of_tree, act_of_kind, acts_of, derivation_of, labels_of_acts, node_of_tree}
+use Rattle.rs_text.specs.KnownNames.{role_named}
 use Rattle.rs_derivations.specs.PendingLists.{is_one_of, lists_of, with_lists}
 use Rattle.rs_derivations.specs.Printable.{IsPrintable, label_number}
 use Rattle.rs_derivations.specs.Texts.{derivation_text}

@@ -18,3 +18,4 @@ pub mod SpeltAgain
 pub mod OneCanonical
 pub mod Again
 pub mod OwnLabels
+pub mod GapsInFront

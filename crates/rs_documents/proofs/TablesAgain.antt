@@ -14,7 +14,9 @@ use Rattle.rs_model.specs.declared.graph.Role.{Role}
 use Rattle.rs_model.specs.declared.machines.State.{State}
 use Rattle.rs_model.specs.declared.machines.State.TheVariants.{Done, Puts, Takes}
 use Rattle.rs_tables.specs.Canonical.{tree_of, tree_of_arm, tree_of_choice, tree_of_state}
-use Rattle.rs_tables.specs.Machines.{arm_of_tree, labels_of_arms, labels_of_row, labels_of_rows, machine_of_table, role_named, state_of_mark, state_of_row}
+use Rattle.rs_tables.specs.Machines.{arm_of_tree, labels_of_arms, labels_of_row, labels_of_rows, machine_of_table, state_of_row}
+use Rattle.rs_text.specs.KnownNames.{role_named}
+use Rattle.rs_bodies.specs.Dialects.{state_by_mark}
 use Rattle.rs_tables.specs.Tables.{arm_in_table, arms_in_table, choice_in_table, later_arm_in_table, row, rows_from, state_in_table, table_of}
 use Rattle.rs_tables.specs.Trees.{ArmTree, RowTree, TableTree, end_row, choice_row}
 use Rattle.rs_text.specs.Arms.{sort_or_unit}
@@ -34,7 +36,7 @@ arms_again names new (a ∷ arms) number f =
     ap (λ (z : ℕ). arm_at a z ∷ map (arm_by number) (map (arm_of_tree names) arms)) (f a.label (first_among a.label (labels_of_arms arms)))
     ∙ ap (λ (z : List Arm). arm_of_tree new a ∷ z) (arms_again names new arms number (λ l h. f l (later_among l a.label (labels_of_arms arms) h)))
 
-choice_is : (number : ℕ → ℕ) (m : Mark) (peer : Role) (arms : List Arm) → state_by number (state_of_mark m peer arms) ≡ state_of_mark m peer (map (arm_by number) arms)
+choice_is : (number : ℕ → ℕ) (m : Mark) (peer : Role) (arms : List Arm) → state_by number (state_by_mark m peer arms) ≡ state_by_mark m peer (map (arm_by number) arms)
 choice_is number mark.Puts peer arms = refl
 choice_is number mark.Takes peer arms = refl
 
@@ -43,8 +45,8 @@ row_again : (names new : Names_data) (t : RowTree) (number : ℕ → ℕ) → ne
 row_again names new end_row number roles f = refl
 row_again names new (choice_row peer m first later) number roles f =
     let arms : List ArmTree = first ∷ later in
-    choice_is number m (role_named names peer) (map (arm_of_tree names) arms) ∙ ap (λ (z : List Arm). state_of_mark m (role_named names peer) z) (arms_again names new arms number f)
-    ∙ ap (λ (z : List (List ℕ)). state_of_mark m (record { 0 = number_or (place_of peer z) }) (map (arm_of_tree new) arms)) (sym roles)
+    choice_is number m (role_named names peer) (map (arm_of_tree names) arms) ∙ ap (λ (z : List Arm). state_by_mark m (role_named names peer) z) (arms_again names new arms number f)
+    ∙ ap (λ (z : List (List ℕ)). state_by_mark m (record { 0 = number_or (place_of peer z) }) (map (arm_of_tree new) arms)) (sym roles)
 
 rows_again : (names new : Names_data) (rows : List RowTree) (number : ℕ → ℕ) → new.roles ≡ names.roles → Renumbers number names.labels new.labels (labels_of_rows rows)
     → map (state_by number) (map (state_of_row names) rows) ≡ map (state_of_row new) rows

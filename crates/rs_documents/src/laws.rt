@@ -1,6 +1,6 @@
 //! Laws about the definitions: each function does nothing, and its contract is the law.
 
-ghost use Rattle.std.specs.Prelude.{◌≡◌, ◌⊎◌, ℕ, List, Option};
+ghost use Rattle.std.specs.Prelude.{◌≡◌, ◌⊎◌, ◌++◌, ℕ, List, Option};
 ghost use Rattle.rs_documents.specs.Again.{CanBeReadAgain, HasAllLabels, HasLabel, HasLabelBehind, document_by_labels, labels_of_text, number_among};
 ghost use Rattle.rs_documents.specs.Canonical.{CanBeShown, IsCanonicalDocument};
 ghost use Rattle.rs_documents.specs.Data.{Document_data};
@@ -8,6 +8,7 @@ ghost use Rattle.rs_documents.specs.Documents.{FirstFault, SpellsDocument};
 ghost use Rattle.rs_documents.specs.Spells.{SpellsMachines};
 ghost use Rattle.rs_model.specs.Data.{Machine_data, Protocol_data};
 ghost use Rattle.rs_text.specs.NamePlaces.{name_at};
+ghost use Rattle.rs_text.specs.Tokens.{Gap, IsGap, gap_bytes};
 ghost use Rattle.rs_text.specs.declared.faults.TextKind.{TextKind};
 
 /// A text spells one document at most.
@@ -88,4 +89,9 @@ pub fn labels_of_the_protocol_keep_their_numbers()
 /// A document has its own labels: with these nothing is renumbered.
 pub fn own_labels_renumber_nothing()
     ensures { (d : Document_data) → CanBeReadAgain d → document_by_labels d d.names.labels ≡ d }
+{}
+
+/// Blanks and comments in front of a text change nothing of what it spells.
+pub fn gaps_in_front_change_nothing()
+    ensures { (gap : Gap) (bytes : List ℕ) (d : Document_data) → IsGap gap bytes → SpellsDocument bytes d → SpellsDocument (gap_bytes gap ++ bytes) d }
 {}

@@ -6,8 +6,7 @@ use Rattle.rs_model.specs.declared.graph.Role.{Role}
 use Rattle.rs_model.specs.declared.machines.State.{State}
 use Rattle.rs_model.specs.declared.machines.State.TheVariants as state
 use Rattle.rs_bodies.specs.declared.dialects.Dialect.TheVariants.{Acts}
-use Rattle.rs_bodies.specs.declared.dialects.Mark.{Mark}
-use Rattle.rs_bodies.specs.declared.dialects.Mark.TheVariants as mark
+pub use Rattle.rs_bodies.specs.Dialects.{state_by_mark}
 use Rattle.rs_bodies.specs.Dialects.{BehindRole, with_mark}
 use Rattle.rs_bodies.specs.Graph.{acts_in, has_end, first_of, heads_of, Numbering, role_by_name}
 use Rattle.rs_bodies.specs.Openings.{Opening, of_role}
@@ -16,11 +15,6 @@ use Rattle.rs_bodies.specs.Spells.{Tree, numbering}
 -- the role that a machine belongs to
 abbrev pub owner_of : Numbering → Opening Acts → Role
 owner_of n (of_role r) = role_by_name n r
-
--- an act puts to its peer or takes from it
-abbrev pub state_by_mark : Mark → Role → List Arm → State
-state_by_mark mark.Puts peer arms = state.Puts peer arms
-state_by_mark mark.Takes peer arms = state.Takes peer arms
 
 -- the act with the peer p by these arms
 abbrev pub act_of_turn : Numbering → List ℕ → BehindRole Acts → List Arm → State

@@ -4,12 +4,12 @@ ghost use Rattle.std.specs.Prelude.{◌≡◌, ◌≤◌, ◌+◌, ◌++◌, len
 ghost use Rattle.rs_text.specs.FirstFaults.{IsRefusal};
 ghost use Rattle.rs_text.specs.Sound.{AreReadable};
 ghost use Rattle.rs_machines.specs.Faults.{FirstFault, Keeps, LeavesLabels};
-ghost use Rattle.rs_machines.specs.Machines.{end_states, state_by_mark};
+ghost use Rattle.rs_machines.specs.Machines.{end_states};
 ghost use Rattle.rs_machines.specs.Parts.{machine_spelt, state_of_point, state_of_head};
 ghost use Rattle.rs_machines.specs.Read.{IsMachineRead};
 
-use rs_bodies::{Dialect, Head, Mark, Point, Spelling, read_part};
-use rs_model::{Arms, Machine, Names, NoMemory, Role, State};
+use rs_bodies::{Dialect, Head, Point, Spelling, read_part};
+use rs_model::{Arms, Machine, Names, NoMemory, State};
 use rs_text::{Stop, TextFault};
 use std::alloc::Global;
 
@@ -89,17 +89,7 @@ fn state(head: Head, arms: Arms) -> State
     ensures { result ≡ state_of_head head arms }
 {
     match head {
-        Head::Act { peer, mark } => act(mark, peer, arms),
+        Head::Act { peer, mark } => mark.state(peer, arms),
         Head::Talk { .. } => State::Done,
-    }
-}
-
-/// A state that puts to the peer or takes from it.
-fn act(mark: Mark, peer: Role, arms: Arms) -> State
-    ensures { result ≡ state_by_mark mark peer arms }
-{
-    match mark {
-        Mark::Puts => State::Puts { peer, arms },
-        Mark::Takes => State::Takes { peer, arms },
     }
 }

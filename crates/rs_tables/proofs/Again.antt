@@ -26,7 +26,9 @@ use Rattle.rs_text.proofs.Basics.{both, two_true}
 use Rattle.rs_text.proofs.Nexts.{exists, are_lexed, lexed_are}
 use Rattle.rs_text.proofs.Written.{written_cut}
 use Rattle.rs_tables.specs.Canonical.{tree_of_arm, tree_of_choice, tree_of_state, tree_of}
-use Rattle.rs_tables.specs.Machines.{labels_of_arms, labels_of_row, labels_of_rows, peers_of_row, peers_of_rows, names_of, role_named, label_named, arm_of_tree, state_of_mark, state_of_row}
+use Rattle.rs_tables.specs.Machines.{labels_of_arms, labels_of_row, labels_of_rows, peers_of_row, peers_of_rows, names_of, arm_of_tree, state_of_row}
+use Rattle.rs_text.specs.KnownNames.{role_named, label_named}
+use Rattle.rs_bodies.specs.Dialects.{state_by_mark}
 use Rattle.rs_tables.specs.Machines.{machine_of_table}
 use Rattle.rs_tables.specs.Printable.{IsArmTabled, IsChoiceTabled, IsStateTabled, IsTabled}
 use Rattle.rs_tables.specs.Spells.{Fits, SpellsTable}
@@ -55,11 +57,11 @@ arms_back names (a ∷ arms) sound h =
     ap (λ z. z ∷ map (arm_of_tree names) (map (tree_of_arm names) arms)) (arm_back names a sound (All-head (IsArmTabled names) a arms h))
     ∙ ap (λ z. a ∷ z) (arms_back names arms sound (All-tail (IsArmTabled names) a arms h))
 
-choice_back : (names : Names_data) (p : Role) (m : Mark) (arms : List Arm) → IsSound names → IsChoiceTabled names p arms → state_of_row names (tree_of_choice names p m arms) ≡ state_of_mark m p arms
+choice_back : (names : Names_data) (p : Role) (m : Mark) (arms : List Arm) → IsSound names → IsChoiceTabled names p arms → state_of_row names (tree_of_choice names p m arms) ≡ state_by_mark m p arms
 choice_back names p m [] sound h = absurd (let some = h.some in omega arith)
 choice_back names p m (a ∷ arms) sound h =
-    ap (λ z. state_of_mark m z (map (arm_of_tree names) (map (tree_of_arm names) (a ∷ arms)))) (role_back names p sound h.has_name)
-    ∙ ap (λ z. state_of_mark m p z) (arms_back names (a ∷ arms) sound h.each)
+    ap (λ z. state_by_mark m z (map (arm_of_tree names) (map (tree_of_arm names) (a ∷ arms)))) (role_back names p sound h.has_name)
+    ∙ ap (λ z. state_by_mark m p z) (arms_back names (a ∷ arms) sound h.each)
 
 state_back : (names : Names_data) (s : State) → IsSound names → IsStateTabled names s → state_of_row names (tree_of_state names s) ≡ s
 state_back names state.Done sound h = refl

@@ -15,8 +15,11 @@ use Rattle.rs_text.specs.Seen.{plain_text, word_text, sort_named}
 use Rattle.rs_text.specs.Signs.{Sign}
 use Rattle.rs_tables.specs.Cuts.{RowCut, at_number, behind_number, behind_peer, behind_mark, in_arm, behind_arm, Cut, at_begin, at_role, at_brace, in_rows, at_end}
 use Rattle.rs_tables.specs.Machines.{labels_of_arms, labels_of_row, labels_of_rows, peers_of_row, peers_of_rows}
-use Rattle.rs_tables.specs.Faults.{number_value, fault_of_role, fault_of_label, fault_of_row, fault_of}
-use Rattle.rs_tables.specs.Feeding.{is_end, is_comma, is_open_brace, is_close_brace, is_keyword, mark_of, is_some_of}
+use Rattle.rs_tables.specs.Faults.{fault_of_row, fault_of}
+use Rattle.rs_text.specs.TokenTests.{number_value}
+use Rattle.rs_text.specs.NameFaults.{fault_of_role, fault_of_label}
+use Rattle.rs_tables.specs.Feeding.{mark_of, is_some_of}
+use Rattle.rs_text.specs.TokenTests.{is_end, is_comma, is_open_brace, is_close_brace, is_keyword}
 use Rattle.rs_tables.specs.Trees.{ArmTree, RowTree, end_row, choice_row}
 use Rattle.rs_tables.proofs.Grows.{is_open_paren, is_close_paren, Grown, stays, ends, closes, arm_tree, table_tree, armed, number_step, row_step, mark_step, label_step, sorted_step, sort_step, next_step}
 use Rattle.rs_tables.proofs.Grows.{arm_grows, row_grows, grown_to, role_step, grows}

@@ -13,8 +13,9 @@ use Rattle.rs_text.specs.Signs.{Sign}
 use Rattle.rs_text.proofs.Basics.{both}
 use Rattle.rs_text.proofs.Naming.{grown_append}
 use Rattle.rs_tables.specs.Cuts.{Cut, at_begin}
-use Rattle.rs_tables.specs.Faults.{fault_of_role, fault_of}
-use Rattle.rs_tables.specs.Spells.{AreKnown}
+use Rattle.rs_tables.specs.Faults.{fault_of}
+use Rattle.rs_text.specs.NameFaults.{fault_of_role}
+use Rattle.rs_text.specs.KnownNames.{AreKnown}
 use Rattle.rs_tables.proofs.Changes.{labels_in, roles_in, count_in, Adds, Change}
 
 -- what stands before the place keeps the rules

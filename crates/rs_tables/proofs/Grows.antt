@@ -18,8 +18,9 @@ use Rattle.rs_text.proofs.Basics.{both, some_is}
 use Rattle.rs_text.proofs.Judging.{IsProper}
 use Rattle.rs_tables.specs.Cuts.{RowCut, at_number, behind_number, behind_peer, behind_mark, in_arm, behind_arm, Cut, at_begin, at_role, at_brace, in_rows, at_end, arm_with_comma}
 use Rattle.rs_tables.specs.Cuts.{row_head_signs, row_cut_signs, cut_signs, IsPlace}
-use Rattle.rs_tables.specs.Faults.{number_value}
-use Rattle.rs_tables.specs.Feeding.{is_end, is_comma, is_open_brace, is_close_brace, is_keyword, mark_of, is_some_of}
+use Rattle.rs_text.specs.TokenTests.{number_value}
+use Rattle.rs_tables.specs.Feeding.{mark_of, is_some_of}
+use Rattle.rs_text.specs.TokenTests.{is_end, is_comma, is_open_brace, is_close_brace, is_keyword}
 use Rattle.rs_tables.specs.Trees.{ArmTree, RowTree, end_row, choice_row, TableTree, arm_signs, later_arm_signs, arms_signs, row_signs, rows_signs, head_signs}
 
 -- ---- growth

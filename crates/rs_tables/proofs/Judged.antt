@@ -1,5 +1,5 @@
 -- The fault that the reader tells is the first one of the text, and what it reads is spelt there.
-use Rattle.std.proofs.Common.{◌≡◌, ◌⊎◌, inl, inr, ℕ, ◌≤◌, List, [], ◌∷◌, ◌++◌, length, Bool, true, false, ◌==◌, if◌then◌else◌, Option, Some, None, IfSome, Ok, Err, refl, sym, ap, ◌∙◌, subst}
+use Rattle.std.proofs.Common.{◌≡◌, ◌⊎◌, inl, inr, ℕ, ◌≤◌, List, [], ◌∷◌, ◌++◌, length, Bool, true, false, ◌==◌, if◌then◌else◌, Option, Some, None, IfSome, Ok, refl, sym, ap, ◌∙◌, subst}
 use Rattle.std.specs.Option.{option_map}
 use Rattle.rs_model.specs.Data.{Names_data}
 use Rattle.rs_model.specs.declared.limits.TheConstants.{MOST_LABELS}
@@ -16,18 +16,17 @@ use Rattle.rs_text.specs.Lexemes.{Lexeme, signs_of}
 use Rattle.rs_text.specs.Lexing.{Lexed}
 use Rattle.rs_text.specs.Readings.{Reading, feed_sign, next_lexeme_of, read_all}
 use Rattle.rs_text.specs.Seen.{plain_text, word_text}
-use Rattle.rs_text.specs.Signs.{Sign, broken, finish}
+use Rattle.rs_text.specs.Signs.{Sign, broken}
 use Rattle.rs_text.proofs.Judging as judging
 use Rattle.rs_text.proofs.Judging.{Here, IsProper, proper_sign, Judges, Halt, halt, Wholeness, a_faulty, a_whole, wholeness}
-use Rattle.rs_text.proofs.Standing.{StopsAtEnd}
-use Rattle.rs_tables.specs.declared.reading.Mode.{Mode}
-use Rattle.rs_text.specs.declared.messages.MessagePlace.TheVariants as place
-use Rattle.rs_tables.specs.declared.reading.Mode.TheVariants as mode
 use Rattle.rs_tables.specs.Cuts.{RowCut, at_number, behind_number, in_arm, Cut, at_begin, at_role, in_rows, at_end, cut_signs, wanted_of, IsPlace}
 use Rattle.rs_tables.specs.Data.{Reader_data}
 use Rattle.rs_tables.specs.Machines.{labels_of_arms, labels_of_rows, machine_of_table}
 use Rattle.rs_text.specs.Names.{names_with}
-use Rattle.rs_tables.specs.Faults.{Begins, IsInTable, StandsAt, IsMisplaced, FaultAt, number_value, fault_of_role, fault_of_label, fault_of_row, fault_of, fault_in_row}
+use Rattle.rs_tables.specs.Faults.{Begins, IsInTable, StandsAt, IsMisplaced, FaultAt, fault_of_row, fault_of, fault_in_row}
+use Rattle.rs_text.specs.TokenTests.{number_value}
+use Rattle.rs_text.specs.NameFaults.{fault_of_role, fault_of_label}
+use Rattle.rs_tables.specs.Ends.{at_end_stops}
 use Rattle.rs_tables.specs.Feeding.{Fed, start_of_table, feed_at, is_read, feeding, names_read}
 use Rattle.rs_tables.specs.Spells.{IsFormed, Fits, SpellsTable}
 use Rattle.rs_tables.specs.Trees.{ArmTree, RowTree, TableTree}
@@ -264,24 +263,6 @@ verdict_by _ (a_faulty j) old xs at n r s h proper = inl (faulty old xs j at n.s
 verdict_by _ (a_whole t w) old xs at n r s h proper =
     subst (λ (z : Fed). judging.Verdict (FaultAt old) LeavesAny r xs t at n z) (sym (fed_is old xs t at n r s w))
     (verdict_of old xs t at n r s h proper w (grows s.place t) (fault_of old s.place t) refl refl)
-
--- ---- the end
-
-abbrev IsRefused : Fed → Type 0
-IsRefused (Ok d) = ⊥
-IsRefused (Err e) = Unit {0}
-
-end_refused : (m : Mode) (at : ℕ) (r : Reader_data) → IsRefused (feed_at m finish at r)
-end_refused mode.Table at r = tt
-end_refused (mode.InMessage p m place.Label) at r = tt
-end_refused _ at r = tt
-
-end_stops : (m : Mode) (at : ℕ) (r d : Reader_data) → feed_at m finish at r ≡ Ok d → ⊥
-end_stops m at r d h = subst IsRefused h (end_refused m at r)
-
--- the end is never taken, and nothing behind it counts
-pub at_end_stops : StopsAtEnd feeding
-at_end_stops = record { never = λ at n r d h. end_stops r.mode at r d h; same = λ at n k r. refl }
 
 -- ---- the whole
 

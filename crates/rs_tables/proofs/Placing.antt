@@ -20,9 +20,10 @@ use Rattle.rs_text.specs.Messages.{MessageFed, goes_on, ends, feed_message}
 use Rattle.rs_tables.specs.declared.reading.Mode.{Mode}
 use Rattle.rs_tables.specs.declared.reading.Mode.TheVariants as mode
 use Rattle.rs_tables.specs.Data.{Reader_data}
-use Rattle.rs_tables.specs.Faults.{number_value}
+use Rattle.rs_text.specs.TokenTests.{number_value}
 use Rattle.rs_tables.specs.Feeding.{Fed, in_mode, passes, feed_table_role, feed_role, feed_number, feed_state, feed_peer, feed_row, feed_mark, in_message, feed_next, feed_behind_arm, feed_at, feeding, is_some_of}
-use Rattle.rs_tables.specs.Feeding.{is_end, is_comma, is_close_brace, mark_of}
+use Rattle.rs_tables.specs.Feeding.{mark_of}
+use Rattle.rs_text.specs.TokenTests.{is_end, is_comma, is_close_brace}
 
 -- the fault stands there
 abbrev Stays : ℕ → Fed → Type 0

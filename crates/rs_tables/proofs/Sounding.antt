@@ -10,28 +10,28 @@ use Rattle.rs_model.specs.declared.values.Sort.{Sort}
 use Rattle.rs_bodies.specs.declared.dialects.Mark.{Mark}
 use Rattle.rs_text.specs.declared.faults.TextKind.TheVariants as kind
 use Rattle.rs_text.specs.declared.faults.Wanted.{Wanted}
-use Rattle.rs_text.specs.Lexemes.{Lexeme}
-use Rattle.rs_text.specs.Lexing.{next_lexeme}
 use Rattle.rs_text.specs.Names.{place_of, differ}
-use Rattle.rs_text.specs.Readings.{fault, expected, feed_sign}
+use Rattle.rs_text.specs.Readings.{AreNamesBehind, fault, expected}
 use Rattle.rs_text.specs.Seen.{plain_text}
 use Rattle.rs_text.specs.Signs.{Sign, broken}
 use Rattle.rs_text.specs.Sound.{IsSound}
 use Rattle.rs_text.specs.Words.{is_word, is_role_word}
-use Rattle.rs_text.proofs.Judging.{IsNamed, named}
+use Rattle.rs_text.proofs.Judging.{IsNamed}
 use Rattle.rs_text.proofs.Basics.{both}
 use Rattle.rs_text.proofs.MessageLaws.{GoodLabels, GoodBehind, labels_first, message_good}
 use Rattle.rs_text.proofs.Naming.{decides_sound}
 use Rattle.rs_text.specs.Messages.{MessageFed, goes_on, ends, feed_message}
-use Rattle.rs_text.proofs.Keeping.{if_ok}
+use Rattle.rs_text.proofs.Keeping as kept
+use Rattle.rs_text.proofs.Taking.{kept_behind}
 use Rattle.rs_text.specs.declared.faults.TextFault.{TextFault}
 use Rattle.rs_tables.specs.declared.reading.Mode.{Mode}
 use Rattle.rs_tables.specs.declared.reading.Mode.TheVariants as mode
 use Rattle.rs_tables.specs.Data.{Reader_data}
-use Rattle.rs_tables.specs.Faults.{number_value}
+use Rattle.rs_text.specs.TokenTests.{number_value}
 use Rattle.rs_text.specs.Kept.{Keeps}
-use Rattle.rs_tables.specs.Feeding.{Fed, in_mode, passes, feed_table_role, feed_role, feed_number, feed_state, feed_peer, feed_row, feed_mark, in_message, feed_next, feed_behind_arm, feed_at, feed_of}
-use Rattle.rs_tables.specs.Feeding.{feeding, names_read, is_some_of, is_end, is_comma, is_close_brace, mark_of}
+use Rattle.rs_tables.specs.Feeding.{Fed, in_mode, passes, feed_table_role, feed_role, feed_number, feed_state, feed_peer, feed_row, feed_mark, in_message, feed_next, feed_behind_arm, feed_at}
+use Rattle.rs_tables.specs.Feeding.{feeding, names_read, is_some_of, mark_of}
+use Rattle.rs_text.specs.TokenTests.{is_end, is_comma, is_close_brace}
 
 -- names that are still sound, with further labels behind the old ones
 pub record GoodNames (old : Names_data) (roles labels : List (List ℕ)) : Type 0 where
@@ -104,29 +104,31 @@ fed old (mode.AtNext p m l s) t at r n h = next old p m l s (number_value t) at 
 fed old (mode.BehindArm p m) t at r n h = behind_arm old p m (is_comma t) (is_close_brace t) at r h
 fed old mode.Behind t at r n h = tt
 
-good_on : (old : Names_data) (t : Sign) (at : ℕ) (next : Lexeme) (r d : Reader_data) → IsNamed t → feed_sign feeding t at next r ≡ Ok d → Good old r → Good old d
-good_on old (broken k) at next r d name f h = absurd (cc f)
-good_on old t at next r d name f h = if_ok (feed_of t at r) d (Good old) f (fed old r.mode t at r name h)
-
--- a token that is taken keeps the names good
-pub good_fed : (old : Names_data) (bytes : List ℕ) (now : ℕ) (t next : Lexeme) (r d : Reader_data) → t ≡ next_lexeme bytes now → feed_sign feeding t.sign t.from next r ≡ Ok d → Good old r → Good old d
-good_fed old bytes now t next r d e f h = good_on old t.sign t.from next r d (named bytes now t e) f h
+good_kept : (old : Names_data) → kept.Keeps feeding (Good old)
+good_kept old (broken k) at next r name h = tt
+good_kept old t at next r name h = fed old r.mode t at r name h
 
 -- names that were sound are good at first
-pub good_first : (r : Reader_data) → IsSound (names_read r) → Good (names_read r) r
+good_first : (r : Reader_data) → IsSound (names_read r) → Good (names_read r) r
 good_first r s = record { roles_are = refl; labels_good = labels_first (names_read r) s }
 
-pub good_sound : (old : Names_data) (r : Reader_data) → IsSound old → Good old r → IsSound (names_read r)
+good_sound : (old : Names_data) (r : Reader_data) → IsSound old → Good old r → IsSound (names_read r)
 good_sound old r s g =
     let t = both (differ old.roles && list_all is_role_word old.roles) (differ old.labels && list_all is_word old.labels) ((decides_sound old).1 s) in
     let u : (differ r.roles && list_all is_role_word r.roles) ≡ true = ap (λ z. differ z && list_all is_role_word z) g.roles_are ∙ t.0 in
     (decides_sound (names_read r)).0 (rw (u, g.labels_good.labels_differ, g.labels_good.words) refl)
 
-pub good_keeps : (old : Names_data) (r : Reader_data) → Good old r → Keeps old (names_read r)
+good_keeps : (old : Names_data) (r : Reader_data) → Good old r → Keeps old (names_read r)
 good_keeps old r g = record { later = g.labels_good.later; roles = g.roles_are; labels = g.labels_good.labels_are }
 
-pub same_sound : (r d : Reader_data) → names_read d ≡ names_read r → IsSound (names_read r) → IsSound (names_read d)
-same_sound r d e h = subst IsSound (sym e) h
+-- the reader that has such names is good
+good_behind : (o : Reader_data) (bytes : List ℕ) (at : ℕ) (found : Names_data) → IsSound (names_read o) → (b : AreNamesBehind feeding names_read o bytes at found) → Good (names_read o) b.reader
+good_behind o bytes at found s b = kept_behind feeding (Good (names_read o)) (good_kept (names_read o)) names_read o bytes at found (good_first o s) b
 
-pub same_keeps : (old : Names_data) (r d : Reader_data) → names_read d ≡ names_read r → Keeps old (names_read r) → Keeps old (names_read d)
-same_keeps old r d e h = subst (λ (z : Names_data). Keeps old z) (sym e) h
+-- the names are sound behind any first tokens
+pub sound_behind : (o : Reader_data) (bytes : List ℕ) (at : ℕ) (found : Names_data) → IsSound (names_read o) → AreNamesBehind feeding names_read o bytes at found → IsSound found
+sound_behind o bytes at found s b = subst IsSound (sym b.names_are) (good_sound (names_read o) b.reader s (good_behind o bytes at found s b))
+
+-- those that were there stay in their places
+pub keeps_behind : (o : Reader_data) (bytes : List ℕ) (at : ℕ) (found : Names_data) → IsSound (names_read o) → AreNamesBehind feeding names_read o bytes at found → Keeps (names_read o) found
+keeps_behind o bytes at found s b = subst (λ (z : Names_data). Keeps (names_read o) z) (sym b.names_are) (good_keeps (names_read o) b.reader (good_behind o bytes at found s b))

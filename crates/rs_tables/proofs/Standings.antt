@@ -33,10 +33,16 @@ use Rattle.rs_tables.specs.declared.reading.Mode.{Mode}
 use Rattle.rs_tables.specs.declared.reading.Mode.TheVariants as mode
 use Rattle.rs_tables.specs.Cuts.{RowCut, at_number, behind_number, behind_peer, behind_mark, in_arm, behind_arm, Cut, at_begin, at_role, at_brace, in_rows, at_end, wanted_of, row_wanted}
 use Rattle.rs_tables.specs.Data.{Reader_data}
-use Rattle.rs_tables.specs.Machines.{labels_of_arms, labels_of_row, labels_of_rows, with_new_labels, role_named, label_named, arm_of_tree, state_of_mark, state_of_row}
-use Rattle.rs_tables.specs.Faults.{number_value, fault_of_role, fault_of_label, fault_of_row, fault_of}
-use Rattle.rs_tables.specs.Feeding.{Fed, start_of_table, feed_table_role, feed_role, feed_number, feed_peer, feed_row, feed_mark, in_message, feed_next, feed_at, is_end, is_comma, is_open_brace, is_close_brace}
-use Rattle.rs_tables.specs.Feeding.{is_keyword, mark_of, is_some_of}
+use Rattle.rs_tables.specs.Machines.{labels_of_arms, labels_of_row, labels_of_rows, arm_of_tree, state_of_row}
+use Rattle.rs_text.specs.KnownNames.{with_new_labels, role_named, label_named}
+use Rattle.rs_bodies.specs.Dialects.{state_by_mark}
+use Rattle.rs_tables.specs.Faults.{fault_of_row, fault_of}
+use Rattle.rs_text.specs.TokenTests.{number_value}
+use Rattle.rs_text.specs.NameFaults.{fault_of_role, fault_of_label}
+use Rattle.rs_tables.specs.Feeding.{Fed, start_of_table, feed_table_role, feed_role, feed_number, feed_peer, feed_row, feed_mark, in_message, feed_next, feed_at}
+use Rattle.rs_text.specs.TokenTests.{is_end, is_comma, is_open_brace, is_close_brace}
+use Rattle.rs_tables.specs.Feeding.{mark_of, is_some_of}
+use Rattle.rs_text.specs.TokenTests.{is_keyword}
 use Rattle.rs_tables.specs.Trees.{ArmTree, RowTree, end_row, choice_row}
 use Rattle.rs_tables.proofs.Grows.{Grown, stays, ends, closes, arm_tree, table_tree, armed, number_step, row_step, mark_step, label_step, sorted_step, next_step, arm_grows, grown_to, role_step, grows}
 use Rattle.rs_tables.proofs.Changes.{labels_at}
@@ -196,7 +202,7 @@ arms_kept old labels w (a ∷ arms) h =
 
 row_same : (old : Names_data) (labels : List (List ℕ)) (w : List ℕ) (r : RowTree) → Known labels (labels_of_row r) → state_of_row (having old (labels ++ w ∷ [])) r ≡ state_of_row (having old labels) r
 row_same old labels w end_row h = refl
-row_same old labels w (choice_row p m x xs) h = ap (λ z. state_of_mark m (role_named old p) z) (arms_kept old labels w (x ∷ xs) h)
+row_same old labels w (choice_row p m x xs) h = ap (λ z. state_by_mark m (role_named old p) z) (arms_kept old labels w (x ∷ xs) h)
 
 rows_kept : (old : Names_data) (labels : List (List ℕ)) (w : List ℕ) (rs : List RowTree) → Known labels (labels_of_rows rs)
     → map (state_of_row (having old (labels ++ w ∷ []))) rs ≡ map (state_of_row (having old labels)) rs

@@ -23,7 +23,9 @@ use Rattle.rs_text.proofs.Basics.{both}
 use Rattle.rs_text.proofs.Gaps.{true_or_false}
 use Rattle.rs_text.proofs.Naming.{not_among}
 use Rattle.rs_text.proofs.Numbers.{place_below}
-use Rattle.rs_tables.specs.Machines.{role_named, labels_of_arms, labels_of_row, labels_of_rows, peers_of_row, peers_of_rows, arm_of_tree, state_of_mark, state_of_row, machine_of_table, names_of}
+use Rattle.rs_tables.specs.Machines.{labels_of_arms, labels_of_row, labels_of_rows, peers_of_row, peers_of_rows, arm_of_tree, state_of_row, machine_of_table, names_of}
+use Rattle.rs_text.specs.KnownNames.{role_named}
+use Rattle.rs_bodies.specs.Dialects.{state_by_mark}
 use Rattle.rs_tables.specs.Printable.{IsArmTabled, IsChoiceTabled, IsStateTabled, arms_of, IsTabled}
 use Rattle.rs_tables.specs.Spells.{Fits}
 use Rattle.rs_tables.specs.Trees.{ArmTree, RowTree, end_row, choice_row, TableTree, arm_signs, later_arm_signs, arms_signs, row_signs, rows_signs, table_signs}
@@ -131,7 +133,7 @@ arms_tabled names (a ∷ arms) h s =
     let k = both (is_among a.label names.labels) (list_all (λ x. is_among x names.labels) (labels_of_arms arms)) h in
     All-cons (IsArmTabled names) (arm_of_tree names a) (map (arm_of_tree names) arms) (record { label = below names.labels a.label k.0; next = s.0 }) (arms_tabled names arms k.1 s.1)
 
-state_tabled : (names : Names_data) (m : Mark) (p : Role) (arms : List Arm) → IsChoiceTabled names p arms → IsStateTabled names (state_of_mark m p arms)
+state_tabled : (names : Names_data) (m : Mark) (p : Role) (arms : List Arm) → IsChoiceTabled names p arms → IsStateTabled names (state_by_mark m p arms)
 state_tabled names mark.Puts p arms h = h
 state_tabled names mark.Takes p arms h = h
 
@@ -162,7 +164,7 @@ arms_below names (a ∷ arms) h =
     let k = both (is_among a.label names.labels) (list_all (λ x. is_among x names.labels) (labels_of_arms arms)) h in
     All-cons (IsBelow (length names.labels)) (arm_of_tree names a) (map (arm_of_tree names) arms) (below names.labels a.label k.0) (arms_below names arms k.1)
 
-arms_marked : (m : Mark) (p : Role) (arms : List Arm) → arms_of (state_of_mark m p arms) ≡ arms
+arms_marked : (m : Mark) (p : Role) (arms : List Arm) → arms_of (state_by_mark m p arms) ≡ arms
 arms_marked mark.Puts p arms = refl
 arms_marked mark.Takes p arms = refl
 

@@ -1,7 +1,7 @@
 -- Public: the first fault of a text.
 use Rattle.std.specs.Prelude.{◌≡◌, ℕ, ◌⊎◌, List, [], ◌∷◌, ◌++◌, length, Option, Some, None, nat_le, ◌==◌, if◌then◌else◌}
 use Rattle.rs_model.specs.Data.{Names_data}
-use Rattle.rs_model.specs.declared.limits.TheConstants.{MOST_LABELS, MOST_STATES}
+use Rattle.rs_model.specs.declared.limits.TheConstants.{MOST_STATES}
 use Rattle.rs_text.specs.ArmCuts.{at_label}
 use Rattle.rs_text.specs.declared.tokens.FaultKind.{FaultKind}
 use Rattle.rs_text.specs.declared.faults.Wanted.{Wanted}
@@ -9,28 +9,15 @@ use Rattle.rs_text.specs.declared.faults.TextKind.{TextKind}
 use Rattle.rs_text.specs.declared.faults.TextKind.TheVariants as kind
 use Rattle.rs_text.specs.Faults.{kind_of}
 use Rattle.rs_text.specs.FirstFaults.{IsWhole, FirstFaultBy}
-use Rattle.rs_text.specs.Names.{names_with, is_among}
+use Rattle.rs_text.specs.NameFaults.{fault_of_label, fault_of_role}
+use Rattle.rs_text.specs.Names.{names_with}
 use Rattle.rs_text.specs.Seen.{plain_text, word_text}
-use Rattle.rs_text.specs.Signs.{Sign, number, broken}
+use Rattle.rs_text.specs.Signs.{Sign, broken}
+use Rattle.rs_text.specs.TokenTests.{number_value}
 use Rattle.rs_tables.specs.Cuts.{RowCut, at_number, behind_number, in_arm, Cut, at_role, in_rows, at_end, cut_signs, wanted_of, IsPlace}
 use Rattle.rs_tables.specs.Machines.{labels_of_arms, labels_of_rows}
 use Rattle.rs_tables.specs.Spells.{IsFormed}
 use Rattle.rs_tables.specs.Trees.{RowTree, TableTree, table_signs}
-
--- the value of a number
-abbrev pub number_value : Sign → Option ℕ
-number_value (number n) = Some n
-number_value _ = None
-
--- a role is known
-abbrev pub fault_of_role : Names_data → Option (List ℕ) → Option TextKind
-fault_of_role old None = None
-fault_of_role old (Some name) = if is_among name old.roles then None else Some kind.UnknownRole
-
--- a label is there, or there is room for it
-abbrev pub fault_of_label : List (List ℕ) → Option (List ℕ) → Option TextKind
-fault_of_label labels None = None
-fault_of_label labels (Some name) = if is_among name labels then None else if nat_le MOST_LABELS (length labels) then Some kind.TooManyLabels else None
 
 -- there is room for the row with the right number
 abbrev pub fault_of_row : ℕ → Option ℕ → Option TextKind

@@ -1,5 +1,5 @@
 -- Steps: how the reader goes on, token by token.
-use Rattle.std.specs.Prelude.{◌≡◌, ℕ, List, [], ◌∷◌, ◌++◌, codes, length, Option, Some, None, Bool, true, false, ◌&&◌, nat_le, ◌==◌, if◌then◌else◌, Result, Ok, Err}
+use Rattle.std.specs.Prelude.{ℕ, List, [], ◌∷◌, ◌++◌, codes, length, Option, Some, None, Bool, true, false, ◌&&◌, nat_le, ◌==◌, if◌then◌else◌, Result, Ok, Err}
 use Rattle.rs_model.specs.Data.{Names_data}
 use Rattle.rs_model.specs.declared.graph.Label.{Label}
 use Rattle.rs_model.specs.declared.graph.Role.{Role}
@@ -16,48 +16,25 @@ use Rattle.rs_text.specs.declared.faults.Wanted.TheVariants as wanted
 use Rattle.rs_text.specs.declared.messages.MessagePlace.TheVariants as place
 use Rattle.rs_text.specs.Messages.{MessageFed, goes_on, ends, feed_message}
 use Rattle.rs_text.specs.Names.{place_of}
-use Rattle.rs_text.specs.Readings.{Automaton, fault, expected, Fails}
+use Rattle.rs_text.specs.Readings as readings
+use Rattle.rs_text.specs.Readings.{Automaton, fault, expected}
 use Rattle.rs_text.specs.declared.reading.Stop.{Stop}
-use Rattle.rs_text.specs.Seen.{is_text, plain_text}
-use Rattle.rs_text.specs.Signs.{Sign, end_word, bang, question, comma, open_brace, close_brace}
+use Rattle.rs_text.specs.Seen.{plain_text}
+use Rattle.rs_text.specs.Signs.{Sign, bang, question}
 use Rattle.rs_tables.specs.declared.reading.Mode.{Mode}
 use Rattle.rs_tables.specs.declared.reading.Mode.TheVariants as mode
 use Rattle.rs_tables.specs.Cuts.{row_wanted}
 use Rattle.rs_tables.specs.Data.{Reader_data}
-use Rattle.rs_tables.specs.Faults.{number_value}
-use Rattle.rs_tables.specs.Machines.{state_of_mark}
+use Rattle.rs_text.specs.TokenTests.{is_close_brace, is_comma, is_end, is_keyword, is_open_brace, number_value}
+use Rattle.rs_bodies.specs.Dialects.{state_by_mark}
 
 -- ---- which token it is
-
--- the word end
-abbrev pub is_end : Sign → Bool
-is_end end_word = true
-is_end _ = false
-
--- a comma
-abbrev pub is_comma : Sign → Bool
-is_comma comma = true
-is_comma _ = false
-
--- an open brace
-abbrev pub is_open_brace : Sign → Bool
-is_open_brace open_brace = true
-is_open_brace _ = false
-
--- a close brace
-abbrev pub is_close_brace : Sign → Bool
-is_close_brace close_brace = true
-is_close_brace _ = false
 
 -- a mark, which tells what the arms of a row do
 abbrev pub mark_of : Sign → Option Mark
 mark_of bang = Some mark.Puts
 mark_of question = Some mark.Takes
 mark_of _ = None
-
--- that word
-abbrev pub is_keyword : List ℕ → Sign → Bool
-is_keyword word t = is_text word (plain_text t)
 
 -- there are some
 abbrev pub is_some_of : {A : Type 0} → List A → Bool
@@ -131,7 +108,7 @@ feed_next p m l s (Some n) at r = Ok (record r { arms = r.arms ++ record { label
 -- the comma before a further arm, or the end of the row
 abbrev pub feed_behind_arm : Role → Mark → Bool → Bool → ℕ → Reader_data → Fed
 feed_behind_arm p m goes closes at r =
-    if goes then in_mode (mode.InMessage p m place.Label) r else if closes then feed_state (state_of_mark m p r.arms) (record r { arms = [] }) else expected wanted.CommaOrCloseBrace at
+    if goes then in_mode (mode.InMessage p m place.Label) r else if closes then feed_state (state_by_mark m p r.arms) (record r { arms = [] }) else expected wanted.CommaOrCloseBrace at
 
 -- a token in a mode
 abbrev pub feed_at : Mode → Sign → ℕ → Reader_data → Fed
@@ -170,5 +147,4 @@ names_read r = record { roles = r.roles; labels = r.labels }
 
 -- a method takes one step of the reader; where it stops the names are as before
 abbrev pub Feeds : Result (Unit {0}) Stop → Fed → (old new : Reader_data) → Type 0
-Feeds (Ok done) fed old new = fed ≡ Ok new
-Feeds (Err stop) fed old new = Fails stop fed × (names_read new ≡ names_read old)
+Feeds result fed old new = readings.Feeds names_read result fed old new

@@ -10,3 +10,4 @@ pub mod TableFaults
 pub mod Read
 pub mod Data
 pub mod Feeding
+pub mod Ends

@@ -3,14 +3,11 @@ use Rattle.std.specs.Prelude.{ℕ, List, [], ◌∷◌, map}
 use Rattle.std.specs.List.{flat_map}
 use Rattle.rs_model.specs.Data.{Machine_data, Names_data}
 use Rattle.rs_model.specs.declared.graph.Arm.{Arm}
-use Rattle.rs_model.specs.declared.graph.Label.{Label}
-use Rattle.rs_model.specs.declared.graph.Role.{Role}
 use Rattle.rs_model.specs.declared.machines.State.{State}
 use Rattle.rs_model.specs.declared.machines.State.TheVariants as state
-use Rattle.rs_bodies.specs.declared.dialects.Mark.{Mark}
-use Rattle.rs_bodies.specs.declared.dialects.Mark.TheVariants as mark
+use Rattle.rs_bodies.specs.Dialects.{state_by_mark}
 use Rattle.rs_text.specs.Arms.{sort_or_unit}
-use Rattle.rs_text.specs.Names.{place_of, names_with, number_or}
+use Rattle.rs_text.specs.KnownNames.{label_named, role_named, with_new_labels}
 use Rattle.rs_tables.specs.Trees.{ArmTree, RowTree, end_row, choice_row, TableTree}
 
 -- the labels of arms, in order of text
@@ -35,35 +32,18 @@ peers_of_row (choice_row peer m first later) = peer ∷ []
 abbrev pub peers_of_rows : List RowTree → List (List ℕ)
 peers_of_rows rows = flat_map peers_of_row rows
 
--- the names that were there, with the labels that are new behind them in order of their first places
-abbrev pub with_new_labels : Names_data → List (List ℕ) → Names_data
-with_new_labels old labels = record { roles = old.roles; labels = names_with old.labels labels }
-
 -- the names with the labels of a tree
 abbrev pub names_of : Names_data → TableTree → Names_data
 names_of old t = with_new_labels old (labels_of_rows t.rows)
-
--- roles and labels are known by the places of their names
-abbrev pub role_named : Names_data → List ℕ → Role
-role_named names name = record { 0 = number_or (place_of name names.roles) }
-
--- the label with that name
-abbrev pub label_named : Names_data → List ℕ → Label
-label_named names name = record { 0 = number_or (place_of name names.labels) }
 
 -- the arm that a tree spells, with these names
 abbrev pub arm_of_tree : Names_data → ArmTree → Arm
 arm_of_tree names a = record { label = label_named names a.label; sort = sort_or_unit a.sort; next = a.next }
 
--- sends to a peer, or receives from it
-abbrev pub state_of_mark : Mark → Role → List Arm → State
-state_of_mark mark.Puts peer arms = state.Puts peer arms
-state_of_mark mark.Takes peer arms = state.Takes peer arms
-
 -- the state that a row spells, with these names
 abbrev pub state_of_row : Names_data → RowTree → State
 state_of_row names end_row = state.Done
-state_of_row names (choice_row peer m first later) = state_of_mark m (role_named names peer) (map (arm_of_tree names) (first ∷ later))
+state_of_row names (choice_row peer m first later) = state_by_mark m (role_named names peer) (map (arm_of_tree names) (first ∷ later))
 
 -- the machine that a table spells, with these names: a state a row, the first of them the start
 abbrev pub machine_of_table : Names_data → TableTree → Machine_data

@@ -1,21 +1,17 @@
 -- Headline: what a text spells.
-use Rattle.std.specs.Prelude.{◌≡◌, ℕ, ◌≤◌, List, ◌∷◌, ◌++◌, length, true}
-use Rattle.std.specs.List.{list_all}
+use Rattle.std.specs.Prelude.{◌≡◌, ℕ, ◌≤◌, List, ◌∷◌, ◌++◌, length}
 use Rattle.rs_model.specs.Data.{Machine_data, Names_data}
 use Rattle.rs_model.specs.declared.limits.TheConstants.{MOST_LABELS, MOST_STATES}
 use Rattle.rs_text.specs.Lexemes.{Lexeme, signs_of}
 use Rattle.rs_text.specs.Tokens.{AreTokens}
-use Rattle.rs_text.specs.Names.{is_among, names_with}
+use Rattle.rs_text.specs.KnownNames.{AreKnown}
+use Rattle.rs_text.specs.Names.{names_with}
 use Rattle.rs_tables.specs.Machines.{machine_of_table, labels_of_rows, peers_of_rows, names_of}
 use Rattle.rs_tables.specs.Trees.{TableTree, table_signs}
 
 -- there is at least one row
 abbrev pub IsFormed : TableTree → Type 0
 IsFormed t = 1 ≤ length t.rows
-
--- the roles are known
-abbrev pub AreKnown : Names_data → List (List ℕ) → Type 0
-AreKnown old roles = list_all (λ x. is_among x old.roles) roles ≡ true
 
 -- its role and all peers are known, there are at most 1,024 rows, and with its labels at most 256 labels
 pub record Fits (old : Names_data) (t : TableTree) : Type 0 where

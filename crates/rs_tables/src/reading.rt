@@ -9,16 +9,15 @@ ghost use Rattle.rs_text.specs.Names.{place_of};
 ghost use Rattle.rs_text.specs.Readings.{feed_sign};
 ghost use Rattle.rs_text.specs.Seen.{plain_text, is_text};
 ghost use Rattle.rs_tables.specs.Cuts as cuts;
-ghost use Rattle.rs_tables.specs.Faults.{number_value};
+ghost use Rattle.rs_text.specs.TokenTests.{is_end, is_open_brace, number_value};
 ghost use Rattle.rs_tables.specs.Feeding as spec;
 ghost use Rattle.rs_tables.specs.Feeding.{names_read};
-ghost use Rattle.rs_tables.specs.Machines.{state_of_mark};
 
 use rs_bodies::Mark;
 use rs_model::{Arm, Arms, Label, MOST_STATES, Name, Role, Sort, State};
 use rs_text::{
-    MessagePlace, MessageStep, NameTable, Stop, Terminal, TextKind, TextToken, Wanted, expected,
-    fault, feed_message, find,
+    MessagePlace, MessageStep, NameTable, Stop, Terminal, TextKind, TextToken, TokenReader, Wanted,
+    expected, fault, feed_message, find_role,
 };
 use std::alloc::Global;
 use std::marker::Model;
@@ -89,82 +88,6 @@ impl<'a> Model for Reader<'a> {
     ghost invariant = { λ r. (length r.roles.now ≤ MOST_ROLES) × (length r.labels ≤ MOST_LABELS) };
 }
 
-/// A send or a receive.
-fn state_of(mark: Mark, peer: Role, arms: Arms) -> State
-    ensures { result ≡ state_of_mark mark peer arms }
-{
-    match mark {
-        Mark::Puts => State::Puts { peer, arms },
-        Mark::Takes => State::Takes { peer, arms },
-    }
-}
-
-/// The role with this name.
-#[tactic(auto, using(rs_text::proofs::Numbers::place_below))]
-fn role_named(roles: &[Name], word: &[u8]) -> Option<Role>
-    requires { length roles.now ≤ MOST_ROLES }
-    ensures some { IfSome result (λ role. place_of word.now roles.now ≡ Some role.0) }
-    ensures none { IfNone result (place_of word.now roles.now ≡ None) }
-{
-    let place = find(roles, word)?;
-    Some(Role(place as u8))
-}
-
-/// The value of a number.
-fn value(token: &TextToken) -> Option<u32>
-    ensures { result ≡ number_value token.now.sign }
-{
-    match token.terminal() {
-        Terminal::Number(value) => Some(value),
-        _ => None,
-    }
-}
-
-fn is_keyword(token: &TextToken, word: &[u8]) -> bool
-    ensures { result ≡ spec.is_keyword word.now token.now.sign }
-{
-    match token.plain() {
-        Some(text) => text == word,
-        None => false,
-    }
-}
-
-fn is_end(token: &TextToken) -> bool
-    ensures { result ≡ spec.is_end token.now.sign }
-{
-    match token.terminal() {
-        Terminal::End => true,
-        _ => false,
-    }
-}
-
-fn is_comma(token: &TextToken) -> bool
-    ensures { result ≡ spec.is_comma token.now.sign }
-{
-    match token.terminal() {
-        Terminal::Comma => true,
-        _ => false,
-    }
-}
-
-fn is_open_brace(token: &TextToken) -> bool
-    ensures { result ≡ spec.is_open_brace token.now.sign }
-{
-    match token.terminal() {
-        Terminal::OpenBrace => true,
-        _ => false,
-    }
-}
-
-fn is_close_brace(token: &TextToken) -> bool
-    ensures { result ≡ spec.is_close_brace token.now.sign }
-{
-    match token.terminal() {
-        Terminal::CloseBrace => true,
-        _ => false,
-    }
-}
-
 /// Whether a mark sends or receives.
 fn mark_of(token: &TextToken) -> Option<Mark>
     ensures { result ≡ spec.mark_of token.now.sign }
@@ -231,7 +154,7 @@ impl<'a> Reader<'a> {
         let Some(word) = token.plain() else {
             return expected(Wanted::Role, token.from());
         };
-        let role = role_named(self.roles, word);
+        let role = find_role(self.roles, word);
         self.set_role(role, token.from())
     }
 
@@ -267,15 +190,15 @@ impl<'a> Reader<'a> {
 
     /// The peer of the row, or `end`.
     fn row(&mut self, token: &TextToken) -> Result<(), Stop>
-        ensures { spec.Feeds result (spec.feed_row (plain_text token.now.sign) (spec.is_end token.now.sign) token.now.from self.old) self.old self.new }
+        ensures { spec.Feeds result (spec.feed_row (plain_text token.now.sign) (is_end token.now.sign) token.now.from self.old) self.old self.new }
     {
         let Some(word) = token.plain() else {
-            if is_end(token) {
+            if token.is_end() {
                 return self.end_row(State::Done);
             }
             return expected(Wanted::RoleOrEnd, token.from());
         };
-        let peer = role_named(self.roles, word);
+        let peer = find_role(self.roles, word);
         self.begin_choice(peer, token.from())
     }
 
@@ -297,6 +220,17 @@ impl<'a> Reader<'a> {
         };
         self.mode = Mode::BehindMark { peer, mark };
         Ok(())
+    }
+
+    fn open_row(&mut self, peer: Role, mark: Mark, token: &TextToken) -> Result<(), Stop>
+        ensures { spec.Feeds result (spec.passes (is_open_brace token.now.sign) Wanted.OpenBrace (Mode.InMessage peer mark MessagePlace.Label) token.now.from self.old) self.old self.new }
+    {
+        let mode = Mode::InMessage {
+            peer,
+            mark,
+            place: MessagePlace::Label,
+        };
+        self.pass(token.is_open_brace(), Wanted::OpenBrace, mode, token.from())
     }
 
     fn message(
@@ -361,7 +295,7 @@ impl<'a> Reader<'a> {
         }
         if closes {
             let arms = mem::replace(&mut self.arms, Arms::new(self.alloc));
-            return self.end_row(state_of(mark, peer, arms));
+            return self.end_row(mark.state(peer, arms));
         }
         expected(Wanted::CommaOrCloseBrace, at)
     }
@@ -377,16 +311,6 @@ impl<'a> Reader<'a> {
         Ok(())
     }
 
-    /// Takes one token of the text, whatever stands behind it.
-    pub fn feed(&mut self, token: &TextToken) -> Result<(), Stop>
-        ensures { (next : Lexeme) → spec.Feeds result (feed_sign spec.feeding token.now.sign token.now.from next self.old) self.old self.new }
-    {
-        match token.terminal() {
-            Terminal::Faulty(kind) => fault(TextKind::from(kind), token.from()),
-            _ => self.feed_whole(token),
-        }
-    }
-
     /// Takes one that isn't faulty.
     fn feed_whole(&mut self, token: &TextToken) -> Result<(), Stop>
         ensures { spec.Feeds result (spec.feed_of token.now.sign token.now.from self.old) self.old self.new }
@@ -394,46 +318,52 @@ impl<'a> Reader<'a> {
         let at = token.from();
         match self.mode {
             Mode::Table => {
-                let right = is_keyword(token, b"table");
+                let right = token.is_keyword(b"table");
                 self.pass(right, Wanted::PartOrEnd, Mode::AtRole, at)
             }
             Mode::AtRole => self.own_role(token),
             Mode::AtBrace => {
-                let right = is_open_brace(token);
+                let right = token.is_open_brace();
                 self.pass(right, Wanted::OpenBrace, Mode::AtNumber, at)
             }
-            Mode::AtNumber => self.number(value(token), is_close_brace(token), at),
+            Mode::AtNumber => self.number(token.value(), token.is_close_brace(), at),
             Mode::BehindNumber => self.row(token),
             Mode::BehindPeer { peer } => self.mark(peer, mark_of(token), at),
-            Mode::BehindMark { peer, mark } => {
-                let right = is_open_brace(token);
-                let place = MessagePlace::Label;
-                self.pass(
-                    right,
-                    Wanted::OpenBrace,
-                    Mode::InMessage { peer, mark, place },
-                    at,
-                )
-            }
+            Mode::BehindMark { peer, mark } => self.open_row(peer, mark, token),
             Mode::InMessage { peer, mark, place } => self.message(peer, mark, place, token),
             Mode::AtNext {
                 peer,
                 mark,
                 label,
                 sort,
-            } => self.next(peer, mark, label, sort, value(token), at),
+            } => self.next(peer, mark, label, sort, token.value(), at),
             Mode::BehindArm { peer, mark } => {
-                let goes = is_comma(token);
-                self.behind_arm(peer, mark, goes, is_close_brace(token), at)
+                let goes = token.is_comma();
+                self.behind_arm(peer, mark, goes, token.is_close_brace(), at)
             }
             Mode::Behind => expected(Wanted::PartOrEnd, at),
         }
     }
+}
 
-    /// Whether the whole table is read.
-    pub fn is_read(&self) -> bool
-        ensures { result ≡ spec.is_read self.now }
-    {
+impl<'a, 't> TokenReader<'t> for Reader<'a> {
+    ghost use Rattle.rs_tables.specs.Ends.{at_end_stops};
+    ghost use Rattle.rs_tables.specs.Feeding.{feeding, names_read};
+
+    ghost automaton = { feeding };
+
+    ghost stops_at_end = { at_end_stops };
+
+    ghost names = { names_read };
+
+    fn feed(&mut self, token: &TextToken<'t>, _bytes: &'t [u8]) -> Result<(), Stop> {
+        match token.terminal() {
+            Terminal::Faulty(kind) => fault(TextKind::from(kind), token.from()),
+            _ => self.feed_whole(token),
+        }
+    }
+
+    fn is_read(&self) -> bool {
         match self.mode {
             Mode::Behind => true,
             _ => false,

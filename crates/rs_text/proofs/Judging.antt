@@ -11,14 +11,13 @@ use Rattle.rs_text.specs.Faults.{kind_number}
 use Rattle.rs_text.specs.FirstFaults.{FaultRule, IsWhole, IsClear, AllClear, FirstFaultBy, sign_after}
 use Rattle.rs_text.specs.Lexemes.{Lexeme, signs_of, is_last}
 use Rattle.rs_text.specs.Lexing.{Lexed, next_lexeme}
-use Rattle.rs_text.specs.Readings.{Automaton, Reading, feed_sign, next_lexeme_of, read_all, last_of}
+use Rattle.rs_text.specs.Readings.{Automaton, Reading, feed_sign, next_lexeme_of, read_all, last_of, StopsAtEnd}
 use Rattle.rs_text.specs.Signs.{Sign, rec_word, end_word, plain, broken, finish, word_sign}
 use Rattle.rs_text.specs.Tokens.{IsNext}
 use Rattle.rs_text.specs.Words.{is_word, is_role_word}
 use Rattle.rs_text.proofs.Gaps.{true_or_false}
 use Rattle.rs_text.proofs.Leading.{sign_behind, lexeme, Tells, Exact}
 use Rattle.rs_text.proofs.Nexts.{next_is_next, plain_law, one_list}
-use Rattle.rs_text.proofs.Standing.{StopsAtEnd}
 
 -- a word other than rec and end can be a role's name
 abbrev pub IsNamed : Sign → Type 0

@@ -23,11 +23,12 @@ tokens bytes at h = let e = exists bytes at h in (e.0, are_lexed bytes e.0 at e.
 abbrev pub Keeps : {R : Type 0} → Automaton R → (R → Type 0) → Type 0
 Keeps {R} a P = (t : Sign) (at : ℕ) (n : Lexeme) (r : R) → IsNamed t → P r → IfOk (feed_sign a t at n r) P
 
-abbrev AllNamed : List Lexeme → Type 0
+-- tokens whose words are words
+abbrev pub AllNamed : List Lexeme → Type 0
 AllNamed [] = Unit {0}
 AllNamed (l ∷ ls) = IsNamed l.sign × AllNamed ls
 
-all_named : (bytes : List ℕ) (ls : List Lexeme) (at : ℕ) → Lexed bytes at ls → AllNamed ls
+pub all_named : (bytes : List ℕ) (ls : List Lexeme) (at : ℕ) → Lexed bytes at ls → AllNamed ls
 all_named bytes [] at h = tt
 all_named bytes (l ∷ ls) at h = elim (true_or_false (is_last l.sign)) [
   | inl last ↦ (named bytes at l h.0, subst AllNamed (sym (h.1 last)) tt)

@@ -21,3 +21,4 @@ pub mod Comments
 pub mod PlainNames
 pub mod Sameness
 pub mod Cutting
+pub mod Taking

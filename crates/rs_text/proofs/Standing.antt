@@ -5,16 +5,11 @@ use Rattle.rs_text.specs.declared.reading.Stop.{Stop}
 use Rattle.rs_text.specs.declared.reading.Stop.TheVariants as stops
 use Rattle.rs_text.specs.Lexemes.{Lexeme, is_last}
 use Rattle.rs_text.specs.Lexing.{Lexed, next_lexeme}
-use Rattle.rs_text.specs.Readings.{Automaton, feed_sign, next_lexeme_of, read_all, last_of, ReadsBy, StopsBy, Fails}
+use Rattle.rs_text.specs.Readings.{Automaton, feed_sign, next_lexeme_of, read_all, last_of, ReadsBy, StopsAtEnd, StopsBy, Fails}
 use Rattle.rs_text.proofs.RefusedReadings.{RefusedBy}
 use Rattle.rs_text.specs.Signs.{Sign, finish, broken}
 use Rattle.rs_text.specs.Tokens.{IsNext}
 use Rattle.rs_text.proofs.Nexts.{next_is_next, takes_up}
-
--- the end is never taken, and nothing behind it counts
-pub record StopsAtEnd {R : Type 0} (a : Automaton R) : Type 0 where
-  pub never : (at : ℕ) (n : Lexeme) (r d : R) → a.feed finish at n r ≡ Ok d → ⊥
-  pub same : (at : ℕ) (n k : Lexeme) (r : R) → a.feed finish at n r ≡ a.feed finish at k r
 
 -- the reader, which was o at first, stands before the tokens from `now` on
 abbrev pub Stands : {R : Type 0} → Automaton R → R → List ℕ → ℕ → R → ℕ → Type 0
@@ -38,7 +33,7 @@ more_if e finish at next r d h = absurd (e.never at next r d h)
 more_if e (broken k) at next r d h = cc
 more_if e _ at next r d h = refl
 
-next_is : (bytes : List ℕ) (until : ℕ) (l : Lexeme) (ls : List Lexeme) → Lexed bytes until ls → next_lexeme_of l ls ≡ next_lexeme bytes until
+pub next_is : (bytes : List ℕ) (until : ℕ) (l : Lexeme) (ls : List Lexeme) → Lexed bytes until ls → next_lexeme_of l ls ≡ next_lexeme bytes until
 next_is bytes until l [] h = absurd h
 next_is bytes until l (x ∷ xs) h = h.0
 

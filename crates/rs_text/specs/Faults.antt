@@ -1,5 +1,5 @@
 -- Public: kinds of faults.
-use Rattle.std.specs.Prelude.{ℕ, List, codes}
+use Rattle.std.specs.Prelude.{ℕ, List, [], codes}
 use Rattle.rs_text.specs.declared.tokens.FaultKind.{FaultKind}
 use Rattle.rs_text.specs.declared.tokens.FaultKind.TheVariants as fault
 use Rattle.rs_text.specs.declared.faults.TextKind.{TextKind}
@@ -30,6 +30,29 @@ kind_of fault.BadByte = kind.BadByte
 kind_of fault.NumberTooLarge = kind.NumberTooLarge
 kind_of fault.NameTooLong = kind.NameTooLong
 
+-- what a fault's line says was wanted in a derivation alone
+abbrev pub wanted_in_derivation : Wanted → List ℕ
+wanted_in_derivation wanted.DerivationOrEnd = codes "derivation or the end"
+wanted_in_derivation wanted.BoundOrFormat = codes "bound or format"
+wanted_in_derivation wanted.FormatNumber = codes "2"
+wanted_in_derivation wanted.Bound = codes "bound"
+wanted_in_derivation wanted.BoundNumber = codes "number from 1 to 64"
+wanted_in_derivation wanted.PendingOrNode = codes "pending or node"
+wanted_in_derivation wanted.PendingNumber = codes "pending number"
+wanted_in_derivation wanted.CommaPendingOrNode = codes ", pending or node"
+wanted_in_derivation wanted.With = codes "with"
+wanted_in_derivation wanted.Above = codes "above"
+wanted_in_derivation wanted.Node = codes "node"
+wanted_in_derivation wanted.NodeOrCloseBrace = codes "node or }"
+wanted_in_derivation wanted.Number = codes "number"
+wanted_in_derivation wanted.OpenBracket = codes "["
+wanted_in_derivation wanted.ActOrCloseBracket = codes "act or ]"
+wanted_in_derivation wanted.CommaOrCloseBracket = codes ", or ]"
+wanted_in_derivation wanted.Rank = codes "rank"
+wanted_in_derivation wanted.Next = codes "next"
+wanted_in_derivation wanted.NumberOrCloseBracket = codes "number or ]"
+wanted_in_derivation _ = []
+
 -- what a fault's line says was wanted
 abbrev pub wanted_text : Wanted → List ℕ
 wanted_text wanted.Roles = codes "roles"
@@ -52,24 +75,6 @@ wanted_text wanted.State = codes "state"
 wanted_text wanted.StateOrCloseBrace = codes "state or }"
 wanted_text wanted.RoleOrEnd = codes "role or end"
 wanted_text wanted.NextState = codes "next state"
-wanted_text wanted.DerivationOrEnd = codes "derivation or the end"
-wanted_text wanted.BoundOrFormat = codes "bound or format"
-wanted_text wanted.FormatNumber = codes "2"
-wanted_text wanted.Bound = codes "bound"
-wanted_text wanted.BoundNumber = codes "number from 1 to 64"
 wanted_text wanted.OpenBrace = codes "{"
-wanted_text wanted.PendingOrNode = codes "pending or node"
-wanted_text wanted.PendingNumber = codes "pending number"
-wanted_text wanted.CommaPendingOrNode = codes ", pending or node"
-wanted_text wanted.With = codes "with"
-wanted_text wanted.Above = codes "above"
-wanted_text wanted.Node = codes "node"
-wanted_text wanted.NodeOrCloseBrace = codes "node or }"
-wanted_text wanted.Number = codes "number"
-wanted_text wanted.OpenBracket = codes "["
-wanted_text wanted.ActOrCloseBracket = codes "act or ]"
-wanted_text wanted.CommaOrCloseBracket = codes ", or ]"
-wanted_text wanted.Rank = codes "rank"
-wanted_text wanted.Next = codes "next"
-wanted_text wanted.NumberOrCloseBracket = codes "number or ]"
 wanted_text wanted.Mark = codes "! or ?"
+wanted_text w = wanted_in_derivation w

@@ -7,6 +7,7 @@ pub mod Tokens
 pub mod Lexing
 pub mod Places
 pub mod Names
+pub mod KnownNames
 pub mod NamePlaces
 pub mod Tables
 pub mod Sound
@@ -15,7 +16,9 @@ pub mod Arms
 pub mod ArmCuts
 pub mod Shown
 pub mod Seen
+pub mod TokenTests
 pub mod Terminals
+pub mod NameFaults
 pub mod FirstFaults
 pub mod Readings
 pub mod Messages

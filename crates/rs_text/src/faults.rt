@@ -1,7 +1,7 @@
 //! The faults of texts, and what was wanted instead.
 
 ghost use Rattle.std.specs.Prelude.{◌≡◌};
-ghost use Rattle.rs_text.specs.Faults.{wanted_text, kind_of};
+ghost use Rattle.rs_text.specs.Faults.{wanted_text, wanted_in_derivation, kind_of};
 
 use crate::{FaultKind, TokenFault};
 
@@ -118,12 +118,22 @@ impl Wanted {
             Wanted::StateOrCloseBrace => "state or }",
             Wanted::RoleOrEnd => "role or end",
             Wanted::NextState => "next state",
+            Wanted::OpenBrace => "{",
+            Wanted::Mark => "! or ?",
+            _ => self.text_in_derivation(),
+        }
+    }
+
+    /// The words for what is wanted in a derivation alone.
+    fn text_in_derivation(self) -> &'static str
+        ensures { result.now ≡ wanted_in_derivation self }
+    {
+        match self {
             Wanted::DerivationOrEnd => "derivation or the end",
             Wanted::BoundOrFormat => "bound or format",
             Wanted::FormatNumber => "2",
             Wanted::Bound => "bound",
             Wanted::BoundNumber => "number from 1 to 64",
-            Wanted::OpenBrace => "{",
             Wanted::PendingOrNode => "pending or node",
             Wanted::PendingNumber => "pending number",
             Wanted::CommaPendingOrNode => ", pending or node",
@@ -138,7 +148,7 @@ impl Wanted {
             Wanted::Rank => "rank",
             Wanted::Next => "next",
             Wanted::NumberOrCloseBracket => "number or ]",
-            Wanted::Mark => "! or ?",
+            _ => "",
         }
     }
 }

@@ -87,18 +87,6 @@ pub fn next_token(bytes: &[u8], at: usize) -> TextToken<'_>
     }
 }
 
-/// The value of decimal digits; none where it is above 4,294,967,295.
-pub fn number(digits: &[u8]) -> Option<u32>
-    ensures some { IfSome result (λ value. value ≡ value_of digits.now) }
-    ensures none { IfNone result (4294967295 < value_of digits.now) }
-{
-    let mut value: u32 = 0;
-    for digit in digits {
-        value = with_digit(value, *digit)?;
-    }
-    Some(value)
-}
-
 /// The value of a number with one more digit.
 fn with_digit(value: u32, digit: u8) -> Option<u32>
     ensures some { IfSome result (λ next. next ≡ value * 10 + (digit - 48)) }
@@ -186,16 +174,23 @@ fn word(text: &[u8]) -> Terminal<'_>
     }
 }
 
+/// The number whose digits are in front.
 #[inline(never)]
 fn number_in_front(bytes: &[u8]) -> (Terminal<'_>, usize)
     ensures front { number_front bytes.now (number_length bytes.now) ≡ front (terminal_sign result.0) result.1 }
     ensures within { result.1 ≤ length bytes.now }
 {
-    let (digits, _) = bytes.split_at(number_size(bytes));
-    match number(digits) {
-        Some(value) => (Terminal::Number(value), digits.len()),
-        None => (Terminal::Faulty(FaultKind::NumberTooLarge), 0),
+    let mut value: u32 = 0;
+    for (place, digit) in bytes.iter().enumerate() {
+        if !is_digit(*digit) {
+            return (Terminal::Number(value), place);
+        }
+        match with_digit(value, *digit) {
+            Some(next) => value = next,
+            None => return (Terminal::Faulty(FaultKind::NumberTooLarge), 0),
+        }
     }
+    (Terminal::Number(value), bytes.len())
 }
 
 /// The mark of one byte that the byte is.
@@ -227,18 +222,6 @@ fn word_size(bytes: &[u8]) -> usize
 {
     for (place, byte) in bytes.iter().enumerate() {
         if !is_letter(*byte) && !is_digit(*byte) {
-            return place;
-        }
-    }
-    bytes.len()
-}
-
-fn number_size(bytes: &[u8]) -> usize
-    ensures count { result ≡ number_length bytes.now }
-    ensures within { result ≤ length bytes.now }
-{
-    for (place, byte) in bytes.iter().enumerate() {
-        if !is_digit(*byte) {
             return place;
         }
     }

@@ -1,8 +1,9 @@
 //! Names and their places in a list.
 
-ghost use Rattle.std.specs.Prelude.{◌≡◌, ◌↔◌, IsTrue, ◌++◌, ◌∷◌, [], length, OnOk, OnErr, IfOk};
+ghost use Rattle.std.specs.Prelude.{◌≡◌, ◌≤◌, ◌↔◌, IsTrue, ◌++◌, ◌∷◌, [], length, OnOk, OnErr, IfOk, IfSome, IfNone, Some, None};
 ghost use Rattle.std.specs.List.{list_all};
 ghost use Rattle.std.specs.Str.{bytes_eq};
+ghost use Rattle.rs_model.specs.declared.limits.TheConstants.{MOST_ROLES};
 ghost use Rattle.rs_text.specs.Names.{place_of, is_among};
 ghost use Rattle.rs_text.specs.Names as naming;
 ghost use Rattle.rs_text.specs.Bytes as bytes;
@@ -11,7 +12,7 @@ ghost use Rattle.rs_text.specs.Bytes.{begins};
 ghost use Rattle.rs_text.specs.Sound as spec;
 
 use crate::lexing::{is_digit, is_letter};
-use rs_model::{MOST_NAME_BYTES, Name, Names, NoMemory};
+use rs_model::{MOST_NAME_BYTES, Name, Names, NoMemory, Role};
 use std::alloc::Global;
 
 /// The place of a name among others, the first one if it stands there more than once.
@@ -25,6 +26,17 @@ pub fn find(names: &[Name], word: &[u8]) -> Option<usize>
         }
     }
     None
+}
+
+/// The role with this name.
+#[tactic(auto, using(crate::proofs::Numbers::place_below))]
+pub fn find_role(roles: &[Name], word: &[u8]) -> Option<Role>
+    requires { length roles.now ≤ MOST_ROLES }
+    ensures some { IfSome result (λ role. place_of word.now roles.now ≡ Some role.0) }
+    ensures none { IfNone result (place_of word.now roles.now ≡ None) }
+{
+    let place = find(roles, word)?;
+    Some(Role(place as u8))
 }
 
 /// Whether two texts are equal, byte by byte.

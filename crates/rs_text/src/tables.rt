@@ -1,13 +1,14 @@
 //! Names with an index by which one is found.
 
-ghost use Rattle.std.specs.Prelude.{◌≡◌, ◌⊎◌, ◌<◌, ◌≤◌, ◌++◌, ◌∷◌, [], ℕ, true, false, length, slice_get, Some, IfOk, OnOk, OnErr, MatchOption};
+ghost use Rattle.std.specs.Prelude.{◌≡◌, ◌⊎◌, ◌<◌, ◌≤◌, ◌++◌, ◌∷◌, [], ℕ, true, false, length, slice_get, Some, None, IfOk, IfSome, IfNone, OnOk, OnErr, MatchOption};
 ghost use Rattle.rs_text.specs.Names.{place_of};
+ghost use Rattle.rs_model.specs.declared.limits.TheConstants.{MOST_ROLES};
 ghost use Rattle.rs_model.specs.Chains.{IsChained, bucket_on};
 ghost use Rattle.rs_text.specs.Tables.{AreFiled, AreFiledIn, bucket_of};
 ghost use Rattle.rs_text.specs.declared.tables.TheConstants.{BUCKETS};
 
 use crate::names::{are_equal, find};
-use rs_model::{Name, NoMemory};
+use rs_model::{Name, NoMemory, Role};
 use std::alloc::Global;
 use std::marker::Model;
 
@@ -96,6 +97,17 @@ impl NameTable {
             return find(self.names.as_slice(), word);
         }
         find_filed(self.names.as_slice(), &self.heads, &self.links, word)
+    }
+
+    /// The role with this name.
+    #[tactic(auto, using(crate::proofs::Numbers::place_below))]
+    pub fn find_role(&self, word: &[u8]) -> Option<Role>
+        requires { length self.now ≤ MOST_ROLES }
+        ensures some { IfSome result (λ role. place_of word.now self.now ≡ Some role.0) }
+        ensures none { IfNone result (place_of word.now self.now ≡ None) }
+    {
+        let place = self.find(word)?;
+        Some(Role(place as u8))
     }
 
     /// Puts a name behind the others and gives its place; where memory is refused nothing changes.

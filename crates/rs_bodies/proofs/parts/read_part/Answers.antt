@@ -34,6 +34,6 @@ pub returns-clause-left : goal.returns-clause-left
 returns-clause-left c =
     let first : c.new-reader.result ≡ start_of_part c.args.dialect c.args.names.now
     = begins_with c.args.dialect c.new-reader.result c.args.names.now _ _ c.new-reader.ensures (search rules) (search rules) in
-    left c.args.dialect c.in-Err.stop c.args.names.now _ c.new-reader.result c.read_with-result.new.reader c.args.bytes.now c.args.at c.into_fault.result c.into_fault.ensures first c.requires.at
+    left c.args.dialect c.in-Err.stop c.args.names.now _ c.new-reader.result c.read_with-result.new.part.reader c.args.bytes.now c.args.at c.into_fault.result c.into_fault.ensures first c.requires.at
     c.in-Err.ensures.err.stops c.in-Err.ensures.err.leaves (search rules)
     c.requires.first c.in-Err.ensures.kept
