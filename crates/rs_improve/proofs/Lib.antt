@@ -1,0 +1,11 @@
+pub mod Discovered
+pub mod Existing
+pub mod Exchanging
+pub mod Finding
+pub mod Itself
+pub mod Leading
+pub mod Once
+pub mod Small
+pub mod SwapLaws
+pub mod Words
+pub mod Messages
