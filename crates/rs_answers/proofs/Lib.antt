@@ -30,3 +30,9 @@ pub mod Renumbered
 pub mod SmallNumbers
 pub mod ReadAgain
 pub mod Migrated
+pub mod ImprovedMachines
+pub mod ImprovedSessions
+pub mod SwapLines
+pub mod Improvements
+pub mod OneImproved
+pub mod ImprovedAnswers

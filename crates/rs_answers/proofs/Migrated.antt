@@ -27,7 +27,7 @@ use Rattle.rs_answers.proofs.RunSessions.{IsRefusing, refusal_refuses}
 
 -- ---- both refuse the same
 
-refused_isnt_fine : (d : Document_data) (r : Refusal) (a : Answer_data) → a ≡ refusal_answer d.names r → a.verdict ≡ Fine → ⊥
+pub refused_isnt_fine : (d : Document_data) (r : Refusal) (a : Answer_data) → a ≡ refusal_answer d.names r → a.verdict ≡ Fine → ⊥
 refused_isnt_fine d r a is fine = subst IsRefusing (sym (ap (λ (z : Answer_data). z.verdict) is) ∙ fine) (refusal_refuses d.names r)
 
 -- both answers are fine, or both are one refusal

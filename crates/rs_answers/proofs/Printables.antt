@@ -128,7 +128,7 @@ or_both : (a b : Bool) → (a || b) ≡ false → (a ≡ false) × (b ≡ false)
 or_both true b h = absurd (cc h)
 or_both false b h = (refl, h)
 
-or_first : (a b : Bool) → (a || b) ≡ true → (a ≡ true) ⊎ (b ≡ true)
+pub or_first : (a b : Bool) → (a || b) ≡ true → (a ≡ true) ⊎ (b ≡ true)
 or_first true b h = inl refl
 or_first false b h = inr h
 
@@ -158,7 +158,7 @@ unique_distinct : (xs : List ℕ) → IsDistinct eqb (unique_keys eqb xs)
 unique_distinct [] = distinct_none
 unique_distinct (x ∷ xs) = distinct_by (list_any (eqb x) xs) xs x refl (unique_distinct xs)
 
-few_below : (xs : List ℕ) (n : ℕ) → ((q : ℕ) → list_any (eqb q) xs ≡ true → q < n) → distinct_count eqb xs ≤ n
+pub few_below : (xs : List ℕ) (n : ℕ) → ((q : ℕ) → list_any (eqb q) xs ≡ true → q < n) → distinct_count eqb xs ≤ n
 few_below xs n h = length-le_from_distinct_below (unique_keys eqb xs) n (unique_distinct xs) (λ q e. h q (sym (unique_same xs q) ∙ e))
 
 label_below : (acts : List Act) (n q : ℕ) → ((a : Act) → Among acts a → label_number a < n) → list_any (eqb q) (map label_number acts) ≡ true → q < n
@@ -223,13 +223,18 @@ all_printable names bound pr ps ms ds s enough few within h k d at =
     printable names pr (record { 0 = k }) f.machine f.projection bound d s.well_formed enough few (omega (arith, lt, many, each))
     (s.projected.each k f.projection f.projects).is_projection role within f.found
 
--- a document that can be shown can be shown with the derivations that are found for it
-pub can_show_found : (bound : ℕ) (d : Document_data) (ps : List Projection_data) (ms : List Machine_data) (ds : List Derivation_data) → DocumentIsReady d → CanBeShown d → IsBound bound
-    → HasMachines d ps ms → AreCanonical bound ms ps ds → CanBeShown (with_derivations d ds)
-can_show_found bound d ps ms ds ready shown within h found = record {
+-- a document that can be shown can be shown with the derivations that are found for a session of its protocol
+pub can_show_session : (bound : ℕ) (d : Document_data) (ps : List Projection_data) (ms : List Machine_data) (ds : List Derivation_data) → IsSession d.protocol ps ms
+    → length d.names.labels ≤ MOST_LABELS → CanBeShown d → IsBound bound → AreCanonical bound ms ps ds → CanBeShown (with_derivations d ds)
+can_show_session bound d ps ms ds session few shown within found = record {
   sound = shown.sound;
   shaped = shown.shaped;
   enough = shown.enough;
   machines = shown.machines;
-  derivations = all_printable d.names bound d.protocol ps ms ds (session_has d ps ms ready h) shown.enough ready.labels within found;
+  derivations = all_printable d.names bound d.protocol ps ms ds session shown.enough few within found;
 }
+
+-- and with those that are found for its own
+pub can_show_found : (bound : ℕ) (d : Document_data) (ps : List Projection_data) (ms : List Machine_data) (ds : List Derivation_data) → DocumentIsReady d → CanBeShown d → IsBound bound
+    → HasMachines d ps ms → AreCanonical bound ms ps ds → CanBeShown (with_derivations d ds)
+can_show_found bound d ps ms ds ready shown within h found = can_show_session bound d ps ms ds (session_has d ps ms ready h) ready.labels shown within found

@@ -18,6 +18,7 @@ use Rattle.rs_documents.proofs.Again.{read_again}
 use Rattle.rs_documents.proofs.OwnLabels.{IsAmong, MachineUses, behind_named, first_stays, lines_use, there_at, uses_too}
 use Rattle.rs_documents.proofs.MoreNames.{back_among, front_among, grown_new, name_there}
 use Rattle.rs_documents.proofs.SpeltAgain.{spelt_again}
+use Rattle.rs_documents.proofs.SpeltSessions.{IsSpeltSession}
 use Rattle.rs_documents.specs.Again.{CanBeReadAgain, InDerivation, derivation_by, document_by_labels, labels_of_lines, labels_of_own, labels_of_text, machine_by, number_among}
 use Rattle.rs_documents.specs.Canonical.{IsCanonicalDocument}
 use Rattle.rs_documents.specs.Data.{Document_data}
@@ -50,10 +51,10 @@ use Rattle.rs_answers.specs.Verifying.{IsReported, IsVerified, Verifies, those_t
 use Rattle.rs_answers.specs.declared.verdicts.Verdict.TheVariants.{Fine}
 use Rattle.rs_answers.proofs.OneReason.{not_refused, one_session_derived}
 use Rattle.rs_answers.proofs.RunSessions.{IsRefusing, refusal_refuses}
-use Rattle.rs_answers.proofs.Derivings.{IsChosen, chosen, derivations_are, each_fits, found_at, one_each, session_has}
+use Rattle.rs_answers.proofs.Derivings.{IsChosen, chosen, derivations_are, each_fits, found_at, one_each, ready_session, session_of}
 use Rattle.rs_answers.proofs.EachRole.{chosen_small_by, few_states}
 use Rattle.rs_answers.proofs.Owed.{IsActOf, Receives, Sends}
-use Rattle.rs_answers.proofs.Printables.{act_named, can_show_found, there}
+use Rattle.rs_answers.proofs.Printables.{act_named, can_show_session, there}
 use Rattle.rs_answers.proofs.Renumbered.{NodesUse, Stays, derivation_is, machine_stays, remembers_too, well_formed_by}
 use Rattle.rs_answers.proofs.SmallNumbers.{small_numbers}
 use Rattle.rs_answers.proofs.Reporting.{report_stays}
@@ -103,7 +104,7 @@ machines_by f (None ∷ own) (j ∷ ps) h =
     ap (λ (z : List Machine_data). j.machine ∷ z) (machines_by f own ps (λ p i e. h (suc p) i e)) ∙ ap (λ (z : Machine_data). z ∷ map (machine_by f) (machines_of own ps)) (sym (h 0 j refl))
 machines_by f (Some m ∷ own) (j ∷ ps) h = ap (λ (z : List Machine_data). machine_by f m ∷ z) (machines_by f own ps (λ p i e. h (suc p) i e))
 
-none_refused : (roles : ℕ) (ms : List Machine_data) → ((p : ℕ) (m : Machine_data) → slice_get ms p ≡ Some m → IsWellFormedMachine m roles) → first_refusal roles ms ≡ None
+pub none_refused : (roles : ℕ) (ms : List Machine_data) → ((p : ℕ) (m : Machine_data) → slice_get ms p ≡ Some m → IsWellFormedMachine m roles) → first_refusal roles ms ≡ None
 none_refused roles [] h = refl
 none_refused roles (m ∷ ms) h = rw (right m roles (h 0 m refl)) (none_refused roles ms (λ p x e. h (suc p) x e))
 
@@ -280,20 +281,17 @@ module _ (d : Document_data) (ps : List Projection_data) (ms : List Machine_data
 
 -- ---- a document with the derivations that were found
 
-module _ (bound : ℕ) (bytes : List ℕ) (d : Document_data) (ps : List Projection_data) (ms : List Machine_data) (ds : List Derivation_data) (within : IsBound bound)
-    (doc : SpellsDocument bytes d) (ready : DocumentIsReady d) (has : HasMachines d ps ms) (found : AreCanonical bound ms ps ds) where
+module _ (bound : ℕ) (d : Document_data) (ps : List Projection_data) (ms : List Machine_data) (ds : List Derivation_data) (within : IsBound bound)
+    (first_again : CanBeReadAgain d) (spelt : IsSpeltSession d) (few_own : (k : ℕ) (m : Machine_data) → slice_get ms k ≡ Some m → length m.states < 4294967296)
+    (has : HasMachines d ps ms) (found : AreCanonical bound ms ps ds) where
   session_found : IsSession d.protocol ps ms
-  session_found = session_has d ps ms ready has
-
-  first_again : CanBeReadAgain d
-  first_again = spelt_again bytes d doc
+  session_found = session_of d ps ms spelt has.projections_are.well_formed has.projections_are.projected has.machines_are has.well_formed
 
   small_at : (k : ℕ) (x : Derivation_data) → slice_get ds k ≡ Some x → AreSmall x
   small_at k x at =
       let f = found_at bound d.protocol ps ms ds session_found found k x at in
       let is = (derivations_are bound d.protocol ps ms ds session_found found).each k f.machine f.projection x f.runs f.projects at in
-      let small = chosen_small_by d d.machines ps ms refl ready has.projections_are.projected has.machines_are k f.machine (slice_get_within ms k f.machine f.runs) in
-      let few = subst (λ (z : Machine_data). length z.states < 4294967296) (get_or_from_slice_get ms k f.machine f.machine f.runs) small in
+      let few = few_own k f.machine f.runs in
       let fewer = few_states d.protocol ps has.projections_are.projected k f.projection f.projects in
       small_numbers f.machine f.projection.machine bound x f.found is.0 (omega (arith, few)) (omega (arith, fewer))
 
@@ -304,11 +302,11 @@ module _ (bound : ℕ) (bytes : List ℕ) (d : Document_data) (ps : List Project
   found_can_be_read =
       let each = one_each bound within d.protocol ps ms ds session_found found in
       record {
-        shown = can_show_found bound d ps ms ds ready first_again.shown within has found;
+        shown = can_show_session bound d ps ms ds session_found first_again.bounded first_again.shown within found;
         bounded = first_again.bounded;
         machines = first_again.machines;
         derivations = record {
-          one_each = found_size ∙ sym ready.a_name_each;
+          one_each = found_size ∙ sym spelt.roles;
           in_place = λ k x at. each.role k x (there ds k x at);
         };
         small = λ k x at. small_at k x (there ds k x at);
@@ -324,6 +322,12 @@ module _ (bound : ℕ) (bytes : List ℕ) (d : Document_data) (ps : List Project
     };
     none = none_is_blamed (map Some ds) ms ps (all_there ds) (subst (AreDerivations ms ps) (sym (those_of ds)) (derivations_are bound d.protocol ps ms ds session_found found));
   }
+
+  -- so is what is read of the canonical text of the document with them
+  pub found_is_verified : (text : List ℕ) (c : IsCanonicalDocument (with_derivations d ds) text)
+      → SpellsDocument text (document_by_labels (with_derivations d ds) (labels_of_text (with_derivations d ds) text c))
+      × ((ns : List Machine_data) × IsVerified (document_by_labels (with_derivations d ds) (labels_of_text (with_derivations d ds) text c)) ps ns)
+  found_is_verified text c = spelt_verified (with_derivations d ds) ps ms found_can_be_read session_found found_size found_verified text c
 
   pub found_again_verified : (text : List ℕ) → IsCanonicalDocument (with_derivations d ds) text → (e : Document_data) × SpellsDocument text e × Verifies e (report d.names.roles ds)
   found_again_verified text c =
@@ -343,5 +347,7 @@ printed_is_verified bound bytes d printed told within doc ready one (IsRefused r
 printed_is_verified bound bytes d printed told within doc ready (IsRefused r h is) (IsAccepted ps ms ds k f tells) fine = absurd (not_refused bound d ps ms ds r k f h)
 printed_is_verified bound bytes d printed told within doc ready (IsAccepted ps ms ds h f shows) (IsAccepted qs ns es k g tells) fine =
     let same : ds ≡ es = one_session_derived bound d ps qs ms ns ds es h k f g in
-    let v = found_again_verified bound bytes d ps ms ds within doc ready h f printed.text shows.text in
+    let few = λ (k : ℕ) (m : Machine_data) (runs : slice_get ms k ≡ Some m). subst (λ (z : Machine_data). length z.states < 4294967296) (get_or_from_slice_get ms k m m runs)
+    (chosen_small_by d d.machines ps ms refl ready h.projections_are.projected h.machines_are k m (slice_get_within ms k m runs)) in
+    let v = found_again_verified bound d ps ms ds within (spelt_again bytes d doc) (ready_session d ready) few h f printed.text shows.text in
     (v.0, v.1, subst (Verifies v.0) (ap (report d.names.roles) same ∙ sym tells) v.2)

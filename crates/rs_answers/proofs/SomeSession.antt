@@ -18,7 +18,7 @@ use Rattle.rs_search.specs.declared.faults.SearchFault.{SearchFault}
 use Rattle.rs_search.specs.declared.faults.SearchFault.TheVariants as search
 use Rattle.rs_answers.specs.Derivations.{AreCanonical, AreFirstCanonical, IsUnderivable}
 use Rattle.rs_answers.proofs.Derivings.{next_canonical, none_canonical, session_of}
-use Rattle.rs_documents.proofs.SpeltSessions.{spelt_session}
+use Rattle.rs_documents.proofs.SpeltSessions.{IsSpeltSession, spelt_session}
 use Rattle.rs_wellformed.specs.Faults.{first_fault}
 use Rattle.rs_wellformed.specs.WellFormed.{IsWellFormed}
 use Rattle.rs_wellformed.specs.declared.checks.WfFault.{WfFault}
@@ -85,20 +85,24 @@ searched : (bound : ℕ) (d : Document_data) (projections : List Projection_data
 searched bound d projections machines h (AllFound derivations found) = Derived projections machines derivations h found
 searched bound d projections machines h (OneIsnt role fault u) = NotSo (refusal.Underivable (record { role = role; fault = fault })) (HasNoDerivation projections machines h role fault u)
 
-of_machines_of : (bound : ℕ) (bytes : List ℕ) (d : Document_data) (projections : List Projection_data) → SpellsDocument bytes d → HasProjections d projections → (o : Option MachineRefusal)
+of_machines_of : (bound : ℕ) (d : Document_data) (projections : List Projection_data) → IsSpeltSession d → HasProjections d projections → (o : Option MachineRefusal)
     → first_refusal d.protocol.roles (machines_of d.machines projections) ≡ o → Prepared bound d
-of_machines_of bound bytes d projections doc h (Some r) e = NotSo (refusal.IllMachine r.role r.fault) (IsWithoutSession _ (HasIllMachine projections h r e))
-of_machines_of bound bytes d projections doc h None e =
+of_machines_of bound d projections spelt h (Some r) e = NotSo (refusal.IllMachine r.role r.fault) (IsWithoutSession _ (HasIllMachine projections h r e))
+of_machines_of bound d projections spelt h None e =
     let machines = machines_of d.machines projections in
     let has : HasMachines d projections machines = record { projections_are = h; machines_are = refl; well_formed = e } in
-    let session = session_of d projections machines (spelt_session bytes d doc) h.well_formed h.projected refl e in
+    let session = session_of d projections machines spelt h.well_formed h.projected refl e in
     searched bound d projections machines has (found_first bound d.protocol projections machines session (length machines) (omega arith))
 
-prepared_by : (bound : ℕ) (bytes : List ℕ) (d : Document_data) → SpellsDocument bytes d → first_fault d.protocol ≡ None → Decision d.protocol d.protocol.roles → Prepared bound d
-prepared_by bound bytes d doc none (OneDoesnt role fault h) = NotSo (refusal.Unprojectable fault) (IsWithoutSession _ (HasNoProjection none role fault h))
-prepared_by bound bytes d doc none (AllProject projections h) =
-    of_machines_of bound bytes d projections doc (record { well_formed = none; projected = h }) (first_refusal d.protocol.roles (machines_of d.machines projections)) refl
+prepared_by : (bound : ℕ) (d : Document_data) → IsSpeltSession d → first_fault d.protocol ≡ None → Decision d.protocol d.protocol.roles → Prepared bound d
+prepared_by bound d spelt none (OneDoesnt role fault h) = NotSo (refusal.Unprojectable fault) (IsWithoutSession _ (HasNoProjection none role fault h))
+prepared_by bound d spelt none (AllProject projections h) =
+    of_machines_of bound d projections spelt (record { well_formed = none; projected = h }) (first_refusal d.protocol.roles (machines_of d.machines projections)) refl
 
+pub prepared_session : (bound : ℕ) (d : Document_data) → IsSpeltSession d → (o : Option WfFault) → first_fault d.protocol ≡ o → Prepared bound d
+prepared_session bound d spelt (Some f) e = NotSo (refusal.IllFormed f) (IsWithoutSession _ (IsIllFormed f e))
+prepared_session bound d spelt None e = prepared_by bound d spelt e (first_ones d.protocol (no_fault d.protocol e) d.protocol.roles (omega arith))
+
+-- what a text spells is such a document
 pub prepared : (bound : ℕ) (bytes : List ℕ) (d : Document_data) → SpellsDocument bytes d → (o : Option WfFault) → first_fault d.protocol ≡ o → Prepared bound d
-prepared bound bytes d doc (Some f) e = NotSo (refusal.IllFormed f) (IsWithoutSession _ (IsIllFormed f e))
-prepared bound bytes d doc None e = prepared_by bound bytes d doc e (first_ones d.protocol (no_fault d.protocol e) d.protocol.roles (omega arith))
+prepared bound bytes d doc o e = prepared_session bound d (spelt_session bytes d doc) o e

@@ -4,6 +4,8 @@ pub mod Data
 pub mod DemoSessions
 pub mod Demos
 pub mod Derivations
+pub mod Improves
+pub mod Improving
 pub mod Lines
 pub mod Machines
 pub mod Migrates

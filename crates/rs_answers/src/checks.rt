@@ -33,7 +33,7 @@ pub fn check(alloc: Global, document: &Document, bound: Bound) -> Result<Answer,
 }
 
 /// A derivation for each role.
-fn one_for_each_role(
+pub(crate) fn one_for_each_role(
     alloc: Global,
     derivations: Vec<Derivation>,
 ) -> Result<Vec<Option<Derivation>>, NoMemory>

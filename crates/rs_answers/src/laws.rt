@@ -1,6 +1,6 @@
 //! Laws about the definitions: each function does nothing, and its contract is the law.
 
-ghost use Rattle.std.specs.Prelude.{◌≡◌, ◌↔◌, ℕ, ◌≤◌, true, false, List, Some, None, slice_get, Option, length};
+ghost use Rattle.std.specs.Prelude.{◌≡◌, ◌↔◌, ◌++◌, ℕ, ◌≤◌, Bool, true, false, List, Some, None, slice_get, Option, length};
 ghost use Rattle.rs_derive.specs.Data.{Derivation_data};
 ghost use Rattle.rs_documents.specs.Again.{document_by_labels, labels_of_text};
 ghost use Rattle.rs_documents.specs.Canonical.{IsCanonicalDocument};
@@ -15,6 +15,7 @@ ghost use Rattle.rs_documents.specs.Ready.{DocumentIsReady};
 ghost use Rattle.rs_answers.specs.Checks.{Checks};
 ghost use Rattle.rs_answers.specs.Derivations.{IsUnderivable, AreCanonical};
 ghost use Rattle.rs_answers.specs.Sessions.{HasMachines};
+ghost use Rattle.rs_answers.specs.Improves.{Improves, SpellsVerified, swaps_line, with_own};
 ghost use Rattle.rs_answers.specs.Migrates.{Migrates};
 ghost use Rattle.rs_answers.specs.Verifying as verifying;
 ghost use Rattle.rs_global.specs.Spells.{SpellsProtocol};
@@ -35,7 +36,9 @@ ghost use Rattle.rs_model.specs.declared.limits.TheConstants.{MOST_BYTES, DEFAUL
 ghost use Rattle.rs_model.specs.Limits.{IsBound};
 ghost use Rattle.rs_model.specs.declared.demos.Demo.{Demo};
 ghost use Rattle.rs_model.specs.declared.runs.RunOptions.{RunOptions};
+ghost use Rattle.rs_improve.specs.Data.{Improved_data};
 ghost use Rattle.rs_safety.specs.Room.{room_of};
+ghost use Rattle.rs_text.specs.Names.{place_of};
 
 /// A protocol that a text spells has no other faults than a talk to itself, too many arms, and a label that stands twice at
 /// a talk: each talk has arms and known roles, and each arm leads to a node.
@@ -75,6 +78,25 @@ pub fn migrated_text_is_read_again()
         → (e : Document_data) (told : Answer_data) → SpellsDocument printed.text e → verifying.Verifies d told → verifying.Verifies e told }
     ensures migrated { (bytes : List ℕ) (d : Document_data) (printed : Answer_data) → SpellsDocument bytes d → Migrates d printed → printed.verdict ≡ Fine
         → (e : Document_data) → SpellsDocument printed.text e → Migrates e printed }
+{}
+
+/// The answer of `improve` to a document that has the role is fine exactly where that of `check` to the document without the
+/// role's own machine is, and else both answers are one.
+pub fn improve_refuses_as_check_does()
+    ensures fine { (role : List ℕ) (bound swaps place : ℕ) (derivations : Bool) (d : Document_data) (improved told : Answer_data) → place_of role d.names.roles ≡ Some place
+        → Improves role bound swaps d improved → Checks bound derivations (with_own d place None) told → (improved.verdict ≡ Fine) ↔ (told.verdict ≡ Fine) }
+    ensures refused { (role : List ℕ) (bound swaps place : ℕ) (derivations : Bool) (d : Document_data) (improved told : Answer_data) → place_of role d.names.roles ≡ Some place
+        → Improves role bound swaps d improved → Checks bound derivations (with_own d place None) told → (told.verdict ≡ Fine → ⊥) → improved ≡ told }
+{}
+
+/// What `improve` prints of a document that was read is the line on the swaps, and behind it a document that is verified: its
+/// own derivations show that its machines may stand for their projections. The line is a comment: the whole text spells that
+/// document.
+pub fn improved_text_is_verified()
+    ensures behind { (role : List ℕ) (bound swaps : ℕ) (bytes : List ℕ) (d : Document_data) (printed : Answer_data) → IsBound bound → SpellsDocument bytes d → Improves role bound swaps d printed
+        → printed.verdict ≡ Fine → (improved : Improved_data) × (shown : List ℕ) × (printed.text ≡ swaps_line role improved ++ shown) × SpellsVerified shown }
+    ensures whole { (role : List ℕ) (bound swaps : ℕ) (bytes : List ℕ) (d : Document_data) (printed : Answer_data) → IsBound bound → SpellsDocument bytes d → Improves role bound swaps d printed
+        → printed.verdict ≡ Fine → SpellsVerified printed.text }
 {}
 
 /// In a run over rings that hold as many messages as the room of the session says, some role can always move until all

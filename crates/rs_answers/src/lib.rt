@@ -1,4 +1,4 @@
-//! What `check`, `verify`, `migrate`, `show`, `project` and `run` answer to a document, and `demo` to its data.
+//! What `check`, `verify`, `migrate`, `show`, `project`, `run` and `improve` answer to a document, and `demo` to its data.
 #![tactic(auto)]
 
 mod accepting;
@@ -6,6 +6,7 @@ mod answers;
 mod checks;
 mod demos;
 mod derivations;
+mod improving;
 pub mod laws;
 mod limits;
 mod lines;
@@ -29,6 +30,7 @@ pub use answers::{Answer, AnswerWithSession};
 pub use checks::{check, check_with_derivations};
 pub use demos::ready_demo;
 pub use derivations::{DerivedSession, Underivable, derivations_of, derived_session};
+pub use improving::improve_role;
 pub use limits::DEMO_LIMIT;
 pub use migrating::migrate;
 pub use ready::{Prepared, Ready};

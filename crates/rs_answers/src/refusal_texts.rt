@@ -3,6 +3,7 @@
 ghost use Rattle.std.specs.Prelude.{◌≡◌, ◌≤◌, IfOk, OnOk, codes, length};
 ghost use Rattle.rs_text.specs.NamePlaces.{name_at};
 ghost use Rattle.rs_text.specs.declared.faults.TextKind.TheVariants as kind;
+ghost use Rattle.rs_answers.specs.Improves.{unknown_role};
 ghost use Rattle.rs_answers.specs.RefusalTexts as spec;
 ghost use Rattle.rs_answers.specs.Texts as texts;
 ghost use Rattle.rs_answers.specs.declared.verdicts.Verdict.TheVariants as verdict;
@@ -67,6 +68,13 @@ fn malformed_answer(alloc: Global, what: &[Piece]) -> Result<Answer, NoMemory>
     ensures { IfOk result (λ a. a ≡ spec.malformed_answer (texts.pieces_text what.now)) }
 {
     line_of_answer(alloc, b"malformed ", what, Verdict::Malformed)
+}
+
+/// The roles line has no such role.
+pub(crate) fn unknown_role(alloc: Global) -> Result<Answer, NoMemory>
+    ensures { IfOk result (λ a. a ≡ unknown_role) }
+{
+    malformed_answer(alloc, &[Words(b"unknown role")])
 }
 
 /// The protocol has no projection onto the role.
@@ -330,7 +338,7 @@ pub fn machine_answer(
 }
 
 /// Whether some candidate of the search met a cut.
-fn cut_text(cut: bool) -> &'static [u8]
+pub(crate) fn cut_text(cut: bool) -> &'static [u8]
     ensures { result.now ≡ spec.cut_text cut }
 {
     if cut {

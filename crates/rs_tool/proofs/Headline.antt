@@ -1,9 +1,11 @@
 -- An accepted text spells safe machines.
-use Rattle.std.proofs.Common.{◌≡◌, ℕ, List, [], Bool, false, sym, ◌∙◌, subst}
+use Rattle.std.proofs.Common.{◌≡◌, ℕ, List, [], Bool, false, refl, sym, ap, ◌∙◌, subst}
+use Rattle.std.specs.Io.KnownBytes.{Appends}
 use Rattle.std.specs.Prelude.{IfSome}
 use Rattle.rs_core.specs.Safety.{IsSafe}
 use Rattle.rs_answers.proofs.Derivings.{canonical_safe, session_of}
 use Rattle.rs_documents.proofs.SpeltSessions.{spelt_session}
+use Rattle.rs_answers.proofs.Improvements.{whole_is_verified}
 use Rattle.rs_answers.specs.Migrates as migrating
 use Rattle.rs_answers.specs.Migrates.{Migrates}
 use Rattle.rs_answers.specs.Verifying as verifying
@@ -35,8 +37,10 @@ use Rattle.rs_model.specs.declared.limits.TheConstants.{DEFAULT_BOUND}
 use Rattle.rs_answers.specs.declared.refusals.Refusal.{Refusal}
 use Rattle.rs_derive.specs.Data.{Derivation_data}
 use Rattle.rs_model.specs.Data.{Machine_data, Names_data}
+use Rattle.rs_model.specs.Limits.{IsBound}
 use Rattle.rs_project.specs.Data.{Projection_data}
 use Rattle.rs_tool.specs.Headline.{SpellsSafeMachines}
+use Rattle.rs_tool.specs.ImproveHeadline.{WritesSafeMachines}
 use Rattle.rs_tool.specs.RunHeadline.{IsOfRun}
 use Rattle.rs_answers.specs.Pools as pools
 use Rattle.rs_answers.specs.Pools.{RunsByWorkers, RunsWith}
@@ -45,9 +49,11 @@ use Rattle.rs_answers.specs.Runs.{Runs}
 use Rattle.rs_model.specs.declared.runs.RunOptions.{RunOptions}
 use Rattle.rs_model.specs.declared.runs.Workers.{Workers}
 use Rattle.rs_model.specs.declared.runs.Workers.TheVariants.{One, Several}
-use Rattle.rs_tool.specs.Tasks.{ReadTheInput, ReadsTheInput, SpellsCheck, SpellsMigrate, SpellsRun, SpellsVerify}
+use Rattle.rs_tool.specs.Tasks.{ReadTheInput, ReadsTheInput, SpellsCheck, SpellsImprove, SpellsMigrate, SpellsRun, SpellsVerify}
 use Rattle.rs_words.specs.Meaning.{SpellsTask}
 use Rattle.rs_words.proofs.Exact.{words_spell_one_task}
+use Rattle.rs_words.proofs.Ranges.{spelt_numbers_are_in_range}
+use Rattle.rs_words.specs.declared.tasks.ImproveOptions.{ImproveOptions}
 use Rattle.rs_tool.proofs.Answering.{if_told}
 use Rattle.rs_words.specs.declared.tasks.DocumentTask.{DocumentTask}
 use Rattle.rs_words.specs.declared.tasks.DocumentTask.TheVariants as on_document
@@ -183,6 +189,41 @@ told_is_run words t bytes output reply spells (TellsPart a h session text is) ru
 told_is_run words t bytes output reply spells (TellsReadFault keeps is none) run = absurd (subst IsOfRun is run)
 told_is_run words t bytes output reply spells (TellsNoMemory keeps is none) run = absurd (subst IsOfRun is run)
 
+-- what was written where the status is that all is fine
+record WasWritten {K : Type 0} (t : Task) (bytes : List ℕ) (output : CallOutput K) : Type 0 where
+  answer : Answer_data
+  answers : AnswersTask t bytes answer
+  written : Appends output.written output.later answer.text
+  fine : answer.verdict ≡ verdict.Fine
+
+fine_verdict : (v : Verdict) → status_of v ≡ status.Fine → v ≡ verdict.Fine
+fine_verdict verdict.Fine e = refl
+fine_verdict verdict.Refused e = absurd cc
+fine_verdict verdict.Usage e = absurd cc
+fine_verdict verdict.Malformed e = absurd cc
+fine_verdict verdict.Unprojectable e = absurd cc
+fine_verdict verdict.TooLarge e = absurd cc
+fine_verdict verdict.Stopped e = absurd cc
+fine_verdict verdict.Full e = absurd cc
+fine_verdict verdict.RoomTooSmall e = absurd cc
+
+told_is_written : {K : Type 0} (words : List (List ℕ)) (t : Task) (bytes : List ℕ) (output : CallOutput K) (reply : Reply) → SpellsTask words t → Tells words bytes output reply
+    → reply.status ≡ status.Fine → WasWritten t bytes output
+told_is_written words t bytes output reply spells (TellsAll a h session text is) fine =
+    record { answer = a; answers = task_is_answered words t bytes a spells h; written = text; fine = fine_verdict a.verdict (sym is ∙ fine) }
+told_is_written words t bytes output reply spells (TellsPart a h session text is) fine = let no = sym is ∙ fine in absurd cc
+told_is_written words t bytes output reply spells (TellsReadFault keeps is none) fine = let no = sym is ∙ fine in absurd cc
+told_is_written words t bytes output reply spells (TellsNoMemory keeps is none) fine = let no = sym is ∙ fine in absurd cc
+
+-- what `improve` writes spells safe machines
+improves_safely : (options : ImproveOptions) (bytes : List ℕ) (a : Answer_data) → IsBound options.bound → AnswersText (on_document.Improve options) bytes a → a.verdict ≡ verdict.Fine
+    → SpellsSafeMachines a.text
+improves_safely options bytes a within (IsDocument short d doc h) fine =
+    let v = whole_is_verified options.role options.bound options.swaps bytes d a within doc h fine in
+    own_is_safe a.text v.document v.projections v.machines v.spells v.verified
+improves_safely options bytes a within (IsTooLong long is) fine = let no = sym (ap (λ (z : Answer_data). z.verdict) is) ∙ fine in absurd cc
+improves_safely options bytes a within (IsFaulty short k at h is) fine = absurd (no_run a _ is (fault_is_no_run bytes k at) (subst (λ (v : Verdict). IsOfRun (status_of v)) (sym fine) tt))
+
 fine_is_run : (s : Status) → s ≡ status.Fine → IsOfRun s
 fine_is_run s e = subst IsOfRun (sym e) tt
 
@@ -201,6 +242,12 @@ module _ {S K : Type 0} (call : Call S K) (reply : Reply) (ends : Ends call repl
   migrated_is_safe spells = if_told call.input.left _ _ (λ bytes told fine.
       let is = told_is_run call.words (task.OnDocument on_document.Migrate) bytes call.output reply spells told (fine_is_run reply.status fine) in
       migrates_safely bytes is.0 is.1 is.2) ends.answer.told
+
+  pub improved_is_safe : SpellsImprove call.words → IfSome call.input.left (λ bytes. reply.status ≡ status.Fine → WritesSafeMachines call.output)
+  improved_is_safe spells = if_told call.input.left _ _ (λ bytes told fine.
+      let within = (spelt_numbers_are_in_range call.words (task.OnDocument (on_document.Improve spells.0)) spells.1).0 in
+      let w = told_is_written call.words (task.OnDocument (on_document.Improve spells.0)) bytes call.output reply spells.1 told fine in
+      record { text = w.answer.text; written = w.written; safe = improves_safely spells.0 bytes w.answer within w.answers w.fine }) ends.answer.told
 
   pub runs_are_safe : (options : RunOptions) → SpellsRun call.words options → IfSome call.input.left (λ bytes. IsOfRun reply.status → SpellsSafeMachines bytes)
   runs_are_safe options spells = if_told call.input.left _ _ (λ bytes told run.

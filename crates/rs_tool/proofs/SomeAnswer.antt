@@ -30,6 +30,7 @@ use Rattle.rs_documents.specs.Documents.{SpellsDocument}
 use Rattle.rs_answers.specs.RefusalTexts.{usage, too_large, fault_answer, wf_answer, proj_answer}
 use Rattle.rs_answers.specs.Refusals.{IsWithoutSession, HasNoDerivation, refusal_answer}
 use Rattle.rs_answers.specs.Report.{report}
+use Rattle.rs_answers.proofs.OneImproved.{some_improving}
 use Rattle.rs_answers.proofs.PoolAnswers.{some_with}
 use Rattle.rs_answers.specs.Shown.{Shows}
 use Rattle.rs_documents.specs.Canonical.{derivations_text}
@@ -102,6 +103,9 @@ document_answer : (t : DocumentTask) (bytes : List ℕ) (d : Document_data) → 
 document_answer (on_document.Check options) bytes d h = checked options.bound options.derivations bytes d h (prepared options.bound bytes d h (first_fault d.protocol) refl)
 document_answer on_document.Verify bytes d h = verified d (tested d (prepared 1 bytes d h (first_fault d.protocol) refl))
 document_answer on_document.Migrate bytes d h = migrated bytes d h (tested d (prepared 1 bytes d h (first_fault d.protocol) refl))
+document_answer (on_document.Improve options) bytes d h =
+    let a = some_improving options.role options.bound options.swaps bytes d h in
+    record { answer = a.0; answers = a.1 }
 document_answer on_document.Show bytes d h = shown bytes d h
 document_answer on_document.Project bytes d h = some_tables d (first_fault d.protocol) refl
 document_answer (on_document.Run options workers) bytes d h =

@@ -12,6 +12,7 @@ use Rattle.rs_words.proofs.Exact.{words_spell_one_task}
 use Rattle.rs_wellformed.proofs.Faults.{no_fault}
 use Rattle.rs_answers.specs.declared.verdicts.Verdict.TheVariants.{Fine, Stopped}
 use Rattle.rs_answers.proofs.OneDemo.{one_demo}
+use Rattle.rs_answers.proofs.OneImproved.{one_improving}
 use Rattle.rs_words.specs.declared.tasks.DocumentTask.{DocumentTask}
 use Rattle.rs_words.specs.declared.tasks.DocumentTask.TheVariants as on_document
 use Rattle.rs_words.specs.declared.tasks.Task.{Task}
@@ -121,6 +122,7 @@ one_of_document (on_document.Check options) bytes d a b doc h k = inl (one_check
 one_of_document on_document.Verify bytes d a b doc h k = inl (one_verifying d a b h k)
 one_of_document on_document.Migrate bytes d a b doc h k = inl (one_migrating bytes d a b doc h k)
 one_of_document (on_document.Run options workers) bytes d a b doc h k = one_with options workers bytes d a b doc h k
+one_of_document (on_document.Improve options) bytes d a b doc h k = inl (one_improving options.role options.bound options.swaps bytes d a b doc h k)
 one_of_document on_document.Show bytes d a b doc h k = inl (one_show bytes d a b doc h k)
 one_of_document on_document.Project bytes d a b doc h k = inl (one_tables d a b h k)
 

@@ -3,6 +3,7 @@ use Rattle.std.specs.Prelude.{◌≡◌, ℕ, ◌<◌, ◌≤◌, ◌++◌, code
 use Rattle.rs_answers.specs.Checks.{Checks}
 use Rattle.rs_answers.specs.Data.{Answer_data}
 use Rattle.rs_answers.specs.Demos.{AnswersDemo}
+use Rattle.rs_answers.specs.Improves.{Improves}
 use Rattle.rs_answers.specs.Migrates.{Migrates}
 use Rattle.rs_answers.specs.Pools.{RunsWith}
 use Rattle.rs_answers.specs.RefusalTexts.{usage, too_large, fault_answer}
@@ -29,6 +30,7 @@ AnswersDocument on_document.Migrate d answer = Migrates d answer
 AnswersDocument on_document.Show d answer = Shows d answer
 AnswersDocument on_document.Project d answer = Projects d answer
 AnswersDocument (on_document.Run options workers) d answer = RunsWith workers options d answer
+AnswersDocument (on_document.Improve options) d answer = Improves options.role options.bound options.swaps d answer
 
 -- the answer of the task to a text
 pub data AnswersText (spelt : DocumentTask) (bytes : List ℕ) (answer : Answer_data) : Type 0 where

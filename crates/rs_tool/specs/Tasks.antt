@@ -7,6 +7,7 @@ use Rattle.rs_model.specs.declared.runs.Workers.TheVariants.{Several}
 use Rattle.rs_words.specs.Meaning.{SpellsTask}
 use Rattle.rs_words.specs.Tasks.{workers_of}
 use Rattle.rs_words.specs.declared.tasks.DocumentTask.TheVariants as on_document
+use Rattle.rs_words.specs.declared.tasks.ImproveOptions.{ImproveOptions}
 use Rattle.rs_words.specs.declared.tasks.Task.{Task}
 use Rattle.rs_words.specs.declared.tasks.Task.TheVariants as task
 
@@ -34,6 +35,10 @@ SpellsVerify words = SpellsTask words (task.OnDocument on_document.Verify)
 -- the words are those of `migrate`
 abbrev pub SpellsMigrate : List (List ℕ) → Type 0
 SpellsMigrate words = SpellsTask words (task.OnDocument on_document.Migrate)
+
+-- the words are those of an `improve`, of any role
+abbrev pub SpellsImprove : List (List ℕ) → Type 0
+SpellsImprove words = (options : ImproveOptions) × SpellsTask words (task.OnDocument (on_document.Improve options))
 
 -- the words are those of a `run` with these options, by any number of workers
 abbrev pub SpellsRun : List (List ℕ) → RunOptions → Type 0

@@ -11,10 +11,11 @@ ghost use Rattle.rs_tool.specs.Data.{call_of, input_of, output_of};
 ghost use Rattle.rs_tool.specs.DemoCompleteness.{IsCompleteDemo};
 ghost use Rattle.rs_tool.specs.DemoHeadline.{HasSafeDemo};
 ghost use Rattle.rs_tool.specs.Headline.{SpellsSafeMachines};
+ghost use Rattle.rs_tool.specs.ImproveHeadline.{WritesSafeMachines};
 ghost use Rattle.rs_tool.specs.Preparing.{AnswersAlone, AnswersTo, Delivers};
 ghost use Rattle.rs_tool.specs.RunHeadline.{IsOfRun};
 ghost use Rattle.rs_tool.specs.Sessions.{HasItsSession};
-ghost use Rattle.rs_tool.specs.Tasks.{SpellsCheck, SpellsDemo, SpellsMigrate, SpellsRun, SpellsVerify};
+ghost use Rattle.rs_tool.specs.Tasks.{SpellsCheck, SpellsDemo, SpellsImprove, SpellsMigrate, SpellsRun, SpellsVerify};
 ghost use Rattle.rs_words.specs.Meaning.{SpellsTask};
 ghost use Rattle.rs_words.specs.Words.{bytes_of_words};
 
@@ -120,8 +121,8 @@ fn deliver<K: Sink>(given: Result<AnswerWithSession, CallStop>, sink: &mut K) ->
 
 /// Carries out the words, as the program does, without threads.
 ///
-/// `check`, `verify`, `migrate`, `show`, `project`, `run` and `demo` read the source to its end and write their answer. The text of an answer is made whole
-/// before its first byte is written: with the statuses `ReadFault` and `NoMemory` nothing is written, with `WriteFault`
+/// `check`, `verify`, `migrate`, `show`, `project`, `run`, `improve` and `demo` read the source to its end and write their answer. The text of an answer is made
+/// whole before its first byte is written: with the statuses `ReadFault` and `NoMemory` nothing is written, with `WriteFault`
 /// a first part of the text. `gen` and words that spell no task read nothing. That workers are needed is told exactly where the
 /// words are a `run` or a `demo` by several, and nothing was then read or written; only want of memory goes before it.
 pub fn command_serial<S: Source, K: Sink>(
@@ -137,6 +138,8 @@ pub fn command_serial<S: Source, K: Sink>(
         → IfSome (S.left source.old) (λ bytes. reply.status ≡ Status.Fine → SpellsSafeMachines bytes)) }
     ensures migrated { IfAnswered result (λ reply. SpellsMigrate (bytes_of_words words.now)
         → IfSome (S.left source.old) (λ bytes. reply.status ≡ Status.Fine → SpellsSafeMachines bytes)) }
+    ensures improved { let output = output_of K.written K.faults K.last sink.old sink.new in
+        IfAnswered result (λ reply. SpellsImprove (bytes_of_words words.now) → IfSome (S.left source.old) (λ bytes. reply.status ≡ Status.Fine → WritesSafeMachines output)) }
     ensures run { IfAnswered result (λ reply. (options : RunOptions) → SpellsRun (bytes_of_words words.now) options
         → IfSome (S.left source.old) (λ bytes. IsOfRun reply.status → SpellsSafeMachines bytes)) }
     ensures demo { IfAnswered result (λ reply. (kind : Demo) (ring : Option ℕ) → SpellsDemo (bytes_of_words words.now) kind ring
@@ -202,6 +205,8 @@ pub fn command<R: Threads + Wait + Sync, S: Source, K: Sink, G: Gate + Sync>(
         → IfSome (S.left source.old) (λ bytes. result.status ≡ Status.Fine → SpellsSafeMachines bytes) }
     ensures migrated { SpellsMigrate (bytes_of_words words.now)
         → IfSome (S.left source.old) (λ bytes. result.status ≡ Status.Fine → SpellsSafeMachines bytes) }
+    ensures improved { let output = output_of K.written K.faults K.last sink.old sink.new in
+        SpellsImprove (bytes_of_words words.now) → IfSome (S.left source.old) (λ bytes. result.status ≡ Status.Fine → WritesSafeMachines output) }
     ensures run { (options : RunOptions) → SpellsRun (bytes_of_words words.now) options
         → IfSome (S.left source.old) (λ bytes. IsOfRun result.status → SpellsSafeMachines bytes) }
     ensures demo { (kind : Demo) (ring : Option ℕ) → SpellsDemo (bytes_of_words words.now) kind ring

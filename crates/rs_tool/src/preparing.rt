@@ -17,8 +17,8 @@ use crate::generating::answer_to_gen;
 use crate::statuses::CallStop;
 use rs_answers::Piece::Words;
 use rs_answers::{
-    Prepared, answer_to_fault, check, check_with_derivations, migrate, project_all, ready_demo,
-    ready_run, show, too_large, verify,
+    Prepared, answer_to_fault, check, check_with_derivations, improve_role, migrate, project_all,
+    ready_demo, ready_run, show, too_large, verify,
 };
 use rs_documents::read_document;
 use rs_io::{ReadStop, Source, read_all};
@@ -63,6 +63,13 @@ fn on_text(alloc: Global, task: DocumentTask, bytes: &[u8]) -> Result<Prepared, 
         DocumentTask::Show => Prepared::answered(show(alloc, &document)),
         DocumentTask::Project => Prepared::answered(project_all(alloc, &document)),
         DocumentTask::Run { options, workers } => ready_run(alloc, document, options, workers),
+        DocumentTask::Improve(options) => Prepared::answered(improve_role(
+            alloc,
+            document,
+            &options.role,
+            options.bound,
+            options.swaps,
+        )),
     }
 }
 

@@ -10,13 +10,13 @@ use Rattle.rs_model.specs.Limits.{IsFromTo}
 use Rattle.rs_model.specs.declared.limits.TheConstants.{DEFAULT_BOUND, MOST_BOUND, MOST_CAPACITY, MOST_WORKERS}
 use Rattle.rs_model.specs.declared.runs.Workers.TheVariants.{One, Several}
 use Rattle.rs_model.specs.declared.demos.Demo.{Demo}
-use Rattle.rs_words.specs.declared.limits.TheConstants.{DEFAULT_LIMIT, MOST_GEN, MOST_LIMIT, MOST_SEED}
+use Rattle.rs_words.specs.declared.limits.TheConstants.{DEFAULT_LIMIT, MOST_GEN, MOST_LIMIT, MOST_SEED, MOST_SWAPS}
 use Rattle.rs_words.specs.declared.tasks.Task.{Task}
 use Rattle.rs_words.specs.declared.tasks.DocumentTask.TheVariants as on_document
 use Rattle.rs_words.specs.declared.tasks.Task.TheVariants as task
 use Rattle.rs_words.specs.Grammar.{Bytes}
-use Rattle.rs_words.specs.Meaning.{AreWorkers, IsInRange, SpellsTask, bound_of_option, check_task, demo_of_name, demo_task, gen_task, limit_in, number_from_to, number_or_else, optional_in, ring_in}
-use Rattle.rs_words.specs.Meaning.{run_task, seed_in, task_of, text_of_use, workers_in, workers_of_number}
+use Rattle.rs_words.specs.Meaning.{AreWorkers, IsInRange, SpellsTask, bound_of_option, check_task, demo_of_name, demo_task, gen_task, improve_task, limit_in, number_from_to, number_or_else, optional_in, ring_in}
+use Rattle.rs_words.specs.Meaning.{run_task, seed_in, swaps_in, task_of, text_of_use, workers_in, workers_of_number}
 
 -- numbers
 
@@ -90,6 +90,13 @@ demo_is_in name ring workers = go (option_and_then demo_of_name name)
         and_then_is_in (λ o. IfSome o (IsFromTo 1 MOST_CAPACITY)) IsInRange _ (ring_in ring) (optional_is_in 1 MOST_CAPACITY ring) (λ c hc.
         map_is_in AreWorkers (λ n. task.OnData (record { kind = d; ring = c; workers = n })) (workers_in workers) (workers_are_in workers) (λ n hn. (hc, hn)))
 
+improve_is_in : (role swaps bound : Option Bytes) → IfSome (improve_task role swaps bound) IsInRange
+improve_is_in None swaps bound = tt
+improve_is_in (Some r) swaps bound =
+    and_then_is_in (IsFromTo 1 MOST_SWAPS) IsInRange _ (swaps_in swaps) (number_or_is_in 1 1 MOST_SWAPS swaps (omega arith, omega arith)) (λ n hn.
+    map_is_in (IsFromTo 1 MOST_BOUND) (λ k. task.OnDocument (on_document.Improve (record { role = r; bound = k; swaps = n }))) (bound_of_option bound)
+    (number_or_is_in DEFAULT_BOUND 1 MOST_BOUND bound (omega arith, omega arith)) (λ k hk. (hk, hn)))
+
 gen_is_in : (number : Option Bytes) → IfSome (gen_task number) IsInRange
 gen_is_in None = tt
 gen_is_in (Some text) = map_is_in (IsFromTo 0 MOST_GEN) (λ n. task.Gen n) (number_from_to 0 MOST_GEN text) (number_is_in 0 MOST_GEN text) (λ n h. h)
@@ -107,7 +114,8 @@ task_is_in name value =
     either_is_in (bytes_eq name (codes "project")) _ _ tt (
     either_is_in (bytes_eq name (codes "run")) _ _ (run_is_in (value (codes "bound")) (value (codes "ring")) (value (codes "workers")) (value (codes "limit")) (value (codes "seed"))) (
     either_is_in (bytes_eq name (codes "demo")) _ _ (demo_is_in (value (codes "name")) (value (codes "ring")) (value (codes "workers"))) (
-    either_is_in (bytes_eq name (codes "gen")) _ None (gen_is_in (value (codes "number"))) tt)))))))
+    either_is_in (bytes_eq name (codes "gen")) _ _ (gen_is_in (value (codes "number"))) (
+    either_is_in (bytes_eq name (codes "improve")) _ None (improve_is_in (value (codes "role")) (value (codes "swaps")) (value (codes "bound"))) tt))))))))
 
 pub spelt_numbers_are_in_range : (words : List Bytes) (t : Task) → SpellsTask words t → IsInRange t
 spelt_numbers_are_in_range words t s = go (task_of s.form.name (λ id. text_of_use id s.uses)) s.task_is (task_is_in s.form.name (λ id. text_of_use id s.uses))

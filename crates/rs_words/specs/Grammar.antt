@@ -42,9 +42,13 @@ demo_form = record { name = codes "demo"; choices = with_values (codes "ring" �
 abbrev pub gen_form : Form
 gen_form = record { name = codes "gen"; choices = []; word = Some (codes "number") }
 
+-- improve ROLE [--swaps N] [--bound K]
+abbrev pub improve_form : Form
+improve_form = record { name = codes "improve"; choices = with_values (codes "swaps" ∷ codes "bound" ∷ []); word = Some (codes "role") }
+
 -- all commands
 abbrev pub forms : List Form
-forms = check_form ∷ bare_form (codes "verify") ∷ bare_form (codes "migrate") ∷ bare_form (codes "show") ∷ bare_form (codes "project") ∷ run_form ∷ demo_form ∷ gen_form ∷ []
+forms = check_form ∷ bare_form (codes "verify") ∷ bare_form (codes "migrate") ∷ bare_form (codes "show") ∷ bare_form (codes "project") ∷ run_form ∷ demo_form ∷ gen_form ∷ improve_form ∷ []
 
 -- the bytes begin with `-`
 abbrev pub begins_with_dash : Bytes → Bool

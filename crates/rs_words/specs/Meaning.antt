@@ -9,7 +9,7 @@ use Rattle.rs_model.specs.declared.demos.Demo.{Demo}
 use Rattle.rs_model.specs.declared.demos.Demo.TheVariants as demo
 use Rattle.rs_model.specs.declared.runs.Workers.{Workers}
 use Rattle.rs_model.specs.declared.runs.Workers.TheVariants.{One, Several}
-use Rattle.rs_words.specs.declared.limits.TheConstants.{DEFAULT_LIMIT, MOST_GEN, MOST_LIMIT, MOST_SEED}
+use Rattle.rs_words.specs.declared.limits.TheConstants.{DEFAULT_LIMIT, MOST_GEN, MOST_LIMIT, MOST_SEED, MOST_SWAPS}
 use Rattle.rs_words.specs.declared.tasks.DocumentTask.TheVariants as on_document
 use Rattle.rs_words.specs.declared.tasks.Task.{Task}
 use Rattle.rs_words.specs.declared.tasks.Task.TheVariants as task
@@ -62,6 +62,10 @@ workers_in text = option_map workers_of_number (number_or_else 1 1 MOST_WORKERS 
 abbrev pub limit_in : Option Bytes → Option ℕ
 limit_in text = number_or_else DEFAULT_LIMIT 1 MOST_LIMIT text
 
+-- how many swaps are asked
+abbrev pub swaps_in : Option Bytes → Option ℕ
+swaps_in text = number_or_else 1 1 MOST_SWAPS text
+
 -- the seed of the draws
 abbrev pub seed_in : Option Bytes → Option ℕ
 seed_in text = number_or_else 0 0 MOST_SEED text
@@ -82,6 +86,12 @@ demo_task name ring workers =
     option_and_then (λ d. option_and_then (λ c. option_map (λ n. task.OnData (record { kind = d; ring = c; workers = n }))
     (workers_in workers)) (ring_in ring)) (option_and_then demo_of_name name)
 
+-- what `improve` asks for, by the text of its role and those of its options
+abbrev pub improve_task : Option Bytes → Option Bytes → Option Bytes → Option Task
+improve_task role swaps bound =
+    option_and_then (λ r. option_and_then (λ n. option_map (λ k. task.OnDocument (on_document.Improve (record { role = r; bound = k; swaps = n })))
+    (bound_of_option bound)) (swaps_in swaps)) role
+
 -- what `gen` asks for, by the text of its number
 abbrev pub gen_task : Option Bytes → Option Task
 gen_task number = option_map (λ n. task.Gen n) (option_and_then (number_from_to 0 MOST_GEN) number)
@@ -97,6 +107,7 @@ task_of name value =
     else if bytes_eq name (codes "run") then run_task (value (codes "bound")) (value (codes "ring")) (value (codes "workers")) (value (codes "limit")) (value (codes "seed"))
     else if bytes_eq name (codes "demo") then demo_task (value (codes "name")) (value (codes "ring")) (value (codes "workers"))
     else if bytes_eq name (codes "gen") then gen_task (value (codes "number"))
+    else if bytes_eq name (codes "improve") then improve_task (value (codes "role")) (value (codes "swaps")) (value (codes "bound"))
     else None
 
 -- the words spell the task: a command's name, and behind it uses of what the command takes, whose texts ask for the task
@@ -124,6 +135,7 @@ abbrev pub IsInRange : Task → Type 0
 IsInRange (task.OnDocument (on_document.Check options)) = IsBound options.bound
 IsInRange (task.OnDocument (on_document.Run options workers)) =
     IsBound options.bound × IfSome options.ring IsCapacity × AreWorkers workers × IsFromTo 1 MOST_LIMIT options.limit × IsFromTo 0 MOST_SEED options.seed
+IsInRange (task.OnDocument (on_document.Improve options)) = IsBound options.bound × IsFromTo 1 MOST_SWAPS options.swaps
 IsInRange (task.OnData demo) = IfSome demo.ring IsCapacity × AreWorkers demo.workers
 IsInRange (task.Gen number) = IsFromTo 0 MOST_GEN number
 IsInRange _ = Unit {0}

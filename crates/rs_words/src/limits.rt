@@ -6,6 +6,9 @@ pub const DEFAULT_LIMIT: u32 = 10_000;
 /// The greatest limit of the acts of a role in a run.
 pub const MOST_LIMIT: u32 = 1_000_000;
 
+/// The most swaps that an improvement is asked for.
+pub const MOST_SWAPS: u32 = 64;
+
 /// The greatest seed of a run.
 pub const MOST_SEED: u32 = 2_147_483_647;
 

@@ -6,10 +6,10 @@ ghost use Rattle.rs_words.specs.Clap as clap;
 ghost use Rattle.rs_words.specs.Meaning as spec;
 
 use crate::limits::MOST_GEN;
-use crate::numbers::{bound_in, limit_in, number_in, ring_in, seed_in, workers_in};
-use crate::tasks::{CheckOptions, DemoTask, DocumentTask, Task};
+use crate::numbers::{bound_in, limit_in, number_in, ring_in, seed_in, swaps_in, workers_in};
+use crate::tasks::{CheckOptions, DemoTask, DocumentTask, ImproveOptions, Task};
 use clap::ArgMatches;
-use rs_model::{Demo, RunOptions};
+use rs_model::{Demo, Name, NoMemory, RunOptions};
 use std::alloc::{AllocError, Global};
 
 /// The demo of this name.
@@ -108,6 +108,32 @@ fn demo_task(
     })))
 }
 
+/// What `improve` asks for, by the text of its role and those of its options.
+fn improve_task(
+    alloc: Global,
+    role: Option<&str>,
+    swaps: Option<&str>,
+    bound: Option<&str>,
+) -> Result<Option<Task>, NoMemory>
+    ensures { IfOk result (λ r. r ≡ spec.improve_task (option_map (λ s. s.now) role.entry) (option_map (λ s. s.now) swaps.entry) (option_map (λ s. s.now) bound.entry)) }
+{
+    let Some(role) = role else {
+        return Ok(None);
+    };
+    let Some(swaps) = swaps_in(alloc, swaps)? else {
+        return Ok(None);
+    };
+    let Some(bound) = bound_in(alloc, bound)? else {
+        return Ok(None);
+    };
+    let options = ImproveOptions {
+        role: Name::of(alloc, role.as_bytes())?,
+        bound,
+        swaps,
+    };
+    Ok(Some(Task::OnDocument(DocumentTask::Improve(options))))
+}
+
 /// What `gen` asks for, by the text of its number.
 fn gen_task(alloc: Global, number: Option<&str>) -> Result<Option<Task>, AllocError>
     ensures { IfOk result (λ r. r ≡ spec.gen_task (option_map (λ s. s.now) number.entry)) }
@@ -166,16 +192,26 @@ fn demo_task_in(alloc: Global, found: &ArgMatches<'_>) -> Result<Option<Task>, A
     )
 }
 
+/// What `improve` asks for, by the texts that clap found.
+fn improve_task_in(alloc: Global, found: &ArgMatches<'_>) -> Result<Option<Task>, NoMemory>
+    ensures { IfOk result (λ r. r ≡ spec.improve_task (first_of (codes "role") (rows_of (found_of found.now))) (first_of (codes "swaps") (rows_of (found_of found.now)))
+        (first_of (codes "bound") (rows_of (found_of found.now)))) }
+{
+    improve_task(
+        alloc,
+        text_found(found, "role"),
+        text_found(found, "swaps"),
+        text_found(found, "bound"),
+    )
+}
+
 /// What the command of this name asks for, by the texts that clap found.
-fn task_of(alloc: Global, name: &str, found: &ArgMatches<'_>) -> Result<Option<Task>, AllocError>
+fn task_of(alloc: Global, name: &str, found: &ArgMatches<'_>) -> Result<Option<Task>, NoMemory>
     ensures { IfOk result (λ r. r ≡ spec.task_of name.now (clap.found_text (rows_of (found_of found.now)))) }
 {
     if name == "check" {
-        check_task(
-            alloc,
-            text_found(found, "bound"),
-            is_used(found, "derivations"),
-        )
+        let derivations = is_used(found, "derivations");
+        Ok(check_task(alloc, text_found(found, "bound"), derivations)?)
     } else if name == "verify" {
         Ok(Some(Task::OnDocument(DocumentTask::Verify)))
     } else if name == "migrate" {
@@ -185,18 +221,20 @@ fn task_of(alloc: Global, name: &str, found: &ArgMatches<'_>) -> Result<Option<T
     } else if name == "project" {
         Ok(Some(Task::OnDocument(DocumentTask::Project)))
     } else if name == "run" {
-        run_task_in(alloc, found)
+        Ok(run_task_in(alloc, found)?)
     } else if name == "demo" {
-        demo_task_in(alloc, found)
+        Ok(demo_task_in(alloc, found)?)
     } else if name == "gen" {
-        gen_task(alloc, text_found(found, "number"))
+        Ok(gen_task(alloc, text_found(found, "number"))?)
+    } else if name == "improve" {
+        improve_task_in(alloc, found)
     } else {
         Ok(None)
     }
 }
 
 /// What the command that clap found asks for.
-pub(crate) fn task_in(alloc: Global, found: &ArgMatches<'_>) -> Result<Option<Task>, AllocError>
+pub(crate) fn task_in(alloc: Global, found: &ArgMatches<'_>) -> Result<Option<Task>, NoMemory>
     ensures { IfOk result (λ r. r ≡ clap.task_found (subcommand_rows_of found.now)) }
 {
     match found.subcommand() {

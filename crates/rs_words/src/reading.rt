@@ -40,6 +40,6 @@ pub fn read_words(alloc: Global, words: &[String]) -> Result<Option<Task>, NoMem
     }
     match matches_in(alloc, words)? {
         None => Ok(None),
-        Some(found) => Ok(task_in(alloc, &found)?),
+        Some(found) => task_in(alloc, &found),
     }
 }

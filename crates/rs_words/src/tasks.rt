@@ -3,10 +3,10 @@
 ghost use Rattle.std.specs.Prelude.{◌≡◌};
 ghost use Rattle.rs_words.specs.Tasks as spec;
 
-use rs_model::{Bound, Capacity, Demo, RunOptions, Workers};
+use rs_model::{Bound, Capacity, Demo, Name, RunOptions, Workers};
 
 /// What the words ask for, with the value of each option, or what stands in its place where it isn't given.
-#[derive(Clone, Copy, Debug, PartialEq, Eq)]
+#[derive(Drop, Debug)]
 pub enum Task {
     /// It is carried out on the document that the input spells.
     OnDocument(DocumentTask),
@@ -20,7 +20,7 @@ pub enum Task {
 }
 
 /// What can be done with a document.
-#[derive(Clone, Copy, Debug, PartialEq, Eq)]
+#[derive(Drop, Debug)]
 pub enum DocumentTask {
     /// It is checked.
     Check(CheckOptions),
@@ -39,6 +39,8 @@ pub enum DocumentTask {
         /// Who makes the turns.
         workers: Workers,
     },
+    /// The machine of one role is improved, and the document is printed with derivations of all machines.
+    Improve(ImproveOptions),
 }
 
 /// How a document is checked.
@@ -48,6 +50,17 @@ pub struct CheckOptions {
     pub bound: Bound,
     /// Whether the derivations are printed in place of the report.
     pub derivations: bool,
+}
+
+/// Whose machine is improved, and how far.
+#[derive(Drop, Debug)]
+pub struct ImproveOptions {
+    /// The name of the role.
+    pub role: Name,
+    /// The bound of the searches for derivations.
+    pub bound: Bound,
+    /// How many swaps are made, at most.
+    pub swaps: u32,
 }
 
 /// A demo that is run on data.

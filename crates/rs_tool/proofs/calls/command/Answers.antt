@@ -2,7 +2,7 @@ use Rattle.rs_tool.proofs.Complete.{complete}
 use Rattle.rs_tool.proofs.DemoComplete.{complete_demo}
 use Rattle.rs_tool.proofs.DemoHeadline.{demos_are_safe_and_never_full}
 use Rattle.rs_tool.proofs.ItsSession.{has_its_session}
-use Rattle.rs_tool.proofs.Headline.{fine_is_safe, migrated_is_safe, pipeline_is_safe, runs_are_safe, verified_is_safe}
+use Rattle.rs_tool.proofs.Headline.{fine_is_safe, improved_is_safe, migrated_is_safe, pipeline_is_safe, runs_are_safe, verified_is_safe}
 use Rattle.rs_tool.proofs.calls.command.Goals as goal
 
 pub returns-clause-ends : goal.returns-clause-ends
@@ -16,6 +16,9 @@ returns-clause-verified g c = verified_is_safe _ _ c.carry_out.ensures
 
 pub returns-clause-migrated : goal.returns-clause-migrated
 returns-clause-migrated g c = migrated_is_safe _ _ c.carry_out.ensures
+
+pub returns-clause-improved : goal.returns-clause-improved
+returns-clause-improved g c = improved_is_safe _ _ c.carry_out.ensures
 
 pub returns-clause-run : goal.returns-clause-run
 returns-clause-run g c = runs_are_safe _ _ c.carry_out.ensures

@@ -70,3 +70,11 @@ returns-in-Run c =
     (IfOk-weaker c.ready_run.result _ _
     (λ p l. record { ready = l.ready; given = λ g comes. run_gives c.in-Run.options c.in-Run.workers c.args.bytes.now c.in-Ok.document g c.requires.short c.in-Ok.ensures.ok (l.given g comes) })
     c.ready_run.ensures)
+
+pub improve_role-requires-clause-shown : goal.improve_role-requires-clause-shown
+improve_role-requires-clause-shown c = can_show c.args.bytes.now c.in-Ok.document c.in-Ok.ensures.ok c.in-Ok.ensures.ready.sound
+
+pub returns-in-Improve : goal.returns-in-Improve
+returns-in-Improve c =
+    document_leads c.args.task (on_document.Improve c.in-Improve.options) c.args.bytes.now c.in-Ok.document c.improve_role.result c.answered-in-Improve.result c.in-Improve.is c.requires.short c.in-Ok.ensures.ok
+    (λ h. h) c.answered-in-Improve.ensures c.improve_role.ensures

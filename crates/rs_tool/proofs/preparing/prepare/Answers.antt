@@ -1,4 +1,4 @@
-use Rattle.std.proofs.Common.{◌≤◌, ℕ, List, length, arith, refl, sym, subst, ◌∙◌}
+use Rattle.std.proofs.Common.{◌≡◌, ◌≤◌, ℕ, List, length, arith, ap, refl, sym, subst, ◌∙◌, Err}
 use Rattle.std.specs.Prelude.{IfOk}
 use Rattle.rs_answers.specs.Ready.{Warrants}
 use Rattle.rs_answers.specs.declared.answers.AnswerWithSession.{AnswerWithSession}
@@ -7,12 +7,22 @@ use Rattle.rs_model.specs.declared.limits.TheConstants.{MOST_BYTES}
 use Rattle.rs_tool.specs.Answers.{AnswersPipeline}
 use Rattle.rs_tool.specs.Sessions.{Gives}
 use Rattle.rs_tool.specs.Tasks.{ReadsTheInput}
+use Rattle.rs_tool.specs.declared.statuses.CallStop.TheVariants as stop
 use Rattle.rs_tool.proofs.Answering.{if_told}
 use Rattle.rs_tool.proofs.MadeReady.{demo_leads, is_ready, leads, pipeline_alone, prepares_reading, prepares_unread}
 use Rattle.rs_words.specs.Tasks.{workers_of}
 use Rattle.rs_words.specs.declared.tasks.Task.{Task}
 use Rattle.rs_words.specs.declared.tasks.Task.TheVariants as task
 use Rattle.rs_tool.proofs.preparing.prepare.Goals as goal
+
+pub returns-in-Err : goal.returns-in-Err
+returns-in-Err g c = λ words spells. record {
+  ready = tt;
+  leads = tt;
+  end = λ reads. c.in-Err.ensures.end;
+  unread = λ none. absurd (none (c.args.task, spells, subst ReadsTheInput (sym c.in-OnDocument.is) tt));
+  read_fault = λ e. let same : c.in-Err.stop ≡ stop.ReadFault = cc (e) in c.in-Err.ensures.read_fault (ap (λ x. Err x) same);
+}
 
 pub returns-in-Ok-Some : goal.returns-in-Ok-Some
 returns-in-Ok-Some g c = λ words spells.

@@ -1,4 +1,5 @@
 use Rattle.std.proofs.Common.{◌∙◌, ap, sym, subst, true≢false, List, ℕ}
+use Rattle.std.proofs.lemmas.Result.{IfOk-weaker}
 use Rattle.rs_words.specs.Words.{bytes_of_words}
 use Rattle.rs_words.specs.Clap.{ClapFinds, task_found}
 use Rattle.rs_words.proofs.Exact.{meaning_of_refused, meaning_of_taken}
@@ -11,8 +12,8 @@ returns-then-not-dashes_are_allowed c = meaning_of_refused (bytes_of_words c.arg
 pub returns-in-None : goal.returns-in-None
 returns-in-None c = meaning_of_refused (bytes_of_words c.args.words.now) (λ allowed e. subst (ClapFinds (bytes_of_words c.args.words.now)) c.in-None.is c.in_ok-matches_in.ensures e)
 
-pub returns-in_ok-task_in-in-Some : goal.returns-in_ok-task_in-in-Some
-returns-in_ok-task_in-in-Some c =
+pub returns-in-Some : goal.returns-in-Some
+returns-in-Some c =
     let words : List (List ℕ) = bytes_of_words c.args.words.now in
     let told = subst (ClapFinds words) c.in-Some.is c.in_ok-matches_in.ensures in
-    meaning_of_taken words c.in_ok-task_in-in-Some.field-0 (sym c.dashes_are_allowed.ensures ∙ c.if-not-dashes_are_allowed.false) told.0 (c.in_ok-task_in-in-Some.ensures ∙ ap task_found told.1)
+    IfOk-weaker c.task_in.result _ _ (λ r h. meaning_of_taken words r (sym c.dashes_are_allowed.ensures ∙ c.if-not-dashes_are_allowed.false) told.0 (h ∙ ap task_found told.1)) c.task_in.ensures

@@ -1,0 +1,7 @@
+use Rattle.std.proofs.Common.{◌∙◌}
+use Rattle.std.proofs.lemmas.Result.{IfOk-weaker}
+use Rattle.rs_words.specs.Meaning.{improve_task}
+use Rattle.rs_words.proofs.meaning.improve_task_in.Goals as goal
+
+pub returns : goal.returns
+returns c = IfOk-weaker c.improve_task.result _ _ (λ r h. h ∙ (λ i. improve_task (c.text_found.ensures i) (c.text_found-2.ensures i) (c.text_found-3.ensures i))) c.improve_task.ensures
