@@ -1,4 +1,5 @@
 pub mod Lists
+pub mod Written
 pub mod Handed
 pub mod Flags
 pub mod Spread
@@ -6,6 +7,7 @@ pub mod Walks
 pub mod Surveys
 pub mod Cycles
 pub mod Peels
+pub mod Awaiting
 pub mod Rows
 pub mod Runs
 pub mod Lone

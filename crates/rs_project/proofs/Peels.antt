@@ -21,7 +21,7 @@ snoc_some [] s e = cc (e)
 snoc_some (t ∷ ss) s e = cc (e)
 
 -- an unreached node leads to another one
-onward : (pr : Protocol_data) (role : Role) (n : ℕ) → IsUnreached pr role n → (place : ℕ) × (next : ℕ) × LeadsTo pr n place next × IsUnreached pr role next
+pub onward : (pr : Protocol_data) (role : Role) (n : ℕ) → IsUnreached pr role n → (place : ℕ) × (next : ℕ) × LeadsTo pr n place next × IsUnreached pr role next
 onward pr role n u = go u.steps u.some u.cycle u.around
   where
     go : (ss : List PathStep) → ss ≢ [] → IsPath pr n ss n → AllPassBy pr role ss → (place : ℕ) × (next : ℕ) × LeadsTo pr n place next × IsUnreached pr role next

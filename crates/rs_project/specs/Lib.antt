@@ -5,6 +5,7 @@ pub mod Numbered
 pub mod Reached
 pub mod Refusals
 pub mod Marks
+pub mod Awaited
 pub mod Clashes
 pub mod Noted
 pub mod Filing

@@ -32,7 +32,7 @@ pub fn first_clash(
     ensures { IfOk result (λ found. MatchOption found (AllAgree protocol.now role front.now.talks (length front.now.talks) × HasEndAlone front.now)
         (λ clash. FirstClash protocol.now role front.now clash.a clash.b)) }
 {
-    let found = talk_clash(alloc, protocol, role, &front.talks)?;
+    let found = talk_clash(alloc, protocol, role, front.talks.as_slice())?;
     if let Some(clash) = found {
         return Ok(Some(clash));
     }

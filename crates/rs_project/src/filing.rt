@@ -94,7 +94,7 @@ impl Fronts {
         requires { IsShared front.now }
         ensures { MatchOption result (FrontIsNew self.now front.now) (λ n. slice_get self.now n ≡ Some front.now) }
     {
-        let head = self.heads[bucket_of(&front.talks)];
+        let head = self.heads[bucket_of(front.talks.as_slice())];
         number_along(&self.items, &self.links, head, front)
     }
 
@@ -115,7 +115,7 @@ impl Fronts {
         ensures ok { OnOk result (self.new ≡ self.old ++ (front ∷ [])) }
         ensures err { OnErr result (self.new ≡ self.old) }
     {
-        let bucket = bucket_of(&front.talks);
+        let bucket = bucket_of(front.talks.as_slice());
         let number = self.items.len() as u32;
         let head = self.heads[bucket];
         let talk = front.lone_talk();
@@ -135,7 +135,7 @@ impl Fronts {
         ensures ok { OnOk result (self.new ≡ self.old ++ (lone_front talk ∷ [])) }
         ensures err { OnErr result (self.new ≡ self.old) }
     {
-        let front = lone_front(alloc, talk)?;
+        let front = lone_front(alloc, talk);
         let number = self.items.len() as u32;
         make_room(&mut self.lone, Some(talk))?;
         self.items.reserve(1)?;
@@ -238,7 +238,7 @@ fn same_front(one: &Front, other: &Front) -> bool
     if one.ends != other.ends {
         return false;
     }
-    same_talks(&one.talks, &other.talks)
+    same_talks(one.talks.as_slice(), other.talks.as_slice())
 }
 
 fn same_talks(one: &[u32], other: &[u32]) -> bool

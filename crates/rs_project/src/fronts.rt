@@ -7,13 +7,17 @@ ghost use Rattle.rs_project.specs.Working.{IsFrontFrom};
 use crate::spreading::Marks;
 use crate::surveying::Survey;
 use rs_model::NoMemory;
+use smallvec::SmallVec;
 use std::alloc::Global;
 use std::marker::Model;
+
+/// Talks, in order of their numbers. A few of them need no allocation.
+pub type TalkSet = SmallVec<u32, 4>;
 
 /// What a role may meet first: talks in order of their numbers, and maybe the end.
 #[derive(Drop)]
 pub struct Front {
-    pub talks: Vec<u32>,
+    pub talks: TalkSet,
     pub ends: bool,
 }
 
@@ -33,7 +37,7 @@ impl Front {
         if self.ends {
             return None;
         }
-        only_item(&self.talks)
+        only_item(self.talks.as_slice())
     }
 }
 
@@ -67,11 +71,11 @@ pub fn marked_front(
 }
 
 // Those of the numbers whose flag stands.
-fn flagged_numbers(alloc: Global, numbers: &[u32], flags: &[bool]) -> Result<Vec<u32>, NoMemory>
+fn flagged_numbers(alloc: Global, numbers: &[u32], flags: &[bool]) -> Result<TalkSet, NoMemory>
     requires { All (λ n. n < length flags.now) numbers.now }
     ensures { IfOk result (λ v. v.items ≡ filter (λ n. slice_index_or flags.now n false) numbers.now) }
 {
-    let mut those = Vec::new(alloc);
+    let mut those = SmallVec::new(alloc);
     for number in numbers {
         if flags[*number as usize] {
             those.push(*number)?;
@@ -81,11 +85,11 @@ fn flagged_numbers(alloc: Global, numbers: &[u32], flags: &[bool]) -> Result<Vec
 }
 
 /// The numbers in order, each once.
-pub fn in_order(mut numbers: Vec<u32>) -> Vec<u32>
+pub fn in_order(mut numbers: TalkSet) -> TalkSet
     ensures rising { AllPairs (λ (n m : ℕ). n < m) result.items }
     ensures same { (n : ℕ) → Contains result.items n ↔ Contains numbers.items n }
 {
-    numbers.sort_unstable();
+    numbers.as_mut_slice().sort_unstable();
     numbers.dedup();
     numbers
 }

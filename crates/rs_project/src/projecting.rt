@@ -13,7 +13,7 @@ ghost use Rattle.rs_wellformed.specs.WellFormed.{IsWellFormed};
 
 use crate::clashes::first_clash;
 use crate::finding::{joint_arms, lone_arms};
-use crate::fronts::Front;
+use crate::fronts::{Front, TalkSet};
 use crate::rounds::first_unreached;
 use crate::searching::Search;
 use crate::surveying::{Survey, survey_of};
@@ -27,7 +27,7 @@ use std::marker::Model;
 #[derive(Drop, Debug)]
 pub struct Projection {
     pub machine: Machine,
-    pub sets: Vec<Vec<u32>>,
+    pub sets: Vec<TalkSet>,
 }
 
 impl Model for Projection {
@@ -100,11 +100,11 @@ pub fn project(alloc: Global, protocol: &Protocol, role: Role) -> Result<Project
     ensures bounded { IfOk result (λ p. length p.machine.states ≤ MOST_STATES) }
     ensures err { IfErr result (λ e. (e ≡ ProjFault.NoMemory) ⊎ FirstRefusal protocol.now role e) }
 {
-    let survey = survey_of(alloc, protocol, role)?;
-    if let Some(node) = first_unreached(alloc, &survey)? {
+    let known = survey_of(alloc, protocol, role)?;
+    if let Some(node) = first_unreached(alloc, &known.survey, known.has_no_rounds)? {
         return Err(ProjFault::Unreached { role, node });
     }
-    let projection = work(alloc, &survey)?;
+    let projection = work(alloc, &known.survey)?;
     Ok(projection)
 }
 
@@ -175,7 +175,7 @@ fn joint_state(alloc: Global, search: &mut Search, number: usize) -> Result<Stat
             b: clash.b,
         });
     }
-    let talks: SmallVec<u32, 4> = SmallVec::from_slice(alloc, &front.talks)?;
+    let talks: SmallVec<u32, 4> = SmallVec::from_slice(alloc, front.talks.as_slice())?;
     let arms = joint_arms(alloc, search, talks.as_slice())?;
     Ok(act_of(survey.protocol, survey.role, talks.as_slice(), arms))
 }
@@ -214,7 +214,7 @@ fn act_of(protocol: &Protocol, role: Role, talks: &[u32], arms: Arms) -> State
     }
 }
 
-fn sets_of(alloc: Global, fronts: Vec<Front>) -> Result<Vec<Vec<u32>>, NoMemory>
+fn sets_of(alloc: Global, fronts: Vec<Front>) -> Result<Vec<TalkSet>, NoMemory>
     ensures { IfOk result (λ v. map (λ s. s.items) v.items ≡ map (λ f. f.talks) fronts.items) }
 {
     let mut sets = Vec::with_capacity(alloc, fronts.len())?;

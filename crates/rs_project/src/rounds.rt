@@ -1,5 +1,5 @@
 //! Where a session could go round without a role, told by two sweeps or by the cycles of rows.
-ghost use Rattle.std.specs.Prelude.{◌≡◌, ◌<◌, ◌≤◌, ◌&&◌, ℕ, [], false, length, slice_index_or, if◌then◌else◌, IfOk, MatchOption};
+ghost use Rattle.std.specs.Prelude.{◌≡◌, ◌<◌, ◌≤◌, ◌&&◌, ℕ, [], true, false, length, slice_index_or, if◌then◌else◌, IfOk, MatchOption};
 ghost use Rattle.rs_project.specs.Graph.{IsUnreached};
 ghost use Rattle.rs_project.specs.Marks.{AreRows, IsLive, nexts_of_node};
 ghost use Rattle.rs_project.specs.Numbered.{nexts_of};
@@ -12,11 +12,20 @@ use rs_graph::{NodeRow, least_on_cycle};
 use rs_model::{Arm, NoMemory, Node, Protocol};
 use std::alloc::Global;
 
-/// The least node that the session may reach and then go round for ever, with the role left waiting.
-pub fn first_unreached(alloc: Global, survey: &Survey) -> Result<Option<u32>, NoMemory>
+/// The least node that the session may reach and then go round for ever, with the role left waiting. That there is none may
+/// be known.
+pub fn first_unreached(
+    alloc: Global,
+    survey: &Survey,
+    is_none: bool,
+) -> Result<Option<u32>, NoMemory>
+    requires none { is_none ≡ true → NoneUnreached survey.now.protocol survey.now.role }
     ensures { IfOk result (λ o. MatchOption o (NoneUnreached survey.now.protocol survey.now.role) (λ node. IsUnreached survey.now.protocol survey.now.role node × ((n : ℕ)
         → IsUnreached survey.now.protocol survey.now.role n → node ≤ n))) }
 {
+    if is_none {
+        return Ok(None);
+    }
     if !may_go_round(alloc, survey)? {
         return Ok(None);
     }

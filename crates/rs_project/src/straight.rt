@@ -8,6 +8,7 @@ ghost use Rattle.rs_project.specs.Marks.{MeetsOnly, StandsFor};
 use crate::fronts::{Front, in_order};
 use crate::surveying::Survey;
 use rs_model::NoMemory;
+use smallvec::SmallVec;
 use std::alloc::Global;
 
 // From more nodes than these marks lead to the talks at less cost.
@@ -54,7 +55,7 @@ pub fn straight_front(
     if starts.len() > FEW {
         return Ok(None);
     }
-    let mut talks = Vec::new(alloc);
+    let mut talks = SmallVec::new(alloc);
     for start in starts {
         let Some(talk) = only_talk(survey, *start) else {
             return Ok(None);
@@ -68,10 +69,10 @@ pub fn straight_front(
 }
 
 /// What a role may meet first where it is this talk alone.
-pub fn lone_front(alloc: Global, talk: u32) -> Result<Front, NoMemory>
-    ensures { IfOk result (λ f. f ≡ lone_front talk) }
+pub fn lone_front(alloc: Global, talk: u32) -> Front
+    ensures { result ≡ lone_front talk }
 {
-    let mut talks = Vec::with_capacity(alloc, 1)?;
-    talks.push(talk)?;
-    Ok(Front { talks, ends: false })
+    let mut talks = SmallVec::new(alloc);
+    talks.push_reserved(talk);
+    Front { talks, ends: false }
 }

@@ -30,7 +30,7 @@ joint_arms-requires c =
     let role = c.args.search.now.survey.role in
     let f = c.index-as_slice-number.result in
     let here = read_via c.args.search.now.fronts c.as_slice.result.now c.args.number f c.as_slice.ensures c.requires.number c.index-as_slice-number.is in
-    let talks : c.as_slice-2.result.now ≡ f.talks = c.as_slice-2.ensures ∙ c.in_ok-talks.ensures.ok ∙ c.deref.ensures.value ∙ ap (λ (z : Front_data). z.talks) c.front.view_is in
+    let talks : c.as_slice-3.result.now ≡ f.talks = c.as_slice-3.ensures ∙ c.in_ok-talks.ensures.ok ∙ c.as_slice-2.ensures ∙ ap (λ (z : Front_data). z.talks) c.front.view_is in
     let P : List ℕ → Type 0 = λ z. All (λ t. t < length pr.nodes) z in
     record { talks = subst P (sym talks) (talks_within pr role f.talks (λ t m. c.survey-survey.ensures.found.right c.args.number f t here m)) }
 
@@ -40,7 +40,7 @@ act_of-requires-clause-involved c = λ t m.
     let role = c.args.search.now.survey.role in
     let f = c.index-as_slice-number.result in
     let here = read_via c.args.search.now.fronts c.as_slice.result.now c.args.number f c.as_slice.ensures c.requires.number c.index-as_slice-number.is in
-    let talks : c.as_slice-3.result.now ≡ f.talks = c.as_slice-3.ensures ∙ c.in_ok-talks.ensures.ok ∙ c.deref.ensures.value ∙ ap (λ (z : Front_data). z.talks) c.front.view_is in
+    let talks : c.as_slice-4.result.now ≡ f.talks = c.as_slice-4.ensures ∙ c.in_ok-talks.ensures.ok ∙ c.as_slice-2.ensures ∙ ap (λ (z : Front_data). z.talks) c.front.view_is in
     let P : List ℕ → Type 0 = λ z. Among z t in
     let Q : Survey_data → Type 0 = λ z. Involves z.protocol z.role t in
     subst Q (sym (c.survey.view_is ∙ c.survey-survey.ensures.survey)) (c.survey-survey.ensures.found.right c.args.number f t here (subst P talks m))
@@ -51,7 +51,7 @@ act_of-requires-clause-agree c = λ one other a b.
     let role = c.args.search.now.survey.role in
     let f = c.index-as_slice-number.result in
     let here = read_via c.args.search.now.fronts c.as_slice.result.now c.args.number f c.as_slice.ensures c.requires.number c.index-as_slice-number.is in
-    let talks : c.as_slice-3.result.now ≡ f.talks = c.as_slice-3.ensures ∙ c.in_ok-talks.ensures.ok ∙ c.deref.ensures.value ∙ ap (λ (z : Front_data). z.talks) c.front.view_is in
+    let talks : c.as_slice-4.result.now ≡ f.talks = c.as_slice-4.ensures ∙ c.in_ok-talks.ensures.ok ∙ c.as_slice-2.ensures ∙ ap (λ (z : Front_data). z.talks) c.front.view_is in
     let C : Survey_data → Type 0 = λ z. AllAgree z.protocol z.role f.talks (length f.talks) × HasEndAlone f in
     let merges = merges_at pr role role c.args.search.now.fronts c.args.number f refl
     (subst IsTrueSurvey (c.survey.view_is ∙ c.survey-survey.ensures.survey) c.survey.invariant).well_formed c.survey-survey.ensures.found here
@@ -67,14 +67,14 @@ returns-in_err-arms-clause-err c =
     let role = c.args.search.now.survey.role in
     let f = c.index-as_slice-number.result in
     let here = read_via c.args.search.now.fronts c.as_slice.result.now c.args.number f c.as_slice.ensures c.requires.number c.index-as_slice-number.is in
-    let talks : c.as_slice-2.result.now ≡ f.talks = c.as_slice-2.ensures ∙ c.in_ok-talks.ensures.ok ∙ c.deref.ensures.value ∙ ap (λ (z : Front_data). z.talks) c.front.view_is in
+    let talks : c.as_slice-3.result.now ≡ f.talks = c.as_slice-3.ensures ∙ c.in_ok-talks.ensures.ok ∙ c.as_slice-2.ensures ∙ ap (λ (z : Front_data). z.talks) c.front.view_is in
     let C : Survey_data → Type 0 = λ z. AllAgree z.protocol z.role f.talks (length f.talks) × HasEndAlone f in
     let merges = merges_at pr role role c.args.search.now.fronts c.args.number f refl
     (subst IsTrueSurvey (c.survey.view_is ∙ c.survey-survey.ensures.survey) c.survey.invariant).well_formed c.survey-survey.ensures.found here
     (subst C (c.survey.view_is ∙ c.survey-survey.ensures.survey) (noted_none c.in_ok-found.found _ _ c.in_default.is c.in_ok-found.ensures)) in
     handed_on c.from_residual-in_err-arms.result c.in_err-arms.field-0.0 (λ e. StateFault pr role c.args.search.now.fronts c.args.number e)
     c.from_residual-in_err-arms.ensures.1
-    (state_fault pr role c.args.search.now.fronts c.args.number f c.as_slice-2.result.now talks here merges c.in_err-arms.field-0.0 c.in_err-arms.ensures.err)
+    (state_fault pr role c.args.search.now.fronts c.args.number f c.as_slice-3.result.now talks here merges c.in_err-arms.field-0.0 c.in_err-arms.ensures.err)
 
 pub returns-clause-ok : goal.returns-clause-ok
 returns-clause-ok c =
@@ -82,16 +82,16 @@ returns-clause-ok c =
     let role = c.args.search.now.survey.role in
     let f = c.index-as_slice-number.result in
     let here = read_via c.args.search.now.fronts c.as_slice.result.now c.args.number f c.as_slice.ensures c.requires.number c.index-as_slice-number.is in
-    let talks : c.as_slice-2.result.now ≡ f.talks = c.as_slice-2.ensures ∙ c.in_ok-talks.ensures.ok ∙ c.deref.ensures.value ∙ ap (λ (z : Front_data). z.talks) c.front.view_is in
+    let talks : c.as_slice-3.result.now ≡ f.talks = c.as_slice-3.ensures ∙ c.in_ok-talks.ensures.ok ∙ c.as_slice-2.ensures ∙ ap (λ (z : Front_data). z.talks) c.front.view_is in
     let C : Survey_data → Type 0 = λ z. AllAgree z.protocol z.role f.talks (length f.talks) × HasEndAlone f in
     let merges = merges_at pr role role c.args.search.now.fronts c.args.number f refl
     (subst IsTrueSurvey (c.survey.view_is ∙ c.survey-survey.ensures.survey) c.survey.invariant).well_formed c.survey-survey.ensures.found here
     (subst C (c.survey.view_is ∙ c.survey-survey.ensures.survey) (noted_none c.in_ok-found.found _ _ c.in_default.is c.in_ok-found.ensures)) in
-    let talks-3 : c.as_slice-3.result.now ≡ f.talks = c.as_slice-3.ensures ∙ c.in_ok-talks.ensures.ok ∙ c.deref.ensures.value ∙ ap (λ (z : Front_data). z.talks) c.front.view_is in
-    let P : Survey_data → Type 0 = λ z. HasShape z.protocol z.role c.as_slice-3.result.now c.act_of.result in
+    let talks-3 : c.as_slice-4.result.now ≡ f.talks = c.as_slice-4.ensures ∙ c.in_ok-talks.ensures.ok ∙ c.as_slice-2.ensures ∙ ap (λ (z : Front_data). z.talks) c.front.view_is in
+    let P : Survey_data → Type 0 = λ z. HasShape z.protocol z.role c.as_slice-4.result.now c.act_of.result in
     let R : List ℕ → Type 0 = λ z. HasShape pr role z c.act_of.result in
-    let Q : List ℕ → Type 0 = λ z. Discovers pr role c.args.search.now.fronts c.as_slice-2.result.now (merged_choices pr c.as_slice-2.result.now) c.joint_arms.new.search.fronts z in
-    works_on pr role c.args.search.now.fronts c.joint_arms.new.search.fronts c.args.number f c.as_slice-2.result.now c.act_of.result talks here merges
+    let Q : List ℕ → Type 0 = λ z. Discovers pr role c.args.search.now.fronts c.as_slice-3.result.now (merged_choices pr c.as_slice-3.result.now) c.joint_arms.new.search.fronts z in
+    works_on pr role c.args.search.now.fronts c.joint_arms.new.search.fronts c.args.number f c.as_slice-3.result.now c.act_of.result talks here merges
     (subst Q (sym c.act_of.ensures.nexts) c.in_ok-arms.ensures.ok) (subst R (talks-3 ∙ sym talks) (subst P (c.survey.view_is ∙ c.survey-survey.ensures.survey) c.act_of.ensures.shape))
 
 pub returns-in-Some-clause-err : goal.returns-in-Some-clause-err

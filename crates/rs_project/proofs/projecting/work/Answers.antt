@@ -1,7 +1,7 @@
-use Rattle.std.proofs.Common.{rules, arith, ◌≡◌, ◌⊎◌, ◌<◌, ◌≤◌, ◌++◌, ◌∷◌, [], ℕ, List, Vec, map, length, ap, subst, subst₂, sym, ◌∙◌}
+use Rattle.smallvec.specs.SmallVec.{SmallVec}
+use Rattle.std.proofs.Common.{rules, arith, ◌≡◌, ◌⊎◌, ◌<◌, ◌≤◌, ◌++◌, ◌∷◌, [], ℕ, List, map, length, ap, subst, subst₂, sym, ◌∙◌}
 use Rattle.rs_model.specs.Data.{Protocol_data}
 use Rattle.rs_model.specs.declared.machines.State.{State}
-use Rattle.std.specs.declared.alloc.Global.{Global}
 use Rattle.rs_model.specs.declared.graph.Role.{Role}
 use Rattle.rs_project.specs.Data.{Front_data}
 use Rattle.rs_project.specs.Marks.{IsTrueSurvey, Survey_data}
@@ -73,7 +73,7 @@ returns-clause-ok c =
     let a : c.len.result ≡ length states = search rules in
     let b : c.len-in-loop-search.result ≡ length fronts = c.len-in-loop-search.ensures.count in
     let le : length fronts ≤ length states = (let f = c.loop-search-test.false in omega (arith, a, b, f)) in
-    let sets : List (List ℕ) = map (λ (s : Vec ℕ Global). s.items) c.in_ok-sets.sets.items in
+    let sets : List (List ℕ) = map (λ (s : SmallVec ℕ). s.items) c.in_ok-sets.sets.items in
     let P : Role → Type 0 = λ z. IsNumberedProjection c.args.survey.now.protocol c.args.survey.now.role record { machine = record { role = z; states = states; start = 0 }; sets = sets } in
     subst P (sym (ap (λ (z : Survey_data). z.role) c.survey.view_is))
     (working_done c.args.survey.now.protocol c.args.survey.now.role fronts states sets c.requires.reached c.loop-search.invariant.working le

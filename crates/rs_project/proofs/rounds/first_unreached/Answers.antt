@@ -18,6 +18,9 @@ least_on_cycle-requires-clause-within c =
     let W : List (List ℕ) → Type 0 = λ z. (x y : ℕ) → Edge z x y → y < length z in
     subst W (sym c.deref-2.ensures.value) (edges_within c.args.survey.now.protocol live rows (subst IsTrueSurvey c.survey.view_is c.survey.invariant).well_formed are)
 
+pub returns-then-is_none : goal.returns-then-is_none
+returns-then-is_none c = c.requires.none c.if-is_none.true
+
 pub returns : goal.returns
 returns c =
     let live = c.in_ok-live.live.items in

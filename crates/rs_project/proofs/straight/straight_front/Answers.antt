@@ -13,7 +13,7 @@ pub loop-start-preserved : goal.loop-start-preserved
 loop-start-preserved c =
     let s = get_or c.args.starts.now c.loop-start.start-index 0 in
     met_more c.args.survey.now.protocol c.args.survey.now.role c.args.starts.now c.loop-start.start-index s c.loop-start.talks.items c.push.new.self.items c.in-Some.talk
-    (slice_get-get_or c.args.starts.now c.loop-start.start-index 0 c.loop-start-test.true) c.in_ok-push.ensures.items c.in-Some.ensures c.loop-start.invariant
+    (slice_get-get_or c.args.starts.now c.loop-start.start-index 0 c.loop-start-test.true) c.in_ok-push.ensures.ok c.in-Some.ensures c.loop-start.invariant
 
 pub returns : goal.returns
 returns c =

@@ -9,6 +9,7 @@ loop-left-preserved-then-await_one c = record {
   less = search rules;
   same = search rules;
   settled = search rules;
+  rounds = λ e role none. c.await_one.ensures.rounds e role (c.loop-left.invariant.rounds e role none);
 }
 
 pub loop-left-preserved : goal.loop-left-preserved
@@ -19,4 +20,5 @@ loop-left-preserved c = record {
   less = search rules;
   same = search rules;
   settled = search rules;
+  rounds = λ e role none. c.await_one.ensures.rounds e role (c.loop-left.invariant.rounds e role none);
 }

@@ -1,6 +1,7 @@
 use Rattle.std.proofs.Common.{rules, arith, ◌<◌, ◌∙◌, true, false, length, length-set}
 use Rattle.rs_project.proofs.Flags.{read_flag, set_unmarked}
 use Rattle.rs_project.proofs.Lists.{read_via}
+use Rattle.rs_project.proofs.Awaiting.{reached_more}
 use Rattle.rs_project.proofs.Surveys.{marked_more}
 use Rattle.rs_project.proofs.surveying.await_one.Goals as goal
 
@@ -13,6 +14,11 @@ returns-clause-marked c = λ role involved m.
     marked_more c.args.protocol.now role involved c.args.awaited.now.items c.args.passing.now.items c.args.ends.now.items c.go_on.new.ends.items c.args.number c.index-2.result.now w p off
     (read_via c.args.protocol.now.nodes c.protocol.inside.nodes.items c.args.number c.index-2.result.now (search rules) c.requires.node c.index-2.ensures) (search rules)
     (c.go_on.ensures.runs role) m
+
+pub returns-clause-rounds : goal.returns-clause-rounds
+returns-clause-rounds c = λ e role none.
+    reached_more c.args.protocol.now role c.args.awaited.now.items c.args.number c.index-2.result.now
+    (read_via c.args.protocol.now.nodes c.protocol.inside.nodes.items c.args.number c.index-2.result.now (search rules) c.requires.node c.index-2.ensures) (search (rules, e)) none
 
 pub returns-clause-less : goal.returns-clause-less
 returns-clause-less c = λ _.

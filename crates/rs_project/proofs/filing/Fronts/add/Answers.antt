@@ -10,7 +10,7 @@ use Rattle.rs_project.proofs.filing.Fronts.add.Goals as goal
 pub invariant_of-self-2 : goal.invariant_of-self-2
 invariant_of-self-2 c =
     let is : c.bucket_of-bucket.result ≡ bucket_on BUCKETS 0 c.args.front.talks
-    = c.bucket_of-bucket.ensures.bucket ∙ ap (λ (z : List ℕ). bucket_on BUCKETS 0 z) (c.deref.ensures.value ∙ ap (λ (z : Front_data). z.talks) c.front.view_is) in
+    = c.bucket_of-bucket.ensures.bucket ∙ ap (λ (z : List ℕ). bucket_on BUCKETS 0 z) (c.as_slice.ensures ∙ ap (λ (z : Front_data). z.talks) c.front.view_is) in
     let size = c.self.invariant.filed.buckets in
     let lt = c.bucket_of-bucket.ensures.within in
     let number : c.len-number.result ≡ length c.self.inside.items.items = search rules in

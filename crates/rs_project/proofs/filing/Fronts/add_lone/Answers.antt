@@ -6,7 +6,7 @@ use Rattle.rs_project.proofs.filing.Fronts.add_lone.Goals as goal
 
 pub invariant_of-self-2 : goal.invariant_of-self-2
 invariant_of-self-2 c =
-    let front = c.in_ok-front.front in
+    let front = c.lone_front-front.result in
     let number : c.len-number.result ≡ length c.self.inside.items.items = search rules in
     let links : c.push_reserved-2.new.self.items ≡ c.self.inside.links.items ++ (0 ∷ []) = search (rules, c.in_ok-reserve-2.ensures.items) in
     let items : c.push_reserved.new.self.items ≡ c.self.inside.items.items ++ (front ∷ []) = search (rules, c.in_ok-reserve.ensures.items) in
@@ -16,9 +16,9 @@ invariant_of-self-2 c =
     let grown = ap (λ (z : List Front_data). length z) items ∙ length-append c.self.inside.items.items (front ∷ []) in
     record {
       filed = filed_lone c.self.inside.items.items c.push_reserved.new.self.items c.self.inside.heads.items c.self.inside.links.items c.push_reserved-2.new.self.items front c.args.talk
-          c.in_ok-front.ensures items links c.self.invariant.filed;
+          c.lone_front-front.ensures items links c.self.invariant.filed;
       lone = lone_on c.self.inside.items.items c.push_reserved.new.self.items c.make_room.new.numbers.items c.set_number.new.numbers.items front (Some c.args.talk) (c.len-number.result + 1)
-          c.in_ok-front.ensures c.in_ok-make_room.ensures.room top items c.set_number.ensures
+          c.lone_front-front.ensures c.in_ok-make_room.ensures.room top items c.set_number.ensures
           (lone_same c.self.inside.items.items c.self.inside.lone.items c.make_room.new.numbers.items c.make_room.ensures.same c.self.invariant.lone);
       bounded = omega (arith, view, room, grown);
     }

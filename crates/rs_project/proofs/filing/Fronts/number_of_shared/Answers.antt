@@ -12,18 +12,18 @@ returns c =
     let size = c.self.invariant.filed.buckets in
     let lt = c.bucket_of.ensures.within in
     let b : c.bucket_of.result ≡ bucket_on BUCKETS 0 c.args.front.now.talks
-    = c.bucket_of.ensures.bucket ∙ ap (λ (z : List ℕ). bucket_on BUCKETS 0 z) (c.deref.ensures.value ∙ ap (λ (z : Front_data). z.talks) c.front.view_is) in
+    = c.bucket_of.ensures.bucket ∙ ap (λ (z : List ℕ). bucket_on BUCKETS 0 z) (c.as_slice.ensures ∙ ap (λ (z : Front_data). z.talks) c.front.view_is) in
     let head : c.index-head.result.now ≡ get_or c.self.inside.heads.items (bucket_on BUCKETS 0 c.args.front.now.talks) 0 =
     c.index-head.ensures
     ∙ get_or_default c.self.inside.heads.items c.bucket_of.result c.index-head.result.now 0 (omega (arith, size, lt))
     ∙ ap (λ (z : ℕ). get_or c.self.inside.heads.items z 0) b in
     let P : List Front_data → Type 0 = λ z. MatchOption c.number_along.result (FrontIsNew z c.args.front.now) (λ n. slice_get z n ≡ Some c.args.front.now) in
     let Q : List Front_data → Type 0
-    = λ z. MatchOption c.number_along.result ((n : ℕ) → IsChained c.deref-3.result.now c.index-head.result.now n → slice_get z n ≡ Some c.args.front.now → ⊥)
+    = λ z. MatchOption c.number_along.result ((n : ℕ) → IsChained c.deref-2.result.now c.index-head.result.now n → slice_get z n ≡ Some c.args.front.now → ⊥)
     (λ n. slice_get z n ≡ Some c.args.front.now) in
     let R : List ℕ → Type 0
     = λ z. MatchOption c.number_along.result ((n : ℕ) → IsChained z c.index-head.result.now n → slice_get c.self.inside.items.items n ≡ Some c.args.front.now → ⊥)
     (λ n. slice_get c.self.inside.items.items n ≡ Some c.args.front.now) in
     subst P c.self.view_is
     (looked_all c.self.inside.items.items c.self.inside.heads.items c.self.inside.links.items c.args.front.now c.index-head.result.now c.number_along.result c.requires c.self.invariant.filed head
-    (subst R c.deref-3.ensures.value (subst Q c.deref-2.ensures.value c.number_along.ensures)))
+    (subst R c.deref-2.ensures.value (subst Q c.deref.ensures.value c.number_along.ensures)))
