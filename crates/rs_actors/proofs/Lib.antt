@@ -1,0 +1,4 @@
+pub mod Playing
+pub mod Sending
+pub mod Keeping
+pub mod Embedded

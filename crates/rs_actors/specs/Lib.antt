@@ -1,0 +1,5 @@
+pub mod Talking
+pub mod Choosing
+pub mod Data
+pub mod Common
+pub mod Talks
