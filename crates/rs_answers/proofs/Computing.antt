@@ -19,7 +19,7 @@ use Rattle.rs_demos.specs.Results.{Computes}
 use Rattle.rs_demos.specs.Sessions.{demo_machines, demo_protocol, has_line, has_session, machine_with_line}
 use Rattle.rs_demos.specs.Starts.{StartsWithActors}
 use Rattle.rs_demos.specs.Texts.{document_of}
-use Rattle.rs_demos.specs.declared.actors.DemoActor.{DemoActor}
+use Rattle.rs_demos.specs.declared.actors.DemoTalker.{DemoTalker}
 use Rattle.rs_demos.proofs.Computing.{ended_run}
 use Rattle.rs_demos.proofs.Projected.{projected}
 use Rattle.rs_demos.proofs.SpeltDocuments.{in_place_at, machines_many, spelt_document}
@@ -109,7 +109,7 @@ refusal_isnt_fine names refusal.NoMemory e = cc
 
 -- ---- the run
 
-end_computes : (kind : Demo) (bytes : List ℕ) (actors : List DemoActor) (names : Names_data) (ms : List Machine_data) (capacity : ℕ) (a : Answer_data) (o : Ending DemoActor)
+end_computes : (kind : Demo) (bytes : List ℕ) (actors : List DemoTalker) (names : Names_data) (ms : List Machine_data) (capacity : ℕ) (a : Answer_data) (o : Ending DemoTalker)
     → StartsWithActors kind bytes actors → ms ≡ demo_machines kind (length actors) → length ms ≡ length actors
     → IsPlain ms by_demo (actor_at actors) DEMO_LIMIT (Some capacity) o → TellsDemoEnd kind names (length ms) a o → a.verdict ≡ Fine → Computes kind bytes a.text
 end_computes kind bytes actors names ms capacity a o starts own many plain (IsStopped p k x) fine = absurd (not_fine a _ x (λ e. cc) fine)
@@ -119,7 +119,7 @@ end_computes kind bytes actors names ms capacity a o starts own many plain (HasE
     subst (λ (z : Answer_data). Computes kind bytes z.text) (sym x)
     (ended_run kind bytes actors after (actor_at actors) DEMO_LIMIT (Some capacity) k starts (given actors) (subst P own plain) (subst Q many h))
 
-own_computes : (kind : Demo) (ring : Option ℕ) (bytes : List ℕ) (actors : List DemoActor) (text : List ℕ) (d : Document_data) (a : Answer_data) → Opens kind bytes actors text → SpellsDocument text d
+own_computes : (kind : Demo) (ring : Option ℕ) (bytes : List ℕ) (actors : List DemoTalker) (text : List ℕ) (d : Document_data) (a : Answer_data) → Opens kind bytes actors text → SpellsDocument text d
     → AnswersOwn kind ring actors d a → a.verdict ≡ Fine → Computes kind bytes a.text
 own_computes kind ring bytes actors text d a o doc (IsRefused r h x) fine = absurd (not_fine a _ x (refusal_isnt_fine d.names r) fine)
 own_computes kind ring bytes actors text d a o doc (IsAccepted ps ms ds h found (IsTooSmall l x)) fine = absurd (not_fine a _ x (λ e. cc) fine)

@@ -1,17 +1,22 @@
 -- The projections and machines of a session, as they are found one by one.
 use Rattle.std.proofs.Common.{min, drop, append-nil, slice_index_or, ◌≡◌, ◌⊎◌, ℕ, zero, suc, ◌+◌, ◌<◌, ◌≤◌, List, [], ◌∷◌, ◌++◌, length, Option, Some, None, refl, sym, ap, subst, ◌∙◌, inl, inr}
 use Rattle.std.proofs.Common.{arith, slice_get, length-append}
+use Rattle.std.proofs.lemmas.Option.{slice_get-get_or, slice_get_within}
 use Rattle.rs_model.specs.Data.{Protocol_data, Machine_data}
+use Rattle.rs_model.proofs.Faults.{right}
+use Rattle.rs_model.specs.Faults.{first_fault}
 use Rattle.rs_model.specs.declared.limits.TheConstants.{MOST_STATES}
+use Rattle.rs_project.proofs.Machines.{projection_machine}
 use Rattle.rs_project.specs.Data.{Projection_data}
 use Rattle.rs_project.specs.Numbered.{IsNumberedProjection, AreFirstProjections, AreNumberedProjections}
 use Rattle.rs_project.specs.Projection.{AreProjections}
 use Rattle.rs_project.specs.Refusals.{FirstRefusal}
 use Rattle.rs_project.specs.declared.projecting.ProjFault.{ProjFault}
 use Rattle.rs_project.specs.declared.projecting.ProjFault.TheVariants as proj
+use Rattle.rs_wellformed.specs.WellFormed.{IsWellFormed}
 use Rattle.rs_documents.specs.Data.{Document_data}
 use Rattle.rs_documents.specs.Ready.{AreShort, DocumentIsReady}
-use Rattle.rs_answers.specs.Sessions.{Refuses, machine_or, machines_of}
+use Rattle.rs_answers.specs.Sessions.{OthersHaveNoFault, Refuses, first_refusal, machine_or, machines_of, refusal_or}
 
 pub last_or_before : {A : Type 0} (xs : List A) (y : A) (q : ℕ) (x : A) → slice_get (xs ++ y ∷ []) q ≡ Some x → (slice_get xs q ≡ Some x) ⊎ ((q ≡ length xs) × (y ≡ x))
 last_or_before [] y zero x e = inr (refl, cc)
@@ -118,3 +123,42 @@ chosen_small_by d own projections machines e ready h is =
 -- what is told of projections is what the law of equal sessions asks
 pub projections_are : (protocol : Protocol_data) (projections : List Projection_data) → AreNumberedProjections protocol projections → AreProjections protocol projections
 projections_are protocol projections h = record { many = h.many; each = λ p projection e. let x = h.each p projection e in x.is_projection }
+
+-- where nothing is said against the machine at a place, the same is refused from the next one on
+pub passed : (roles : ℕ) (machines : List Machine_data) (place : ℕ) (m : Machine_data) → slice_get machines place ≡ Some m → first_fault m roles ≡ None
+    → first_refusal roles (drop (suc place) machines) ≡ first_refusal roles (drop place machines)
+passed roles [] place m e none = absurd cc
+passed roles (x ∷ machines) zero m e none =
+    let same : x ≡ m = cc (e) in
+    let fine : first_fault x roles ≡ None = ap (λ (z : Machine_data). first_fault z roles) same ∙ none in
+    sym (ap (λ o. refusal_or o x.role (first_refusal roles machines)) fine)
+passed roles (x ∷ machines) (suc place) m e none = passed roles machines place m e none
+
+-- so it is at a place without an own machine
+pub other_passed : (roles : ℕ) (own : List (Option Machine_data)) (machines : List Machine_data) (place : ℕ) (o : Option Machine_data) (m : Machine_data) → OthersHaveNoFault roles own machines
+    → place < length own → place < length machines → o ≡ slice_index_or own place o → o ≡ None → m ≡ slice_index_or machines place m
+    → first_refusal roles (drop (place + 1) machines) ≡ first_refusal roles (drop place machines)
+other_passed roles own machines place o m others there known is none stands =
+    let here : slice_get own place ≡ Some None = slice_get-get_or own place o there ∙ ap Some (sym is ∙ none) in
+    let at : slice_get machines place ≡ Some m = slice_get-get_or machines place m known ∙ ap Some (sym stands) in
+    let next : place + 1 ≡ suc place = omega arith in
+    ap (λ (n : ℕ). first_refusal roles (drop n machines)) next ∙ passed roles machines place m at (others place m here at)
+
+-- where there is no own machine, it's the projection's
+chosen_projection : (own : List (Option Machine_data)) (projections : List Projection_data) (place : ℕ) (m : Machine_data) → slice_get own place ≡ Some None
+    → slice_get (machines_of own projections) place ≡ Some m → (p : Projection_data) × (slice_get projections place ≡ Some p) × (p.machine ≡ m)
+chosen_projection [] projections place m none e = absurd cc
+chosen_projection (x ∷ own) [] place m none e = absurd cc
+chosen_projection (Some y ∷ own) (p ∷ projections) zero m none e = absurd cc
+chosen_projection (None ∷ own) (p ∷ projections) zero m none e = (p, refl, cc (e))
+chosen_projection (x ∷ own) (p ∷ projections) (suc place) m none e = chosen_projection own projections place m none e
+
+-- what isn't an own machine is well formed
+pub others_have_no_fault : (protocol : Protocol_data) (own : List (Option Machine_data)) (projections : List Projection_data) (machines : List Machine_data) → IsWellFormed protocol
+    → AreNumberedProjections protocol projections → machines ≡ machines_of own projections → OthersHaveNoFault protocol.roles own machines
+others_have_no_fault protocol own projections machines well h is place m none e =
+    let P : List Machine_data → Type 0 = λ z. slice_get z place ≡ Some m in
+    let c = chosen_projection own projections place m none (subst P is e) in
+    let known : place < length projections = slice_get_within projections place c.0 c.1 in
+    let fits = projection_machine protocol (record { 0 = place }) c.0 well (let many = h.many in omega (arith, known, many)) (h.each place c.0 c.1).is_projection in
+    subst (λ (z : Machine_data). first_fault z protocol.roles ≡ None) c.2 (right c.0.machine protocol.roles fits)

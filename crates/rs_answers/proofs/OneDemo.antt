@@ -8,7 +8,7 @@ use Rattle.rs_answers.specs.Demos.{AnswersDemo, HasBadNumbers, IsDocument, Answe
 use Rattle.rs_answers.proofs.DemoEndings.{one_performing}
 use Rattle.rs_answers.proofs.Opening.{has_session_for}
 use Rattle.rs_demos.specs.Texts.{IsDemoText, document_of}
-use Rattle.rs_demos.specs.declared.actors.DemoActor.{DemoActor}
+use Rattle.rs_demos.specs.declared.actors.DemoTalker.{DemoTalker}
 use Rattle.rs_demos.proofs.Deciding.{not_both_shown, one_start}
 use Rattle.rs_demos.proofs.Printable.{printable}
 use Rattle.rs_derive.specs.Data.{Derivation_data}
@@ -22,19 +22,19 @@ use Rattle.rs_model.specs.declared.demos.Demo.{Demo}
 use Rattle.rs_model.specs.declared.limits.TheConstants.{DEFAULT_BOUND}
 
 -- a demo opens in one way
-pub record SameOpening (xs ys : List DemoActor) (text other : List ℕ) : Type 0 where
+pub record SameOpening (xs ys : List DemoTalker) (text other : List ℕ) : Type 0 where
   pub actors : xs ≡ ys
   pub texts : text ≡ other
 
-pub one_opening : (kind : Demo) (bytes : List ℕ) (xs ys : List DemoActor) (text other : List ℕ) → Opens kind bytes xs text → Opens kind bytes ys other → SameOpening xs ys text other
+pub one_opening : (kind : Demo) (bytes : List ℕ) (xs ys : List DemoTalker) (text other : List ℕ) → Opens kind bytes xs text → Opens kind bytes ys other → SameOpening xs ys text other
 one_opening kind bytes xs ys text other o p =
     let same : xs ≡ ys = one_start kind bytes xs ys o.starts p.starts in
     let s = has_session_for kind bytes ys p.starts in
     let shown = printable kind (length ys) s.has in
-    let document : IsDemoText kind (length ys) text = subst (λ (z : List DemoActor). IsDemoText kind (length z) text) same o.document in
+    let document : IsDemoText kind (length ys) text = subst (λ (z : List DemoTalker). IsDemoText kind (length z) text) same o.document in
     record { actors = same; texts = one_text (document_of kind (length ys)) text other shown document p.document }
 
-one_own : (kind : Demo) (ring : Option ℕ) (actors : List DemoActor) (text : List ℕ) (d : Document_data) (a b : Answer_data) → SpellsDocument text d → AnswersOwn kind ring actors d a
+one_own : (kind : Demo) (ring : Option ℕ) (actors : List DemoTalker) (text : List ℕ) (d : Document_data) (a b : Answer_data) → SpellsDocument text d → AnswersOwn kind ring actors d a
     → AnswersOwn kind ring actors d b → a ≡ b
 one_own kind ring actors text d a b doc (IsRefused r h x) (IsRefused s k y) = x ∙ ap (refusal_answer d.names) (one_refusal DEFAULT_BOUND d r s h k) ∙ sym y
 one_own kind ring actors text d a b doc (IsRefused r h x) (IsAccepted ps ms ds k f y) = absurd (not_refused DEFAULT_BOUND d ps ms ds r k f h)
@@ -56,5 +56,5 @@ one_demo kind ring bytes a b (IsDocument xs text d o h x) (IsDocument ys other e
     let P : List ℕ → Type 0 = λ z. SpellsDocument z d in
     let same : d ≡ e = one_document other d e (subst P s.texts h) k in
     let Q : Document_data → Type 0 = λ z. AnswersOwn kind ring xs z a in
-    let R : List DemoActor → Type 0 = λ z. AnswersOwn kind ring z e a in
+    let R : List DemoTalker → Type 0 = λ z. AnswersOwn kind ring z e a in
     one_own kind ring ys other e a b k (subst R s.actors (subst Q same x)) y

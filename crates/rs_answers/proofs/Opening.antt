@@ -8,7 +8,7 @@ use Rattle.rs_answers.specs.Demos.{Opens}
 use Rattle.rs_demos.specs.Numbers.{takes_numbers}
 use Rattle.rs_demos.specs.Sessions.{has_session, demo_protocol}
 use Rattle.rs_demos.specs.Starts.{StartsWithActors, ring_member, butterfly_member}
-use Rattle.rs_demos.specs.declared.actors.DemoActor.{DemoActor}
+use Rattle.rs_demos.specs.declared.actors.DemoTalker.{DemoTalker}
 use Rattle.rs_model.specs.declared.demos.Demo.{Demo}
 use Rattle.rs_model.specs.declared.demos.Demo.TheVariants as demo
 use Rattle.rs_demos.specs.Texts.{document_of}
@@ -46,9 +46,9 @@ few_of_butterfly n h = elim (either ((n == 2) || (n == 4)) ((n == 8) || (n == 16
   | inr k ↦ elim (either (n == 8) (n == 16) k) [ inl f ↦ let e = eq_by n 8 f in omega (arith, e) | inr f ↦ let e = eq_by n 16 f in omega (arith, e) ]
 ]
 
-pub has_session_for : (kind : Demo) (bytes : List ℕ) (actors : List DemoActor) → StartsWithActors kind bytes actors → HasSession kind (length actors)
-has_session_for demo.Double bytes actors s = subst (λ (xs : List DemoActor). HasSession demo.Double (length xs)) (sym s) (record { has = refl; roles = refl; bounded = omega arith })
-has_session_for demo.Stream bytes actors s = subst (λ (xs : List DemoActor). HasSession demo.Stream (length xs)) (sym s) (record { has = refl; roles = refl; bounded = omega arith })
+pub has_session_for : (kind : Demo) (bytes : List ℕ) (actors : List DemoTalker) → StartsWithActors kind bytes actors → HasSession kind (length actors)
+has_session_for demo.Double bytes actors s = subst (λ (xs : List DemoTalker). HasSession demo.Double (length xs)) (sym s) (record { has = refl; roles = refl; bounded = omega arith })
+has_session_for demo.Stream bytes actors s = subst (λ (xs : List DemoTalker). HasSession demo.Stream (length xs)) (sym s) (record { has = refl; roles = refl; bounded = omega arith })
 has_session_for demo.Ring bytes actors s =
     let many : length actors ≡ length s.0 = ap length s.2 ∙ length-map s.0 ring_member in
     subst (λ (n : ℕ). HasSession demo.Ring n) (sym many) (record { has = s.1.0; roles = refl; bounded = few_of_ring (length s.0) s.1.0 })
@@ -57,18 +57,18 @@ has_session_for demo.Butterfly bytes actors s =
     subst (λ (n : ℕ). HasSession demo.Butterfly n) (sym many) (record { has = s.1.0; roles = refl; bounded = few_of_butterfly (length s.0) s.1.0 })
 
 -- the document that a demo's text spells has a role for each actor
-pub role_each : (kind : Demo) (bytes : List ℕ) (actors : List DemoActor) (text : List ℕ) (d : Document_data) → Opens kind bytes actors text → SpellsDocument text d → length actors ≡ d.protocol.roles
+pub role_each : (kind : Demo) (bytes : List ℕ) (actors : List DemoTalker) (text : List ℕ) (d : Document_data) → Opens kind bytes actors text → SpellsDocument text d → length actors ≡ d.protocol.roles
 role_each kind bytes actors text d o h =
     let s = has_session_for kind bytes actors o.starts in
     sym s.roles ∙ ap (λ (x : Document_data). x.protocol.roles) (one_document text (document_of kind (length actors)) d (spelt_document kind (length actors) text s.has o.document) h)
 
 -- a demo that has actors opens, and its text spells its document
-pub record HasOpening (kind : Demo) (bytes : List ℕ) (actors : List DemoActor) : Type 0 where
+pub record HasOpening (kind : Demo) (bytes : List ℕ) (actors : List DemoTalker) : Type 0 where
   pub text : List ℕ
   pub opens : Opens kind bytes actors text
   pub spells : SpellsDocument text (document_of kind (length actors))
 
-pub some_opening : (kind : Demo) (bytes : List ℕ) (actors : List DemoActor) → StartsWithActors kind bytes actors → HasOpening kind bytes actors
+pub some_opening : (kind : Demo) (bytes : List ℕ) (actors : List DemoTalker) → StartsWithActors kind bytes actors → HasOpening kind bytes actors
 some_opening kind bytes actors starts =
     let has = (has_session_for kind bytes actors starts).has in
     let t = some_text (document_of kind (length actors)) (printable kind (length actors) has) in

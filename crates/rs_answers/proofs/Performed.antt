@@ -18,7 +18,7 @@ use Rattle.rs_answers.proofs.Opening.{HasOpening, role_each}
 use Rattle.rs_answers.proofs.RunSessions.{alone, not_there, refusal_is_alone, still_there}
 use Rattle.rs_answers.proofs.Stopping.{never_stopped}
 use Rattle.rs_demos.specs.Texts.{document_of}
-use Rattle.rs_demos.specs.declared.actors.DemoActor.{DemoActor}
+use Rattle.rs_demos.specs.declared.actors.DemoTalker.{DemoTalker}
 use Rattle.rs_documents.specs.Data.{Document_data}
 use Rattle.rs_documents.specs.Documents.{SpellsDocument}
 use Rattle.rs_model.specs.declared.demos.Demo.{Demo}
@@ -28,7 +28,7 @@ use Rattle.rs_model.specs.Data.{Machine_data, Names_data, Protocol_data}
 use Rattle.rs_safety.specs.Accepting.{Accepted_data}
 use Rattle.rs_safety.specs.Room.{room_of}
 
-module _ (kind : Demo) (ring : Option ℕ) (bytes : List ℕ) (actors : List DemoActor) (d : Document_data) (o : HasOpening kind bytes actors) (own : d ≡ document_of kind (length actors)) where
+module _ (kind : Demo) (ring : Option ℕ) (bytes : List ℕ) (actors : List DemoTalker) (d : Document_data) (o : HasOpening kind bytes actors) (own : d ≡ document_of kind (length actors)) where
   spells : SpellsDocument o.text d
   spells = subst (λ (z : Document_data). SpellsDocument o.text z) (sym own) o.spells
 
@@ -60,7 +60,7 @@ module _ (kind : Demo) (ring : Option ℕ) (bytes : List ℕ) (actors : List Dem
   unstopped x is few capacity role end = never_stopped kind bytes actors o.text d x.session.projections x.session.machines capacity role end few o.opens spells is.has
 
   -- it is ready to be run
-  pub demo_leads : (workers : Workers) (x : AcceptedDocument) (ready : Ready DemoActor) → IsAcceptedDocument DEFAULT_BOUND d x → ready.actors.items ≡ actors → ready.names ≡ x.names
+  pub demo_leads : (workers : Workers) (x : AcceptedDocument) (ready : Ready DemoTalker) → IsAcceptedDocument DEFAULT_BOUND d x → ready.actors.items ≡ actors → ready.names ≡ x.names
       → ready.session ≡ x.session
       → ready.capacity ≡ capacity_of ring (room_of x.session.derivations) → IsReadyDemo ready → (IsReadyDemo ready → IsReadyFor workers (prepared.Demo kind ready))
       → Warrants workers (prepared.Demo kind ready) (GivesDemo kind ring bytes)
@@ -79,12 +79,12 @@ module _ (kind : Demo) (ring : Option ℕ) (bytes : List ℕ) (actors : List Dem
     );
   }
     where
-      asked : (T : Names_data → List DemoActor → List Machine_data → ℕ → Type 0) → T ready.names ready.actors.items ready.session.machines ready.capacity
+      asked : (T : Names_data → List DemoTalker → List Machine_data → ℕ → Type 0) → T ready.names ready.actors.items ready.session.machines ready.capacity
           → T d.names actors x.session.machines (capacity_of ring (room_of x.session.derivations))
       asked T h =
           subst (λ (z : ℕ). T d.names actors x.session.machines z) capacity
           (subst (λ (z : List Machine_data). T d.names actors z ready.capacity) (ap (λ (z : Accepted_data). z.machines) session)
-          (subst (λ (z : List DemoActor). T d.names z ready.session.machines ready.capacity) acting
+          (subst (λ (z : List DemoTalker). T d.names z ready.session.machines ready.capacity) acting
           (subst (λ (z : Names_data). T z ready.actors.items ready.session.machines ready.capacity) (names ∙ is.names) h)))
 
       enough : room_of x.session.derivations ≤ capacity_of ring (room_of x.session.derivations)

@@ -10,7 +10,7 @@ use Rattle.rs_answers.proofs.DemoEndings.{never_stuck, some_performing}
 use Rattle.rs_answers.proofs.Opening.{some_opening}
 use Rattle.rs_demos.specs.Starts.{StartsWithActors}
 use Rattle.rs_demos.specs.Texts.{document_of}
-use Rattle.rs_demos.specs.declared.actors.DemoActor.{DemoActor}
+use Rattle.rs_demos.specs.declared.actors.DemoTalker.{DemoTalker}
 use Rattle.rs_model.specs.declared.demos.Demo.{Demo}
 use Rattle.rs_demos.proofs.Deciding.{actors_or_none}
 use Rattle.rs_documents.specs.Data.{Document_data}
@@ -20,7 +20,7 @@ use Rattle.rs_safety.specs.Room.{room_of}
 use Rattle.rs_wellformed.specs.Faults.{first_fault}
 use Rattle.rs_model.specs.declared.limits.TheConstants.{DEFAULT_BOUND}
 
-some_own : (kind : Demo) (ring : Option ℕ) (actors : List DemoActor) (text : List ℕ) (d : Document_data) → SpellsDocument text d → Prepared DEFAULT_BOUND d
+some_own : (kind : Demo) (ring : Option ℕ) (actors : List DemoTalker) (text : List ℕ) (d : Document_data) → SpellsDocument text d → Prepared DEFAULT_BOUND d
     → (a : Answer_data) × AnswersOwn kind ring actors d a
 some_own kind ring actors text d doc (NotSo why h) = (refusal_answer d.names why, IsRefused why h refl)
 some_own kind ring actors text d doc (Derived ps ms ds h found) =
@@ -29,7 +29,7 @@ some_own kind ring actors text d doc (Derived ps ms ds h found) =
     let p = some_performing kind ring actors d.names ms ds safe session.machines_fit (λ enough. never_stuck text d ps ms ds actors (capacity_of ring (room_of ds)) doc h found enough) in
     (p.answer, IsAccepted ps ms ds h found p.performs)
 
-some_played : (kind : Demo) (ring : Option ℕ) (bytes : List ℕ) (actors : List DemoActor) → StartsWithActors kind bytes actors → (a : Answer_data) × AnswersDemo kind ring bytes a
+some_played : (kind : Demo) (ring : Option ℕ) (bytes : List ℕ) (actors : List DemoTalker) → StartsWithActors kind bytes actors → (a : Answer_data) × AnswersDemo kind ring bytes a
 some_played kind ring bytes actors s =
     let o = some_opening kind bytes actors s in
     let d = document_of kind (length actors) in

@@ -9,7 +9,7 @@ use Rattle.rs_answers.proofs.Opening.{has_session_for}
 use Rattle.rs_answers.proofs.Performing.{given}
 use Rattle.rs_demos.specs.Acting.{by_demo}
 use Rattle.rs_demos.specs.Texts.{document_of}
-use Rattle.rs_demos.specs.declared.actors.DemoActor.{DemoActor}
+use Rattle.rs_demos.specs.declared.actors.DemoTalker.{DemoTalker}
 use Rattle.rs_demos.proofs.FewActs.{low_limit}
 use Rattle.rs_demos.proofs.SpeltDocuments.{spelt_document}
 use Rattle.rs_documents.specs.Data.{Document_data}
@@ -20,8 +20,8 @@ use Rattle.rs_model.specs.declared.limits.TheConstants.{MOST_BYTES}
 use Rattle.rs_model.specs.declared.demos.Demo.{Demo}
 use Rattle.rs_project.specs.Data.{Projection_data}
 
-pub never_stopped : (kind : Demo) (bytes : List ℕ) (actors : List DemoActor) (text : List ℕ) (d : Document_data) (ps : List Projection_data) (ms : List Machine_data) (capacity : Option ℕ) (role : ℕ)
-    (end : Moment DemoActor)
+pub never_stopped : (kind : Demo) (bytes : List ℕ) (actors : List DemoTalker) (text : List ℕ) (d : Document_data) (ps : List Projection_data) (ms : List Machine_data) (capacity : Option ℕ) (role : ℕ)
+    (end : Moment DemoTalker)
     → length bytes ≤ MOST_BYTES → Opens kind bytes actors text → SpellsDocument text d → HasMachines d ps ms → IsPlain ms by_demo (actor_at actors) DEMO_LIMIT capacity (Stopped role end) → ⊥
 never_stopped kind bytes actors text d ps ms capacity role end few o doc h plain =
     let s = has_session_for kind bytes actors o.starts in

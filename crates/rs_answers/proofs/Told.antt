@@ -20,9 +20,9 @@ use Rattle.rs_core.specs.Draws.{by_draws}
 use Rattle.rs_core.specs.Plain.{Ending, IsPlain}
 use Rattle.rs_core.specs.Runs.{EndingShows, IsFullAt, IsGiven}
 use Rattle.rs_core.specs.declared.runs.Outcome.{Outcome}
-use Rattle.rs_demos.specs.Acting.{by_demo}
-use Rattle.rs_demos.specs.Choosing.{chooses_well_shown}
-use Rattle.rs_demos.specs.declared.actors.DemoActor.{DemoActor}
+use Rattle.rs_demos.specs.Acting.{by_demo, demo_conduct}
+use Rattle.rs_actors.specs.Choosing.{chooses_by_sorts}
+use Rattle.rs_demos.specs.declared.actors.DemoTalker.{DemoTalker}
 use Rattle.rs_exec.proofs.NeverFull.{never_stuck_shown}
 use Rattle.rs_exec.specs.Runs.{IsSessionOfRun}
 use Rattle.rs_model.specs.declared.demos.Demo.{Demo}
@@ -76,7 +76,7 @@ told_full ready capacity sender receiver sent taken r s same full is told =
 
 -- ---- of a demo
 
-module _ (kind : Demo) (ready : Ready DemoActor) (fit : IsReadyDemo ready) (accepted : IsAcceptedSession ready.session) (closed : Closed_data) (x : Outcome) (left : List DemoActor)
+module _ (kind : Demo) (ready : Ready DemoTalker) (fit : IsReadyDemo ready) (accepted : IsAcceptedSession ready.session) (closed : Closed_data) (x : Outcome) (left : List DemoTalker)
     (session : IsSessionOfRun ready.session.machines by_demo ready.actors.items ready.limit closed x left) where
   handed_demo : (g : AnswerWithSession) → g.answer ≡ demo_outcome_answer kind ready.names x left → g.closed ≡ Some closed
       → IsThereWhere (HasCome g.answer.verdict) (WasRunByActors kind ready.actors.items ready.names ready.session.machines g.answer) g.closed
@@ -88,22 +88,22 @@ module _ (kind : Demo) (ready : Ready DemoActor) (fit : IsReadyDemo ready) (acce
       )
 
   pub performed_alone : (capacity : ℕ) (r : Result AnswerWithSession NoMemory) → capacity ≡ ready.capacity
-      → ((given : ℕ → DemoActor) → IsGiven given ready.actors.items
-      → (o : Ending DemoActor) × IsPlain ready.session.machines by_demo given ready.limit (Some capacity) o × EndingShows (length ready.session.machines) o x left)
+      → ((given : ℕ → DemoTalker) → IsGiven given ready.actors.items
+      → (o : Ending DemoTalker) × IsPlain ready.session.machines by_demo given ready.limit (Some capacity) o × EndingShows (length ready.session.machines) o x left)
       → IfOk r (λ a. a.answer ≡ demo_outcome_answer kind ready.names x left) → IfOk r (λ a. a.closed ≡ Some closed) → IfOk r (ComesOf One (prepared.Demo kind ready))
   performed_alone capacity r same plain =
-      let P : ℕ → ℕ → Type 0 = λ l c. (o : Ending DemoActor) × IsPlain ready.session.machines by_demo (actor_at ready.actors.items) l (Some c) o
+      let P : ℕ → ℕ → Type 0 = λ l c. (o : Ending DemoTalker) × IsPlain ready.session.machines by_demo (actor_at ready.actors.items) l (Some c) o
       × EndingShows (length ready.session.machines) o x left in
       let told_of = subst (λ (l : ℕ). P l ready.capacity) fit.limit (subst (λ (c : ℕ). P ready.limit c) same (plain (actor_at ready.actors.items) (performing.given ready.actors.items))) in
       both_ok r _ _ _ (λ g told there. (performing.told kind ready.actors.items ready.names ready.session.machines ready.capacity x left g.answer told_of told, handed_demo g told there))
 
   pub performed_by_crew : (crew : ℕ) (r : Result AnswerWithSession NoMemory) → NeverStopped ready.actors.items ready.session.machines
-      → ((given : ℕ → DemoActor) → IsGiven given ready.actors.items → AgreesWithPlain ready.session.machines by_demo given ready.limit x left)
+      → ((given : ℕ → DemoTalker) → IsGiven given ready.actors.items → AgreesWithPlain ready.session.machines by_demo given ready.limit x left)
       → IfOk r (λ a. a.answer ≡ demo_outcome_answer kind ready.names x left) → IfOk r (λ a. a.closed ≡ Some closed) → IfOk r (ComesOf (Several crew) (prepared.Demo kind ready))
   performed_by_crew crew r never agrees =
       let given = actor_at ready.actors.items in
       let P : ℕ → Type 0 = λ l. AgreesWithPlain ready.session.machines by_demo given l x left in
-      let told_of = over_rings by_demo ready.session.machines given DEMO_LIMIT chooses_well_shown accepted.safe accepted.is_session.machines_fit ready.capacity x left
+      let told_of = over_rings by_demo ready.session.machines given DEMO_LIMIT (chooses_by_sorts demo_conduct) accepted.safe accepted.is_session.machines_fit ready.capacity x left
       (λ k p. never_stuck_shown by_demo ready.session given DEMO_LIMIT ready.capacity k accepted fit.room p, λ role k p. never (Some ready.capacity) role k p)
       (subst P fit.limit (agrees given (performing.given ready.actors.items))) in
       both_ok r _ _ _ (λ g told there. (performing.told kind ready.actors.items ready.names ready.session.machines ready.capacity x left g.answer told_of told, handed_demo g told there))

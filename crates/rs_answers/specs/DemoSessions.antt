@@ -11,7 +11,7 @@ use Rattle.rs_answers.specs.Demos.{AnswersDemo, Opens, actor_at, demo_outcome_an
 use Rattle.rs_answers.specs.declared.answers.AnswerWithSession.{AnswerWithSession}
 use Rattle.rs_answers.specs.declared.limits.TheConstants.{DEMO_LIMIT}
 use Rattle.rs_demos.specs.Acting.{by_demo}
-use Rattle.rs_demos.specs.declared.actors.DemoActor.{DemoActor}
+use Rattle.rs_demos.specs.declared.actors.DemoTalker.{DemoTalker}
 use Rattle.rs_documents.specs.Data.{Document_data}
 use Rattle.rs_documents.specs.Documents.{SpellsDocument}
 use Rattle.rs_exec.specs.Runs.{IsOutcomeOf}
@@ -22,16 +22,16 @@ use Rattle.rs_rings.specs.Closed.{Closed_data}
 
 -- what is told is an outcome to which the histories come: all have ended, and what is printed is that of what the actors have
 -- become; or the role that is named has as many acts as the limit, and hasn't ended
-abbrev pub DemoComesTo : Demo → Names_data → List Machine_data → Answer_data → (ℕ → History) → Configuration → (ℕ → DemoActor) → Type 0
+abbrev pub DemoComesTo : Demo → Names_data → List Machine_data → Answer_data → (ℕ → History) → Configuration → (ℕ → DemoTalker) → Type 0
 DemoComesTo kind names machines answer history end after =
-    (o : Outcome) × (left : List DemoActor) × IsOutcomeOf machines DEMO_LIMIT history end o × HasActors (length machines) after left × (answer ≡ demo_outcome_answer kind names o left)
+    (o : Outcome) × (left : List DemoTalker) × IsOutcomeOf machines DEMO_LIMIT history end o × HasActors (length machines) after left × (answer ≡ demo_outcome_answer kind names o left)
 
 -- the session is the run of these machines by these actors, and comes to what is told
-abbrev pub WasRunByActors : Demo → List DemoActor → Names_data → List Machine_data → Answer_data → Closed_data → Type 0
+abbrev pub WasRunByActors : Demo → List DemoTalker → Names_data → List Machine_data → Answer_data → Closed_data → Type 0
 WasRunByActors kind actors names machines answer = WasRun machines by_demo (actor_at actors) DEMO_LIMIT (DemoComesTo kind names machines answer)
 
 -- the session is the run of the machines of this document by these actors, and comes to what is told
-pub record WasRunOn (kind : Demo) (actors : List DemoActor) (d : Document_data) (answer : Answer_data) (closed : Closed_data) : Type 0 where
+pub record WasRunOn (kind : Demo) (actors : List DemoTalker) (d : Document_data) (answer : Answer_data) (closed : Closed_data) : Type 0 where
   pub projections : List Projection_data
   pub machines : List Machine_data
   pub has : HasMachines d projections machines
@@ -39,7 +39,7 @@ pub record WasRunOn (kind : Demo) (actors : List DemoActor) (d : Document_data) 
 
 -- the session is the run of the demo's own document, by the actors that the bytes ask for
 pub record WasPerformed (kind : Demo) (bytes : List ℕ) (answer : Answer_data) (closed : Closed_data) : Type 0 where
-  pub actors : List DemoActor
+  pub actors : List DemoTalker
   pub text : List ℕ
   pub document : Document_data
   pub opens : Opens kind bytes actors text

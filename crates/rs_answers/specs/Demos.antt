@@ -17,8 +17,8 @@ use Rattle.rs_demos.specs.Acting.{by_demo}
 use Rattle.rs_demos.specs.Outputs.{output_of}
 use Rattle.rs_demos.specs.Starts.{HasNoNumbers, StartsWithActors}
 use Rattle.rs_demos.specs.Texts.{IsDemoText}
-use Rattle.rs_demos.specs.declared.actors.DemoActor.{DemoActor}
-use Rattle.rs_demos.specs.declared.actors.DemoActor.TheVariants as actor
+use Rattle.rs_demos.specs.declared.actors.DemoTalker.{DemoTalker}
+use Rattle.rs_demos.specs.declared.actors.DemoTalker.TheVariants as actor
 use Rattle.rs_derive.specs.Data.{Derivation_data}
 use Rattle.rs_documents.specs.Data.{Document_data}
 use Rattle.rs_documents.specs.Documents.{SpellsDocument}
@@ -33,34 +33,34 @@ abbrev pub bad_numbers : Answer_data
 bad_numbers = malformed_answer (codes "numbers")
 
 -- all roles have ended: what is printed of their actors
-abbrev pub demo_ended_answer : Demo → List DemoActor → Answer_data
+abbrev pub demo_ended_answer : Demo → List DemoTalker → Answer_data
 demo_ended_answer kind actors = record { text = output_of kind actors; verdict = verdict.Fine }
 
 -- what a run came to, with the actors that it left
-abbrev pub demo_outcome_answer : Demo → Names_data → Outcome → List DemoActor → Answer_data
+abbrev pub demo_outcome_answer : Demo → Names_data → Outcome → List DemoTalker → Answer_data
 demo_outcome_answer kind names (outcome.Ended transcripts) left = demo_ended_answer kind left
 demo_outcome_answer kind names (outcome.Stopped role) left = stopped_answer names role
 
 -- the actor of a role; behind the last role there is none, and a sink stands for it
-abbrev pub actor_at : List DemoActor → ℕ → DemoActor
+abbrev pub actor_at : List DemoTalker → ℕ → DemoTalker
 actor_at actors role = get_or actors role (actor.Sink [])
 
 -- what is told of the end of a run. There is no row for a run in which no role can move: where the rings hold as many
 -- messages as the room says, there is none
-pub data TellsDemoEnd (kind : Demo) (names : Names_data) (roles : ℕ) (answer : Answer_data) : Ending DemoActor → Type 0 where
-  HasEnded : (end : Moment DemoActor) (actors : List DemoActor) → HasActors roles end.actor actors → answer ≡ demo_ended_answer kind actors
+pub data TellsDemoEnd (kind : Demo) (names : Names_data) (roles : ℕ) (answer : Answer_data) : Ending DemoTalker → Type 0 where
+  HasEnded : (end : Moment DemoTalker) (actors : List DemoTalker) → HasActors roles end.actor actors → answer ≡ demo_ended_answer kind actors
       → TellsDemoEnd kind names roles answer (Ended end)
-  IsStopped : (role : ℕ) (end : Moment DemoActor) → answer ≡ stopped_answer names (record { 0 = role })
+  IsStopped : (role : ℕ) (end : Moment DemoTalker) → answer ≡ stopped_answer names (record { 0 = role })
       → TellsDemoEnd kind names roles answer (Stopped role end)
 
 -- what is told of the plain run of the machines, by these actors and with rings of this capacity
-pub record TellsDemoRun (kind : Demo) (actors : List DemoActor) (names : Names_data) (machines : List Machine_data) (capacity : ℕ) (answer : Answer_data) : Type 0 where
-  pub end : Ending DemoActor
+pub record TellsDemoRun (kind : Demo) (actors : List DemoTalker) (names : Names_data) (machines : List Machine_data) (capacity : ℕ) (answer : Answer_data) : Type 0 where
+  pub end : Ending DemoTalker
   pub plain : IsPlain machines by_demo (actor_at actors) DEMO_LIMIT (Some capacity) end
   pub tells : TellsDemoEnd kind names (length machines) answer end
 
 -- what is answered to an accepted session
-pub data Performs (kind : Demo) (ring : Option ℕ) (actors : List DemoActor) (names : Names_data) (machines : List Machine_data) (derivations : List Derivation_data) (answer : Answer_data)
+pub data Performs (kind : Demo) (ring : Option ℕ) (actors : List DemoTalker) (names : Names_data) (machines : List Machine_data) (derivations : List Derivation_data) (answer : Answer_data)
     : Type 0 where
   -- the rings are too small
   IsTooSmall : capacity_of ring (room_of derivations) < room_of derivations → answer ≡ too_small (capacity_of ring (room_of derivations)) (room_of derivations)
@@ -70,7 +70,7 @@ pub data Performs (kind : Demo) (ring : Option ℕ) (actors : List DemoActor) (n
       → Performs kind ring actors names machines derivations answer
 
 -- what is answered to the demo's own document
-pub data AnswersOwn (kind : Demo) (ring : Option ℕ) (actors : List DemoActor) (d : Document_data) (answer : Answer_data) : Type 0 where
+pub data AnswersOwn (kind : Demo) (ring : Option ℕ) (actors : List DemoTalker) (d : Document_data) (answer : Answer_data) : Type 0 where
   -- it is refused
   IsRefused : (refusal : Refusal) → HasNoDerivations DEFAULT_BOUND d refusal → answer ≡ refusal_answer d.names refusal → AnswersOwn kind ring actors d answer
   -- its session is accepted
@@ -78,7 +78,7 @@ pub data AnswersOwn (kind : Demo) (ring : Option ℕ) (actors : List DemoActor) 
       → AreCanonical DEFAULT_BOUND machines projections derivations → Performs kind ring actors d.names machines derivations answer → AnswersOwn kind ring actors d answer
 
 -- what a demo opens with: the actors that the bytes ask for, and the text of the demo's document for as many roles
-pub record Opens (kind : Demo) (bytes : List ℕ) (actors : List DemoActor) (text : List ℕ) : Type 0 where
+pub record Opens (kind : Demo) (bytes : List ℕ) (actors : List DemoTalker) (text : List ℕ) : Type 0 where
   pub starts : StartsWithActors kind bytes actors
   pub document : IsDemoText kind (length actors) text
 
@@ -87,5 +87,5 @@ pub data AnswersDemo (kind : Demo) (ring : Option ℕ) (bytes : List ℕ) (answe
   -- they aren't the numbers that it asks for
   HasBadNumbers : HasNoNumbers kind bytes → answer ≡ bad_numbers → AnswersDemo kind ring bytes answer
   -- the text of its document spells a document
-  IsDocument : (actors : List DemoActor) (text : List ℕ) (d : Document_data) → Opens kind bytes actors text → SpellsDocument text d → AnswersOwn kind ring actors d answer
+  IsDocument : (actors : List DemoTalker) (text : List ℕ) (d : Document_data) → Opens kind bytes actors text → SpellsDocument text d → AnswersOwn kind ring actors d answer
       → AnswersDemo kind ring bytes answer

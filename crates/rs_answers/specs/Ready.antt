@@ -3,7 +3,7 @@ use Rattle.std.specs.Prelude.{◌≡◌, ◌≤◌, ℕ, List, length, Option, N
 use Rattle.rs_core.specs.Plain.{Moment, Stopped, IsPlain}
 use Rattle.rs_core.specs.Runs.{IsGiven}
 use Rattle.rs_demos.specs.Acting.{by_demo}
-use Rattle.rs_demos.specs.declared.actors.DemoActor.{DemoActor}
+use Rattle.rs_demos.specs.declared.actors.DemoTalker.{DemoTalker}
 use Rattle.rs_model.specs.Data.{Machine_data, Names_data}
 use Rattle.rs_model.specs.declared.runs.Workers.{Workers}
 use Rattle.rs_model.specs.declared.runs.Workers.TheVariants.{One, Several}
@@ -21,8 +21,8 @@ use Rattle.rs_answers.specs.declared.ready.Prepared.TheVariants.{Answered, Run, 
 use Rattle.rs_answers.specs.declared.ready.Ready.{Ready}
 
 -- no role is stopped at its limit in a run of these machines by these actors, over queues of any capacity or of none
-abbrev pub NeverStopped : List DemoActor → List Machine_data → Type 0
-NeverStopped actors machines = (capacity : Option ℕ) (role : ℕ) (end : Moment DemoActor) → IsPlain machines by_demo (actor_at actors) DEMO_LIMIT capacity (Stopped role end) → ⊥
+abbrev pub NeverStopped : List DemoTalker → List Machine_data → Type 0
+NeverStopped actors machines = (capacity : Option ℕ) (role : ℕ) (end : Moment DemoTalker) → IsPlain machines by_demo (actor_at actors) DEMO_LIMIT capacity (Stopped role end) → ⊥
 
 -- there is an actor for each role
 abbrev pub HasActorEach : {A : Type 0} → Ready A → Type 0
@@ -33,7 +33,7 @@ abbrev pub HasRoomForAll : {A : Type 0} → Ready A → Type 0
 HasRoomForAll ready = room_of ready.session.derivations ≤ ready.capacity
 
 -- a demo that is ready: its rings are large enough, and its limit is that of demos
-pub record IsReadyDemo (ready : Ready DemoActor) : Type 0 where
+pub record IsReadyDemo (ready : Ready DemoTalker) : Type 0 where
   pub actors : HasActorEach ready
   pub room : HasRoomForAll ready
   pub limit : ready.limit ≡ DEMO_LIMIT

@@ -31,7 +31,7 @@ ghost use Rattle.rs_answers.specs.Demos.{AnswersDemo, Opens, actor_at};
 ghost use Rattle.rs_answers.specs.declared.limits.TheConstants.{DEMO_LIMIT};
 ghost use Rattle.rs_demos.specs.Acting.{by_demo};
 ghost use Rattle.rs_demos.specs.Results.{Computes};
-ghost use Rattle.rs_demos.specs.declared.actors.DemoActor.{DemoActor};
+ghost use Rattle.rs_demos.specs.declared.actors.DemoTalker.{DemoTalker};
 ghost use Rattle.rs_model.specs.declared.limits.TheConstants.{MOST_BYTES, DEFAULT_BOUND};
 ghost use Rattle.rs_model.specs.Limits.{IsBound};
 ghost use Rattle.rs_model.specs.declared.demos.Demo.{Demo};
@@ -102,8 +102,8 @@ pub fn improved_text_is_verified()
 /// In a run over rings that hold as many messages as the room of the session says, some role can always move until all
 /// have ended.
 pub fn runs_of_demos_are_never_stuck()
-    ensures { (text : List ℕ) (d : Document_data) (projections : List Projection_data) (machines : List Machine_data) (derivations : List Derivation_data) (actors : List DemoActor) (capacity : ℕ)
-        (end : Moment DemoActor)
+    ensures { (text : List ℕ) (d : Document_data) (projections : List Projection_data) (machines : List Machine_data) (derivations : List Derivation_data) (actors : List DemoTalker) (capacity : ℕ)
+        (end : Moment DemoTalker)
         → SpellsDocument text d → HasMachines d projections machines → AreCanonical DEFAULT_BOUND machines projections derivations → room_of derivations ≤ capacity
         → IsPlain machines by_demo (actor_at actors) DEMO_LIMIT (Some capacity) (Stuck end) → ⊥ }
 {}
@@ -111,8 +111,8 @@ pub fn runs_of_demos_are_never_stuck()
 /// No role is stopped in a run of a demo's own machines with the actors of bytes within the limit, over queues of any
 /// capacity: none makes as many acts as the limit says.
 pub fn runs_of_demos_are_never_stopped()
-    ensures { (kind : Demo) (bytes : List ℕ) (actors : List DemoActor) (text : List ℕ) (d : Document_data) (projections : List Projection_data) (machines : List Machine_data) (capacity : Option ℕ)
-        (role : ℕ) (end : Moment DemoActor)
+    ensures { (kind : Demo) (bytes : List ℕ) (actors : List DemoTalker) (text : List ℕ) (d : Document_data) (projections : List Projection_data) (machines : List Machine_data) (capacity : Option ℕ)
+        (role : ℕ) (end : Moment DemoTalker)
         → length bytes ≤ MOST_BYTES → Opens kind bytes actors text → SpellsDocument text d → HasMachines d projections machines
         → IsPlain machines by_demo (actor_at actors) DEMO_LIMIT capacity (Stopped role end) → ⊥ }
 {}

@@ -34,10 +34,12 @@ pub use improving::improve_role;
 pub use limits::DEMO_LIMIT;
 pub use migrating::migrate;
 pub use ready::{Prepared, Ready};
-pub use refusal_texts::{answer_to_fault, line_of_answer, too_large, too_small, usage};
+pub use refusal_texts::{
+    answer_to_fault, label_name, line_of_answer, role_name, too_large, too_small, usage,
+};
 pub use refusals::{Refusal, refusal_answer};
 pub use running::{run_alone, run_by_crew};
-pub use runs::ready_run;
+pub use runs::{outcome_answer, ready_run};
 pub use sessions::{ProjectedSession, first_refusal, machines_of, projections_of, session_of};
 pub use shown::show;
 pub use tables::project_all;

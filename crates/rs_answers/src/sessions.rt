@@ -5,7 +5,7 @@ ghost use Rattle.std.specs.List.{All};
 ghost use Rattle.rs_project.specs.Numbered.{AreNumberedProjections};
 ghost use Rattle.rs_documents.specs.Ready.{DocumentIsReady};
 ghost use Rattle.rs_answers.specs.Refusals.{HasNoSession};
-ghost use Rattle.rs_answers.specs.Sessions.{HasMachines, Refuses, first_refusal, machine_or, machines_of};
+ghost use Rattle.rs_answers.specs.Sessions.{HasMachines, OthersHaveNoFault, Refuses, first_refusal, machine_or, machines_of};
 ghost use Rattle.rs_wellformed.specs.WellFormed.{IsWellFormed};
 
 use crate::refusals::Refusal;
@@ -70,13 +70,22 @@ pub fn machines_of(
     Ok(machines)
 }
 
-/// The first machine among so many roles that isn't well formed: its role and its first fault.
-pub fn first_refusal(machines: &[Machine], roles: u8) -> Option<(Role, MachineFault)>
-    requires { All (λ m. length m.states < 2 ^ 32) machines.now }
+/// The first machine among so many roles that isn't well formed: its role and its first fault. Only the roles' own machines
+/// are tested, since the others are projections.
+pub fn first_refusal(
+    own: &[Option<Machine>],
+    machines: &[Machine],
+    roles: u8,
+) -> Option<(Role, MachineFault)>
+    requires small { All (λ m. length m.states < 2 ^ 32) machines.now }
+    requires others { OthersHaveNoFault roles own.now machines.now }
     ensures some { IfSome result (λ r. first_refusal roles machines.now ≡ Some (record { role = r.0; fault = r.1 })) }
     ensures none { IfNone result (first_refusal roles machines.now ≡ None) }
 {
-    for machine in machines {
+    for (place, machine) in machines.iter().enumerate() {
+        if let Some(None) = own.get(place) {
+            continue;
+        }
         if let Err(fault) = machine.check(roles) {
             return Some((machine.role, fault));
         }
@@ -93,8 +102,9 @@ pub fn session_of(alloc: Global, document: &Document) -> Result<ProjectedSession
     let protocol = &document.protocol;
     well_formed(protocol)?;
     let projections = projections_of(alloc, protocol)?;
-    let machines = machines_of(alloc, document.machines.as_slice(), projections.as_slice())?;
-    match first_refusal(machines.as_slice(), protocol.roles) {
+    let own = document.machines.as_slice();
+    let machines = machines_of(alloc, own, projections.as_slice())?;
+    match first_refusal(own, machines.as_slice(), protocol.roles) {
         Some((role, fault)) => Err(Refusal::IllMachine { role, fault }),
         None => Ok(ProjectedSession {
             projections,

@@ -17,7 +17,7 @@ use Rattle.rs_demos.specs.Outputs.{output_of, result_of}
 use Rattle.rs_demos.specs.Results.{Computes, results_text, transform_at, transform_of, in_64_bits}
 use Rattle.rs_demos.specs.Sessions.{demo_machines, butterfly_machine, butterfly_pairs, states_from, Exchange}
 use Rattle.rs_demos.specs.Starts.{StartsWithActors, butterfly_member}
-use Rattle.rs_demos.specs.declared.actors.DemoActor.{DemoActor}
+use Rattle.rs_demos.specs.declared.actors.DemoTalker.{DemoTalker}
 use Rattle.rs_demos.proofs.Exchanged.{member, pairs_of, are_good, Silent, Queues, Stage, held_at_end, at_the_end, sum_at_end, wrapped_at_end}
 use Rattle.rs_demos.proofs.Ran.{Ran, ran, playing}
 use Rattle.rs_demos.proofs.Ranges.{mapped_at}
@@ -209,7 +209,7 @@ actor_of zs i h =
     mapped butterfly_member (enumerate_from 0 zs) i (0 + i, get_or zs i (pos 0)) (numbered_at 0 zs i h) ∙ ap (λ (k : ℕ). Some (member k (get_or zs i (pos 0)))) e
 
 -- what the members hold at the end
-left : (n : ℕ) (ss : List ℕ) (zs : List ℤ) (actors : List DemoActor) (given : ℕ → DemoActor) (end : Moment DemoActor)
+left : (n : ℕ) (ss : List ℕ) (zs : List ℤ) (actors : List DemoTalker) (given : ℕ → DemoTalker) (end : Moment DemoTalker)
     → are_good n ss ≡ true → ((i : ℕ) → butterfly_pairs n i ≡ pairs_of ss i) → length zs ≡ n → actors ≡ map butterfly_member (enumerate_from 0 zs) → IsGiven given actors
     → Ran (demo_machines demo.Butterfly n) given end → (i : ℕ) → i < n
     → (bits : ℕ) × (member bits (held_at_end ss (λ (j : ℕ). j) (λ (j : ℕ). get_or zs j (pos 0)) i) ≡ end.actor i)
@@ -221,7 +221,7 @@ left n ss zs actors given end good pairs many is g r = at_the_end n ss (λ (j : 
     stage : Stage n ss (λ (j : ℕ). j) (λ (j : ℕ). get_or zs j (pos 0)) end.history end.actor
     stage i lt =
         let there = machine_of n i lt in
-        let x : given i ≡ member i (get_or zs i (pos 0)) = g i (member i (get_or zs i (pos 0))) (ap (λ (z : List DemoActor). slice_get z i) is ∙ actor_of zs i (omega (arith, many))) in
+        let x : given i ≡ member i (get_or zs i (pos 0)) = g i (member i (get_or zs i (pos 0))) (ap (λ (z : List DemoTalker). slice_get z i) is ∙ actor_of zs i (omega (arith, many))) in
         let tr = trades (end.history i) (butterfly_pairs n i) (butterfly_machine n i) 0 (member i (get_or zs i (pos 0))) (end.at.at i) (end.actor i) refl
         (start_states (butterfly_machine n i) (butterfly_pairs n i) refl) (playing (demo_machines demo.Butterfly n) given end i (butterfly_machine n i) (member i (get_or zs i (pos 0))) r there x)
         (r.over i (butterfly_machine n i) there) in
@@ -229,7 +229,7 @@ left n ss zs actors given end good pairs many is g r = at_the_end n ss (λ (j : 
         record { before = []; later = end.history i; split = refl; trades = subst P (pairs i) tr; silent = nothing_yet ss i }
 
 -- the results in role order
-results : (n : ℕ) (ss : List ℕ) (zs : List ℤ) (bytes : List ℕ) (actors after : List DemoActor) (given : ℕ → DemoActor) (end : Moment DemoActor)
+results : (n : ℕ) (ss : List ℕ) (zs : List ℤ) (bytes : List ℕ) (actors after : List DemoTalker) (given : ℕ → DemoTalker) (end : Moment DemoTalker)
     → are_good n ss ≡ true → ((i : ℕ) → butterfly_pairs n i ≡ pairs_of ss i) → ((i : ℕ) → i < n → Row ss zs i) → length zs ≡ n → SpellsNumbers zs bytes
     → actors ≡ map butterfly_member (enumerate_from 0 zs) → IsGiven given actors → Ran (demo_machines demo.Butterfly n) given end → HasActors n end.actor after
     → map result_of after ≡ transform_of zs
@@ -267,7 +267,7 @@ counts n h = elim (either ((n == 2) || (n == 4)) ((n == 8) || (n == 16)) h) [
   | inr k ↦ elim (either (n == 8) (n == 16) k) [ inl e ↦ Eight (eq_by n 8 e) | inr e ↦ Sixteen (eq_by n 16 e) ]
 ]
 
-by_count : (n : ℕ) (zs : List ℤ) (bytes : List ℕ) (actors after : List DemoActor) (given : ℕ → DemoActor) (end : Moment DemoActor)
+by_count : (n : ℕ) (zs : List ℤ) (bytes : List ℕ) (actors after : List DemoTalker) (given : ℕ → DemoTalker) (end : Moment DemoTalker)
     → Counts n → length zs ≡ n → SpellsNumbers zs bytes → actors ≡ map butterfly_member (enumerate_from 0 zs) → IsGiven given actors
     → Ran (demo_machines demo.Butterfly n) given end → HasActors n end.actor after → map result_of after ≡ transform_of zs
 by_count n zs bytes actors after given end (Two e) many s is g r has =
@@ -287,7 +287,7 @@ by_count n zs bytes actors after given end (Sixteen e) many s is g r has =
     let Q : ℕ → Type 0 = λ k. HasActors k end.actor after in
     results 16 (1 ∷ 2 ∷ 4 ∷ 8 ∷ []) zs bytes actors after given end refl (λ i. refl) (all_rows_16 zs (many ∙ e)) (many ∙ e) s is g (subst P e r) (subst Q e has)
 
-pub butterfly_run : (bytes : List ℕ) (actors after : List DemoActor) (given : ℕ → DemoActor) (limit : ℕ) (capacity : Option ℕ) (end : Moment DemoActor)
+pub butterfly_run : (bytes : List ℕ) (actors after : List DemoTalker) (given : ℕ → DemoTalker) (limit : ℕ) (capacity : Option ℕ) (end : Moment DemoTalker)
     → StartsWithActors demo.Butterfly bytes actors → IsGiven given actors → IsPlain (demo_machines demo.Butterfly (length actors)) by_demo given limit capacity (Ended end)
     → HasActors (length actors) end.actor after → Computes demo.Butterfly bytes (output_of demo.Butterfly after)
 butterfly_run bytes actors after given limit capacity end s g is has =

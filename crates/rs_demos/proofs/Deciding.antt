@@ -10,8 +10,8 @@ use Rattle.std.proofs.lemmas.Str.Parse.{digit_from_value}
 use Rattle.rs_demos.specs.Numbers.{AreAsked, IsNumber, SpellsNumbers, minus_text, takes_numbers, with_sign}
 use Rattle.rs_demos.specs.Reading.{behind_blanks, word_len}
 use Rattle.rs_demos.specs.Starts.{HasNoNumbers, StartsWithActors, butterfly_member, ring_member}
-use Rattle.rs_demos.specs.declared.actors.DemoActor.{DemoActor}
-use Rattle.rs_demos.specs.declared.actors.DemoActor.TheVariants as actor
+use Rattle.rs_demos.specs.declared.actors.DemoTalker.{DemoTalker}
+use Rattle.rs_demos.specs.declared.actors.DemoTalker.TheVariants as actor
 use Rattle.rs_model.specs.declared.demos.Demo.{Demo}
 use Rattle.rs_model.specs.declared.demos.Demo.TheVariants as demo
 use Rattle.rs_demos.proofs.Spelt.{StartsAWord, asks_none, before_of, behind_of, behind_starts, fewer, next_word, number_length, one_spelling, some_word}
@@ -122,21 +122,21 @@ asked_or_not kind bytes = elim (spelt_or_not bytes) [
     go zs s false t = inr (λ ys a. asks_none kind bytes zs ys s t a)
 
 -- a demo has actors for the bytes, or the bytes aren't the numbers that it asks for
-pub actors_or_none : (kind : Demo) (bytes : List ℕ) → ((actors : List DemoActor) × StartsWithActors kind bytes actors) ⊎ HasNoNumbers kind bytes
+pub actors_or_none : (kind : Demo) (bytes : List ℕ) → ((actors : List DemoTalker) × StartsWithActors kind bytes actors) ⊎ HasNoNumbers kind bytes
 actors_or_none demo.Double bytes = inl (actor.Kernel (record { piece = None }) ∷ actor.Source bytes ∷ actor.Sink [] ∷ [], refl)
 actors_or_none demo.Stream bytes = inl (actor.Source bytes ∷ actor.Sink [] ∷ [], refl)
 actors_or_none demo.Ring bytes = elim (asked_or_not demo.Ring bytes) [ inl a ↦ inl (map ring_member a.0, (a.0, a.1, refl)) | inr isnt ↦ inr isnt ]
 actors_or_none demo.Butterfly bytes = elim (asked_or_not demo.Butterfly bytes) [ inl a ↦ inl (map butterfly_member (enumerate_from 0 a.0), (a.0, a.1, refl)) | inr isnt ↦ inr isnt ]
 
 -- a demo doesn't have both actors for the bytes and bytes that aren't the numbers that it asks for
-pub not_both_shown : (kind : Demo) (bytes : List ℕ) (actors : List DemoActor) → StartsWithActors kind bytes actors → HasNoNumbers kind bytes → ⊥
+pub not_both_shown : (kind : Demo) (bytes : List ℕ) (actors : List DemoTalker) → StartsWithActors kind bytes actors → HasNoNumbers kind bytes → ⊥
 not_both_shown demo.Double bytes actors s isnt = isnt
 not_both_shown demo.Stream bytes actors s isnt = isnt
 not_both_shown demo.Ring bytes actors s isnt = isnt s.0 s.1
 not_both_shown demo.Butterfly bytes actors s isnt = isnt s.0 s.1
 
 -- the actors of a demo are one list
-pub one_start : (kind : Demo) (bytes : List ℕ) (xs ys : List DemoActor) → StartsWithActors kind bytes xs → StartsWithActors kind bytes ys → xs ≡ ys
+pub one_start : (kind : Demo) (bytes : List ℕ) (xs ys : List DemoTalker) → StartsWithActors kind bytes xs → StartsWithActors kind bytes ys → xs ≡ ys
 one_start demo.Double bytes xs ys s t = s ∙ sym t
 one_start demo.Stream bytes xs ys s t = s ∙ sym t
 one_start demo.Ring bytes xs ys s t = s.2 ∙ ap (λ (zs : List ℤ). map ring_member zs) (one_spelling s.0 t.0 bytes s.1.1 t.1.1) ∙ sym t.2

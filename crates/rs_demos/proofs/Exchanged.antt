@@ -11,16 +11,16 @@ use Rattle.rs_model.specs.declared.values.Value.TheVariants as value
 use Rattle.rs_core.specs.declared.messages.Message.{Message}
 use Rattle.rs_core.specs.Histories.{Sent, Got, History}
 use Rattle.rs_core.proofs.Fifo.{sents, gots, sents_append, gots_append}
-use Rattle.rs_demos.specs.Acting.{actor_behind_value}
+use Rattle.rs_demos.specs.Acting.{talker_behind_value}
 use Rattle.rs_demos.specs.Results.{in_64_bits}
 use Rattle.rs_demos.specs.Sessions.{Exchange, role, partner}
-use Rattle.rs_demos.specs.declared.actors.DemoActor.{DemoActor}
-use Rattle.rs_demos.specs.declared.actors.DemoActor.TheVariants as actor
+use Rattle.rs_demos.specs.declared.actors.DemoTalker.{DemoTalker}
+use Rattle.rs_demos.specs.declared.actors.DemoTalker.TheVariants as actor
 use Rattle.rs_demos.proofs.Ranges.{in_range}
 use Rattle.rs_demos.proofs.Playing.{sents_cons, sents_skip, gots_cons, gots_skip}
 use Rattle.rs_demos.proofs.Trading.{Trades, script_got}
 
-abbrev pub member : ℕ → ℤ → DemoActor
+abbrev pub member : ℕ → ℤ → DemoTalker
 member b a = actor.ButterflyMember (record { bits = b; held = a })
 
 abbrev pub pair_at : ℕ → ℕ → Exchange
@@ -76,7 +76,7 @@ abbrev pub Silent : List ℕ → ℕ → History → Type 0
 Silent [] i before = Unit {0}
 Silent (s ∷ ss) i before = (sents (partner s i) before ≡ []) × (gots (partner s i) before ≡ []) × Silent ss i before
 
-pub record AtRole (ss : List ℕ) (b : ℕ) (a : ℤ) (i : ℕ) (h : History) (y : DemoActor) : Type 0 where
+pub record AtRole (ss : List ℕ) (b : ℕ) (a : ℤ) (i : ℕ) (h : History) (y : DemoTalker) : Type 0 where
   pub before : History
   pub later : History
   pub split : h ≡ before ++ later
@@ -129,7 +129,7 @@ first_same c d xs ys q e =
 abbrev pub Queues : ℕ → (ℕ → History) → Type 0
 Queues n h = (a b : ℕ) → a < n → b < n → a ≢ b → (q : List Message) × (gots a (h b) ++ q ≡ sents b (h a))
 
-abbrev pub Stage : ℕ → List ℕ → (ℕ → ℕ) → (ℕ → ℤ) → (ℕ → History) → (ℕ → DemoActor) → Type 0
+abbrev pub Stage : ℕ → List ℕ → (ℕ → ℕ) → (ℕ → ℤ) → (ℕ → History) → (ℕ → DemoTalker) → Type 0
 Stage n ss b a h y = (i : ℕ) → i < n → AtRole ss (b i) (a i) i (h i) (y i)
 
 -- the bits and the numbers behind a round
@@ -141,7 +141,7 @@ abbrev pub held_behind : ℕ → (ℕ → ℕ) → (ℕ → ℤ) → ℕ → ℤ
 held_behind s b a i = if b i % 2 == 0 then in_64_bits (a i +ℤ a (partner s i)) else in_64_bits (a (partner s i) -ℤ a i)
 
 -- role i gets the number of its partner
-came : (n s : ℕ) (ss : List ℕ) (b : ℕ → ℕ) (a : ℕ → ℤ) (h : ℕ → History) (y : ℕ → DemoActor) (i : ℕ) → Queues n h → (lt : i < n)
+came : (n s : ℕ) (ss : List ℕ) (b : ℕ → ℕ) (a : ℕ → ℤ) (h : ℕ → History) (y : ℕ → DemoTalker) (i : ℕ) → Queues n h → (lt : i < n)
     → (g : Good n s ss i) → (st : Stage n (s ∷ ss) b a h y) → (st i lt).trades.came ≡ value.Whole (a (partner s i))
 came n s ss b a h y i q lt g st =
     let got = head_got (partner s i) i (h i) (st i lt).before (st i lt).later (st i lt).trades.later (a i) (st i lt).trades.came (st i lt).split (st i lt).silent.1 (st i lt).trades.history_is in
@@ -158,14 +158,14 @@ came n s ss b a h y i q lt g st =
     (sents i (script_got (pair_at (partner s i) s) (st (partner s i) g.within).trades.came ∷ (st (partner s i) g.within).trades.later)) f.0
     (ap (λ (z : List Message). z ++ f.0) (sym got) ∙ f.1 ∙ sent)
 
-round : (n s : ℕ) (ss : List ℕ) (b : ℕ → ℕ) (a : ℕ → ℤ) (h : ℕ → History) (y : ℕ → DemoActor) → Queues n h
+round : (n s : ℕ) (ss : List ℕ) (b : ℕ → ℕ) (a : ℕ → ℤ) (h : ℕ → History) (y : ℕ → DemoTalker) → Queues n h
     → ((i : ℕ) → i < n → Good n s ss i) → Stage n (s ∷ ss) b a h y → Stage n ss (bits_behind b) (held_behind s b a) h y
 unfolding acts_with
 round n s ss b a h y q g st i lt =
     let c = came n s ss b a h y i q lt (g i lt) st in
-    let told : actor_behind_value (member (b i) (a i)) (st i lt).trades.came ≡ member (bits_behind b i) (held_behind s b a i) =
-    ap (λ (z : Value). actor_behind_value (member (b i) (a i)) z) c in
-    let P : DemoActor → Type 0 = λ z. Trades (pairs_of ss i) (y i) z (st i lt).trades.later in
+    let told : talker_behind_value (member (b i) (a i)) (st i lt).trades.came ≡ member (bits_behind b i) (held_behind s b a i) =
+    ap (λ (z : Value). talker_behind_value (member (b i) (a i)) z) c in
+    let P : DemoTalker → Type 0 = λ z. Trades (pairs_of ss i) (y i) z (st i lt).trades.later in
     record {
       before = (st i lt).before ++ acts_with (partner s i) (a i) (st i lt).trades.came;
       later = (st i lt).trades.later;
@@ -180,7 +180,7 @@ abbrev pub held_at_end : List ℕ → (ℕ → ℕ) → (ℕ → ℤ) → ℕ �
 held_at_end [] b a i = a i
 held_at_end (s ∷ ss) b a i = held_at_end ss (bits_behind b) (held_behind s b a) i
 
-pub at_the_end : (n : ℕ) (ss : List ℕ) (b : ℕ → ℕ) (a : ℕ → ℤ) (h : ℕ → History) (y : ℕ → DemoActor) → are_good n ss ≡ true → Queues n h → Stage n ss b a h y
+pub at_the_end : (n : ℕ) (ss : List ℕ) (b : ℕ → ℕ) (a : ℕ → ℤ) (h : ℕ → History) (y : ℕ → DemoTalker) → are_good n ss ≡ true → Queues n h → Stage n ss b a h y
     → (i : ℕ) → i < n → (bits : ℕ) × (member bits (held_at_end ss b a i) ≡ y i)
 at_the_end n [] b a h y g q st i lt = (b i, (st i lt).trades.1)
 at_the_end n (s ∷ ss) b a h y g q st i lt =

@@ -15,11 +15,11 @@ use Rattle.rs_core.specs.Actors.{PlaysFrom}
 use Rattle.rs_core.specs.declared.messages.Message.{Message}
 use Rattle.rs_core.specs.Histories.{Sent, Got, History}
 use Rattle.rs_core.proofs.Fifo.{sents, gots}
-use Rattle.rs_demos.specs.Acting.{by_demo, actor_behind_value, piece_of, behind_piece}
+use Rattle.rs_demos.specs.Acting.{by_demo, talker_behind_value, piece_of, behind_piece}
 use Rattle.rs_demos.specs.Results.{inverse_bytes}
 use Rattle.rs_demos.specs.Sessions.{role, arm, double_kernel, double_source, double_sink, stream_source, stream_sink}
-use Rattle.rs_demos.specs.declared.actors.DemoActor.{DemoActor}
-use Rattle.rs_demos.specs.declared.actors.DemoActor.TheVariants as actor
+use Rattle.rs_demos.specs.declared.actors.DemoTalker.{DemoTalker}
+use Rattle.rs_demos.specs.declared.actors.DemoTalker.TheVariants as actor
 use Rattle.rs_demos.proofs.Playing.{sent_at, got_at, no_got, no_sent, nowhere, over, only_arm, First, Second, one_of, sents_cons, sents_skip, gots_cons, gots_skip}
 
 abbrev pub label : ℕ → Label
@@ -43,11 +43,11 @@ pub record Fed (bytes : List ℕ) (messages : List Message) : Type 0 where
   pub joined : concat pieces ≡ bytes
 
 -- a play that goes on at another state with another actor
-abbrev pub Plays : Machine_data → ℕ → DemoActor → History → ℕ → DemoActor → Type 0
+abbrev pub Plays : Machine_data → ℕ → DemoTalker → History → ℕ → DemoTalker → Type 0
 Plays m s x h t y = PlaysFrom by_demo m s x h t y
 
-pub moved : (m : Machine_data) (s s' : ℕ) (x x' : DemoActor) (h : History) (t : ℕ) (y : DemoActor) → s ≡ s' → x ≡ x' → Plays m s' x' h t y → Plays m s x h t y
-moved m s s' x x' h t y e f p = let P : ℕ → DemoActor → Type 0 = λ i z. Plays m i z h t y in subst₂ P (sym e) (sym f) p
+pub moved : (m : Machine_data) (s s' : ℕ) (x x' : DemoTalker) (h : History) (t : ℕ) (y : DemoTalker) → s ≡ s' → x ≡ x' → Plays m s' x' h t y → Plays m s x h t y
+moved m s s' x x' h t y e f p = let P : ℕ → DemoTalker → Type 0 = λ i z. Plays m i z h t y in subst₂ P (sym e) (sym f) p
 
 abbrev pub IsOver : Machine_data → ℕ → Type 0
 IsOver m t = slice_get m.states t ≡ Some Done
@@ -74,7 +74,7 @@ SourceSays zero bytes messages = Fed bytes messages
 SourceSays (suc zero) bytes messages = Fed bytes messages
 SourceSays (suc (suc s)) bytes messages = messages ≡ []
 
-source : (h : History) (s : ℕ) (bytes : List ℕ) (t : ℕ) (y : DemoActor) → Plays double_source s (actor.Source bytes) h t y → IsOver double_source t
+source : (h : History) (s : ℕ) (bytes : List ℕ) (t : ℕ) (y : DemoTalker) → Plays double_source s (actor.Source bytes) h t y → IsOver double_source t
     → SourceSays s bytes (sents 0 h)
 source [] zero bytes t y p d = absurd (let e = goes_on double_source 0 t (Takes (role 0) (arm 0 sort.Unit 1 ∷ [])) refl p.0 d in cc (e))
 source [] (suc zero) bytes t y p d = absurd (let e = goes_on double_source 1 t (Puts (role 0) double_arms) refl p.0 d in cc (e))
@@ -131,7 +131,7 @@ abbrev held_at : ℕ → List ℕ → Option (List ℕ)
 held_at (suc (suc (suc (suc zero)))) piece = Some piece
 held_at s piece = None
 
-abbrev pub kernel_with : Option (List ℕ) → DemoActor
+abbrev pub kernel_with : Option (List ℕ) → DemoTalker
 kernel_with o = actor.Kernel (record { piece = o })
 
 -- what the source has still to send to it there, of these pieces
@@ -152,13 +152,13 @@ not_two r e f = let g : 1 ≡ 2 = ap (λ (z : Role). z.0) e ∙ f in cc (g)
 pub not_one : (r : Role) → role 2 ≡ r → r.0 ≡ 1 → ⊥
 not_one r e f = let g : 2 ≡ 1 = ap (λ (z : Role). z.0) e ∙ f in cc (g)
 
-unit_told : (v : Value) → v ≡ value.Unit → actor_behind_value (kernel_with None) v ≡ kernel_with None
-unit_told v e = ap (λ (z : Value). actor_behind_value (kernel_with None) z) e
+unit_told : (v : Value) → v ≡ value.Unit → talker_behind_value (kernel_with None) v ≡ kernel_with None
+unit_told v e = ap (λ (z : Value). talker_behind_value (kernel_with None) z) e
 
-piece_told : (v : Value) (bytes : List ℕ) → v ≡ value.Octets bytes → actor_behind_value (kernel_with None) v ≡ kernel_with (Some (inverse_bytes bytes))
-piece_told v bytes e = ap (λ (z : Value). actor_behind_value (kernel_with None) z) e
+piece_told : (v : Value) (bytes : List ℕ) → v ≡ value.Octets bytes → talker_behind_value (kernel_with None) v ≡ kernel_with (Some (inverse_bytes bytes))
+piece_told v bytes e = ap (λ (z : Value). talker_behind_value (kernel_with None) z) e
 
-kernel : (h : History) (s : ℕ) (piece : List ℕ) (ps : List (List ℕ)) (later : List Message) (t : ℕ) (y : DemoActor)
+kernel : (h : History) (s : ℕ) (piece : List ℕ) (ps : List (List ℕ)) (later : List Message) (t : ℕ) (y : DemoTalker)
     → Plays double_kernel s (kernel_with (held_at s piece)) h t y → IsOver double_kernel t → AllUnit (gots 2 h)
     → gots 1 h ++ later ≡ KernelGets s ps → sents 2 h ≡ KernelSends s piece ps
 kernel [] zero piece ps later t y p d u g = absurd (let e = goes_on double_kernel 0 t (Puts (role 1) (arm 0 sort.Unit 1 ∷ [])) refl p.0 d in cc (e))
@@ -253,7 +253,7 @@ sink_arms = arm 1 sort.Octets 0 ∷ arm 2 sort.Unit 2 ∷ []
 abbrev pub sink_machine : ℕ → Machine_data
 sink_machine p = record { role = role p; states = Puts (role 0) (arm 0 sort.Unit 1 ∷ []) ∷ Takes (role 0) sink_arms ∷ Done ∷ []; start = 0 }
 
-sink_stays : (bytes : List ℕ) (v : Value) → (z : List ℕ) × (actor_behind_value (actor.Sink bytes) v ≡ actor.Sink z)
+sink_stays : (bytes : List ℕ) (v : Value) → (z : List ℕ) × (talker_behind_value (actor.Sink bytes) v ≡ actor.Sink z)
 sink_stays bytes value.Unit = (bytes, refl)
 sink_stays bytes (value.Flag b) = (bytes, refl)
 sink_stays bytes (value.Natural n) = (bytes, refl)
@@ -262,7 +262,7 @@ sink_stays bytes (value.Octets piece) = (bytes ++ piece, refl)
 sink_stays bytes (value.Numbers zs) = (bytes, refl)
 
 -- it sends nothing but that it is ready
-asks : (h : History) (p s : ℕ) (bytes : List ℕ) (t : ℕ) (y : DemoActor) → Plays (sink_machine p) s (actor.Sink bytes) h t y → AllUnit (sents 0 h)
+asks : (h : History) (p s : ℕ) (bytes : List ℕ) (t : ℕ) (y : DemoTalker) → Plays (sink_machine p) s (actor.Sink bytes) h t y → AllUnit (sents 0 h)
 asks [] p s bytes t y pl = tt
 asks (Got r l v ∷ h) p zero bytes t y pl = absurd (no_got (sink_machine p) 0 (actor.Sink bytes) (arm 0 sort.Unit 1 ∷ []) (role 0) r l v pl.0 pl.1 refl pl.2)
 asks (Sent r l v ∷ h) p zero bytes t y pl =
@@ -287,7 +287,7 @@ sink_bytes (suc (suc s)) bytes ps = bytes
 sink_bytes s bytes ps = bytes ++ concat ps
 
 -- it joins the pieces that come
-sink : (h : History) (p s : ℕ) (bytes : List ℕ) (ps : List (List ℕ)) (later : List Message) (t : ℕ) (y : DemoActor)
+sink : (h : History) (p s : ℕ) (bytes : List ℕ) (ps : List (List ℕ)) (later : List Message) (t : ℕ) (y : DemoTalker)
     → Plays (sink_machine p) s (actor.Sink bytes) h t y → IsOver (sink_machine p) t → gots 0 h ++ later ≡ SinkGets s ps
     → actor.Sink (sink_bytes s bytes ps) ≡ y
 sink [] p zero bytes ps later t y pl d g = absurd (let e = goes_on (sink_machine p) 0 t (Puts (role 0) (arm 0 sort.Unit 1 ∷ [])) refl pl.0 d in cc (e))
@@ -308,7 +308,7 @@ sink (Got r l v ∷ h) p (suc zero) bytes [] later t y pl d g =
     let el : l ≡ label 2 = ap (λ (m : Message). m.label) hd in
     let ev : v ≡ value.Unit = ap (λ (m : Message). m.value) hd in
     let rest : gots 0 h ++ later ≡ [] = cc (f) in
-    let b : actor.Sink bytes ≡ pl.1 = ap (λ (z : Value). actor_behind_value (actor.Sink bytes) z) (sym ev) ∙ s.becomes in
+    let b : actor.Sink bytes ≡ pl.1 = ap (λ (z : Value). talker_behind_value (actor.Sink bytes) z) (sym ev) ∙ s.becomes in
     elim (one_of (arm 1 sort.Octets 0) (arm 2 sort.Unit 2) s.arm s.place s.follows) [
       | First a ↦ absurd (let k : 1 ≡ 2 = ap (λ (z : Label). z.0) (ap (λ (z : Arm). z.label) a ∙ s.label ∙ el) in cc (k))
       | Second a ↦ (let e : 2 ≡ pl.0 = ap (λ (z : Arm). z.next) a ∙ s.goes in
@@ -323,7 +323,7 @@ sink (Got r l v ∷ h) p (suc zero) bytes (q ∷ ps) later t y pl d g =
     let el : l ≡ label 1 = ap (λ (m : Message). m.label) hd in
     let ev : v ≡ value.Octets q = ap (λ (m : Message). m.value) hd in
     let rest : gots 0 h ++ later ≡ feed ps = cc (f) in
-    let b : actor.Sink (bytes ++ q) ≡ pl.1 = ap (λ (z : Value). actor_behind_value (actor.Sink bytes) z) (sym ev) ∙ s.becomes in
+    let b : actor.Sink (bytes ++ q) ≡ pl.1 = ap (λ (z : Value). talker_behind_value (actor.Sink bytes) z) (sym ev) ∙ s.becomes in
     elim (one_of (arm 1 sort.Octets 0) (arm 2 sort.Unit 2) s.arm s.place s.follows) [
       | First a ↦ (let e : 0 ≡ pl.0 = ap (λ (z : Arm). z.next) a ∙ s.goes in
           ap (λ (z : List ℕ). actor.Sink z) (sym (append_assoc bytes q (concat ps)))
@@ -344,7 +344,7 @@ StreamSays (suc zero) bytes messages = Fed bytes messages
 StreamSays (suc (suc zero)) bytes messages = Fed bytes messages
 StreamSays (suc (suc (suc s))) bytes messages = messages ≡ []
 
-stream : (h : History) (s : ℕ) (bytes : List ℕ) (t : ℕ) (y : DemoActor) → Plays stream_source s (actor.Source bytes) h t y → IsOver stream_source t
+stream : (h : History) (s : ℕ) (bytes : List ℕ) (t : ℕ) (y : DemoTalker) → Plays stream_source s (actor.Source bytes) h t y → IsOver stream_source t
     → StreamSays s bytes (sents 1 h)
 stream [] zero bytes t y p d = absurd (let e = goes_on stream_source 0 t (Puts (role 1) (arm 1 sort.Octets 1 ∷ [])) refl p.0 d in cc (e))
 stream [] (suc zero) bytes t y p d = absurd (let e = goes_on stream_source 1 t (Takes (role 1) (arm 0 sort.Unit 2 ∷ [])) refl p.0 d in cc (e))
@@ -411,7 +411,7 @@ inverted_concat : (ps : List (List ℕ)) → concat (map inverse_bytes ps) ≡ i
 inverted_concat [] = refl
 inverted_concat (p ∷ ps) = ap (λ (z : List ℕ). inverse_bytes p ++ z) (inverted_concat ps) ∙ sym (inverted_append p (concat ps))
 
-pub double_computes : (bytes : List ℕ) (hk hs ht : History) (k s t : ℕ) (yk ys yt : DemoActor) (from_source from_kernel from_sink : List Message)
+pub double_computes : (bytes : List ℕ) (hk hs ht : History) (k s t : ℕ) (yk ys yt : DemoTalker) (from_source from_kernel from_sink : List Message)
     → Plays double_kernel 0 (kernel_with None) hk k yk → IsOver double_kernel k
     → Plays double_source 0 (actor.Source bytes) hs s ys → IsOver double_source s
     → Plays double_sink 0 (actor.Sink []) ht t yt → IsOver double_sink t
@@ -424,7 +424,7 @@ double_computes bytes hk hs ht k s t yk ys yt from_source from_kernel from_sink 
     let got = sink ht 2 zero [] (map inverse_bytes fed.pieces) from_kernel t yt pt dt (two ∙ sent) in
     ap (λ (z : List ℕ). actor.Sink z) (ap inverse_bytes (sym fed.joined) ∙ sym (inverted_concat fed.pieces)) ∙ got
 
-pub stream_computes : (bytes : List ℕ) (hs ht : History) (s t : ℕ) (ys yt : DemoActor) (from_source : List Message)
+pub stream_computes : (bytes : List ℕ) (hs ht : History) (s t : ℕ) (ys yt : DemoTalker) (from_source : List Message)
     → Plays stream_source 0 (actor.Source bytes) hs s ys → IsOver stream_source s
     → Plays stream_sink 0 (actor.Sink []) ht t yt → IsOver stream_sink t
     → gots 0 ht ++ from_source ≡ sents 1 hs

@@ -30,8 +30,8 @@ use Rattle.rs_demos.specs.Acting.{by_demo, behind_piece}
 use Rattle.rs_demos.specs.Sessions.{Exchange, role, arm, machine, states_from, numbers_from, partner, demo_machines, ring_pairs, next_in_ring, previous_in_ring, butterfly_pair, butterfly_pairs}
 use Rattle.rs_demos.specs.Sessions.{steps, double_kernel, double_source, double_sink, stream_source, stream_sink}
 use Rattle.rs_demos.specs.Starts.{StartsWithActors, ring_member}
-use Rattle.rs_demos.specs.declared.actors.DemoActor.{DemoActor}
-use Rattle.rs_demos.specs.declared.actors.DemoActor.TheVariants as actor
+use Rattle.rs_demos.specs.declared.actors.DemoTalker.{DemoTalker}
+use Rattle.rs_demos.specs.declared.actors.DemoTalker.TheVariants as actor
 use Rattle.rs_demos.proofs.Feeding.{Plays, moved, zero_of, not_one, double_arms, kernel_arms, sink_arms, stream_arms, sink_machine, kernel_with}
 use Rattle.rs_demos.proofs.Playing.{sent_at, got_at, no_got, no_sent, nowhere, over, only_arm, First, Second, one_of, sents_cons, gots_cons, gots_skip}
 use Rattle.rs_demos.proofs.Ran.{there}
@@ -40,21 +40,21 @@ use Rattle.rs_demos.proofs.Straight.{states_next}
 -- a moment of a run
 
 -- each actor has played its history, and what was taken is the first part of what was sent
-record Went (ms : List Machine_data) (given : ℕ → DemoActor) (end : Moment DemoActor) : Type 0 where
-  plays : (p : ℕ) (m : Machine_data) → slice_get ms p ≡ Some m → (y : DemoActor) × Plays m m.start (given p) (end.history p) (end.at.at p) y
+record Went (ms : List Machine_data) (given : ℕ → DemoTalker) (end : Moment DemoTalker) : Type 0 where
+  plays : (p : ℕ) (m : Machine_data) → slice_get ms p ≡ Some m → (y : DemoTalker) × Plays m m.start (given p) (end.history p) (end.at.at p) y
   fifo : (a b : ℕ) → a ≢ b → gots a (end.history b) ++ end.at.queue a b ≡ sents b (end.history a)
 
-went : (ms : List Machine_data) (given : ℕ → DemoActor) (limit : ℕ) (end : Moment DemoActor) → Sound by_demo ms given limit end → Went ms given end
+went : (ms : List Machine_data) (given : ℕ → DemoTalker) (limit : ℕ) (end : Moment DemoTalker) → Sound by_demo ms given limit end → Went ms given end
 went ms given limit end s = record {
   plays = λ p m e. (let g = s.going p m e in (g.before, g.plays));
   fifo = fifo_story ms s.told.first end.at s.told.events no_histories end.history s.told.story (fifo_start ms s.told.first s.told.starts);
 }
 
 -- the play of role p, from the actor with which it starts
-played : (ms : List Machine_data) (given : ℕ → DemoActor) (end : Moment DemoActor) (p : ℕ) (m : Machine_data) (x : DemoActor) → Went ms given end
-    → slice_get ms p ≡ Some m → given p ≡ x → (y : DemoActor) × Plays m m.start x (end.history p) (end.at.at p) y
+played : (ms : List Machine_data) (given : ℕ → DemoTalker) (end : Moment DemoTalker) (p : ℕ) (m : Machine_data) (x : DemoTalker) → Went ms given end
+    → slice_get ms p ≡ Some m → given p ≡ x → (y : DemoTalker) × Plays m m.start x (end.history p) (end.at.at p) y
 played ms given end p m x w e s =
-    let P : DemoActor → Type 0 = λ z. (y : DemoActor) × Plays m m.start z (end.history p) (end.at.at p) y in
+    let P : DemoTalker → Type 0 = λ z. (y : DemoTalker) × Plays m m.start z (end.history p) (end.at.at p) y in
     subst P s (w.plays p m e)
 
 -- messages
@@ -78,19 +78,19 @@ few_gots xs ys zs e =
 
 -- steps of a play
 
-sent_next : (m : Machine_data) (s : ℕ) (x : DemoActor) (a : Arm) (q r : Role) (l : Label) (v : Value) (t : ℕ) (y : DemoActor)
+sent_next : (m : Machine_data) (s : ℕ) (x : DemoTalker) (a : Arm) (q r : Role) (l : Label) (v : Value) (t : ℕ) (y : DemoTalker)
     → slice_get m.states s ≡ Some (Puts q (a ∷ [])) → PlaysSent by_demo m s x r l v t y → a.next ≡ t
 sent_next m s x a q r l v t y st p =
     let g = sent_at m s x (a ∷ []) q r l v t y st p in
     ap (λ (z : Arm). z.next) (only_arm a g.arm (by_demo.chooses x (a ∷ [])).0 g.picks) ∙ g.goes
 
-got_next : (m : Machine_data) (s : ℕ) (x : DemoActor) (a : Arm) (q r : Role) (l : Label) (v : Value) (t : ℕ) (y : DemoActor)
+got_next : (m : Machine_data) (s : ℕ) (x : DemoTalker) (a : Arm) (q r : Role) (l : Label) (v : Value) (t : ℕ) (y : DemoTalker)
     → slice_get m.states s ≡ Some (Takes q (a ∷ [])) → PlaysGot by_demo m s x r l v t y → a.next ≡ t
 got_next m s x a q r l v t y st p =
     let g = got_at m s x (a ∷ []) q r l v t y st p in
     ap (λ (z : Arm). z.next) (only_arm a g.arm g.place g.follows) ∙ g.goes
 
-at : (m : Machine_data) (s s' : ℕ) (x : DemoActor) (h : History) (t : ℕ) (y : DemoActor) → s ≡ s' → Plays m s' x h t y → Plays m s x h t y
+at : (m : Machine_data) (s s' : ℕ) (x : DemoTalker) (h : History) (t : ℕ) (y : DemoTalker) → s ≡ s' → Plays m s' x h t y → Plays m s x h t y
 at m s s' x h t y e p = moved m s s' x x h t y e refl p
 
 -- bytes behind a piece
@@ -113,7 +113,7 @@ source_sends (suc (suc s)) n = 0
 abbrev IsBrief : ℕ → ℕ → History → Type 0
 IsBrief s n h = (length h ≤ source_acts s n) × (length (sents 0 h) ≤ source_sends s n)
 
-source : (h : History) (s n : ℕ) (bytes : List ℕ) (t : ℕ) (y : DemoActor) → Plays double_source s (actor.Source bytes) h t y → length bytes ≤ 4096 * n → IsBrief s n h
+source : (h : History) (s n : ℕ) (bytes : List ℕ) (t : ℕ) (y : DemoTalker) → Plays double_source s (actor.Source bytes) h t y → length bytes ≤ 4096 * n → IsBrief s n h
 source [] s n bytes t y p few = (omega arith, omega arith)
 source (Sent r l v ∷ h) zero n bytes t y p few = absurd (no_sent double_source 0 (actor.Source bytes) (arm 0 sort.Unit 1 ∷ []) (role 0) r l v p.0 p.1 refl p.2)
 source (Got r l v ∷ h) zero n bytes t y p few =
@@ -167,7 +167,7 @@ kernel_more (suc (suc (suc (suc zero)))) = 3
 kernel_more (suc (suc (suc (suc (suc zero))))) = 1
 kernel_more (suc (suc (suc (suc (suc (suc s)))))) = 0
 
-kernel : (h : History) (s : ℕ) (x : DemoActor) (t : ℕ) (y : DemoActor) → Plays double_kernel s x h t y → length h ≤ kernel_more s + 4 * length (gots 1 h)
+kernel : (h : History) (s : ℕ) (x : DemoTalker) (t : ℕ) (y : DemoTalker) → Plays double_kernel s x h t y → length h ≤ kernel_more s + 4 * length (gots 1 h)
 kernel [] s x t y p = omega arith
 kernel (Got r l v ∷ h) zero x t y p = absurd (no_got double_kernel 0 x (arm 0 sort.Unit 1 ∷ []) (role 1) r l v p.0 p.1 refl p.2)
 kernel (Sent r l v ∷ h) zero x t y p =
@@ -217,7 +217,7 @@ abbrev sink_more : ℕ → ℕ
 sink_more zero = 1
 sink_more (suc s) = 0
 
-sink : (h : History) (p s : ℕ) (x : DemoActor) (t : ℕ) (y : DemoActor) → Plays (sink_machine p) s x h t y → length h ≤ sink_more s + 2 * length (gots 0 h)
+sink : (h : History) (p s : ℕ) (x : DemoTalker) (t : ℕ) (y : DemoTalker) → Plays (sink_machine p) s x h t y → length h ≤ sink_more s + 2 * length (gots 0 h)
 sink [] p s x t y pl = omega arith
 sink (Got r l v ∷ h) p zero x t y pl = absurd (no_got (sink_machine p) 0 x (arm 0 sort.Unit 1 ∷ []) (role 0) r l v pl.0 pl.1 refl pl.2)
 sink (Sent r l v ∷ h) p zero x t y pl =
@@ -248,7 +248,7 @@ stream_acts (suc (suc zero)) n = 2 + 2 * n
 stream_acts (suc (suc (suc zero))) n = 1
 stream_acts (suc (suc (suc (suc s)))) n = 0
 
-stream : (h : History) (s n : ℕ) (bytes : List ℕ) (t : ℕ) (y : DemoActor) → Plays stream_source s (actor.Source bytes) h t y → length bytes ≤ 4096 * n → length h ≤ stream_acts s n
+stream : (h : History) (s n : ℕ) (bytes : List ℕ) (t : ℕ) (y : DemoTalker) → Plays stream_source s (actor.Source bytes) h t y → length bytes ≤ 4096 * n → length h ≤ stream_acts s n
 stream [] s n bytes t y p few = omega arith
 stream (Got r l v ∷ h) zero n bytes t y p few = absurd (no_got stream_source 0 (actor.Source bytes) (arm 1 sort.Octets 1 ∷ []) (role 1) r l v p.0 p.1 refl p.2)
 stream (Sent r l v ∷ h) zero n [] t y p few =
@@ -301,7 +301,7 @@ states_many : (xs : List Exchange) (s : ℕ) → length (states_from s xs) ≡ 1
 states_many [] s = refl
 states_many (x ∷ xs) s = let on = states_many xs (suc (suc s)) in omega (arith, on)
 
-act_next : (xs : List Exchange) (q s : ℕ) (x : DemoActor) (a : Action) (t : ℕ) (y : DemoActor) → PlaysAction by_demo (machine q (states_from 0 xs)) s x a t y
+act_next : (xs : List Exchange) (q s : ℕ) (x : DemoTalker) (a : Action) (t : ℕ) (y : DemoTalker) → PlaysAction by_demo (machine q (states_from 0 xs)) s x a t y
     → (s < length (states_from 0 xs)) × (suc s ≡ t)
 act_next xs q s x (Sent r l v) t y p =
     let e = states_next xs 0 s mark.Puts r p.arms p.puts in
@@ -316,7 +316,7 @@ act_next xs q s x (Got r l v) t y p =
     let plus : suc s ≡ suc (0 + s) = omega arith in
     (there (states_from 0 xs) s (Takes r p.arms) p.takes, plus ∙ n)
 
-straight : (h : History) (xs : List Exchange) (q s : ℕ) (x : DemoActor) (t : ℕ) (y : DemoActor) → Plays (machine q (states_from 0 xs)) s x h t y
+straight : (h : History) (xs : List Exchange) (q s : ℕ) (x : DemoTalker) (t : ℕ) (y : DemoTalker) → Plays (machine q (states_from 0 xs)) s x h t y
     → length h ≤ length (states_from 0 xs) - s
 straight [] xs q s x t y p = omega arith
 straight (a ∷ h) xs q s x t y p =
@@ -325,7 +325,7 @@ straight (a ∷ h) xs q s x t y p =
     let on : length h ≤ length (states_from 0 xs) - suc s = straight h xs q (suc s) p.1 t y (at (machine q (states_from 0 xs)) (suc s) p.0 p.1 h t y n.1 p.3) in
     omega (arith, low, on)
 
-straight_acts : (h : History) (xs : List Exchange) (q : ℕ) (x : DemoActor) (t : ℕ) (y : DemoActor) → Plays (machine q (states_from 0 xs)) 0 x h t y
+straight_acts : (h : History) (xs : List Exchange) (q : ℕ) (x : DemoTalker) (t : ℕ) (y : DemoTalker) → Plays (machine q (states_from 0 xs)) 0 x h t y
     → length h ≤ 1 + 2 * length xs
 straight_acts h xs q x t y p =
     let one = straight h xs q 0 x t y p in
@@ -362,7 +362,7 @@ made_by f (n ∷ ns) zero m e = (n, cc (e))
 made_by f (n ∷ ns) (suc p) m e = made_by f ns p m e
 
 -- the history of each role of straight machines
-straight_role : (ms : List Machine_data) (given : ℕ → DemoActor) (end : Moment DemoActor) (pairs : ℕ → List Exchange) (ns : List ℕ) (most p : ℕ) → Went ms given end
+straight_role : (ms : List Machine_data) (given : ℕ → DemoTalker) (end : Moment DemoTalker) (pairs : ℕ → List Exchange) (ns : List ℕ) (most p : ℕ) → Went ms given end
     → ms ≡ map (λ (i : ℕ). machine i (states_from 0 (pairs i))) ns → ((i : ℕ) → length (pairs i) ≤ most) → p < length ms → length (end.history p) ≤ 1 + 2 * most
 straight_role ms given end pairs ns most p w e few lt =
     let m = item_at ms p lt in
@@ -378,14 +378,14 @@ ring_pairs_few n i few = let e = ring_many n i in omega (arith, e, few)
 
 -- the demos
 
-given_at : (given : ℕ → DemoActor) (actors all : List DemoActor) (p : ℕ) (x : DemoActor) → actors ≡ all → IsGiven given actors → slice_get all p ≡ Some x → given p ≡ x
-given_at given actors all p x e g s = g p x (ap (λ (z : List DemoActor). slice_get z p) e ∙ s)
+given_at : (given : ℕ → DemoTalker) (actors all : List DemoTalker) (p : ℕ) (x : DemoTalker) → actors ≡ all → IsGiven given actors → slice_get all p ≡ Some x → given p ≡ x
+given_at given actors all p x e g s = g p x (ap (λ (z : List DemoTalker). slice_get z p) e ∙ s)
 
 -- at a moment a role's history is short
-abbrev IsShort : Moment DemoActor → ℕ → Type 0
+abbrev IsShort : Moment DemoTalker → ℕ → Type 0
 IsShort end p = length (end.history p) < 4096
 
-double : (bytes : List ℕ) (actors : List DemoActor) (given : ℕ → DemoActor) (end : Moment DemoActor) (p : ℕ) → length bytes ≤ MOST_BYTES → StartsWithActors demo.Double bytes actors
+double : (bytes : List ℕ) (actors : List DemoTalker) (given : ℕ → DemoTalker) (end : Moment DemoTalker) (p : ℕ) → length bytes ≤ MOST_BYTES → StartsWithActors demo.Double bytes actors
     → IsGiven given actors → Went (double_kernel ∷ double_source ∷ double_sink ∷ []) given end → p < 3 → IsShort end p
 double bytes actors given end p few s g w lt = go p lt
   where
@@ -418,7 +418,7 @@ double bytes actors given end p few s g w lt = go p lt
     go (suc (suc zero)) lt = let h = sink_short in omega (arith, h)
     go (suc (suc (suc p))) lt = absurd (omega (arith, lt))
 
-streamed : (bytes : List ℕ) (actors : List DemoActor) (given : ℕ → DemoActor) (end : Moment DemoActor) (p : ℕ) → length bytes ≤ MOST_BYTES → StartsWithActors demo.Stream bytes actors
+streamed : (bytes : List ℕ) (actors : List DemoTalker) (given : ℕ → DemoTalker) (end : Moment DemoTalker) (p : ℕ) → length bytes ≤ MOST_BYTES → StartsWithActors demo.Stream bytes actors
     → IsGiven given actors → Went (stream_source ∷ stream_sink ∷ []) given end → p < 2 → IsShort end p
 streamed bytes actors given end p few s g w lt = go p lt
   where
@@ -442,7 +442,7 @@ streamed bytes actors given end p few s g w lt = go p lt
     go (suc zero) lt = let h = sink_short in omega (arith, h)
     go (suc (suc p)) lt = absurd (omega (arith, lt))
 
-ring : (bytes : List ℕ) (actors : List DemoActor) (given : ℕ → DemoActor) (end : Moment DemoActor) (p : ℕ) → StartsWithActors demo.Ring bytes actors
+ring : (bytes : List ℕ) (actors : List DemoTalker) (given : ℕ → DemoTalker) (end : Moment DemoTalker) (p : ℕ) → StartsWithActors demo.Ring bytes actors
     → Went (demo_machines demo.Ring (length actors)) given end → p < length (demo_machines demo.Ring (length actors)) → IsShort end p
 ring bytes actors given end p s w lt =
     let many : length actors ≡ length s.0 = ap length s.2 ∙ length-map s.0 ring_member in
@@ -451,12 +451,12 @@ ring bytes actors given end p s w lt =
     (λ i. ring_pairs_few (length actors) i (omega (arith, many, high))) lt in
     omega (arith, h)
 
-butterfly : (n : ℕ) (given : ℕ → DemoActor) (end : Moment DemoActor) (p : ℕ) → Went (demo_machines demo.Butterfly n) given end → p < length (demo_machines demo.Butterfly n) → IsShort end p
+butterfly : (n : ℕ) (given : ℕ → DemoTalker) (end : Moment DemoTalker) (p : ℕ) → Went (demo_machines demo.Butterfly n) given end → p < length (demo_machines demo.Butterfly n) → IsShort end p
 butterfly n given end p w lt =
     let h = straight_role (demo_machines demo.Butterfly n) given end (butterfly_pairs n) (numbers_from 0 n) 4 p w refl (λ i. butterfly_many steps n i) lt in
     omega (arith, h)
 
-short : (kind : Demo) (bytes : List ℕ) (actors : List DemoActor) (given : ℕ → DemoActor) (end : Moment DemoActor) (p : ℕ) → length bytes ≤ MOST_BYTES → StartsWithActors kind bytes actors
+short : (kind : Demo) (bytes : List ℕ) (actors : List DemoTalker) (given : ℕ → DemoTalker) (end : Moment DemoTalker) (p : ℕ) → length bytes ≤ MOST_BYTES → StartsWithActors kind bytes actors
     → IsGiven given actors → Went (demo_machines kind (length actors)) given end → p < length (demo_machines kind (length actors)) → IsShort end p
 short demo.Double bytes actors given end p few s g w lt = double bytes actors given end p few s g w lt
 short demo.Stream bytes actors given end p few s g w lt = streamed bytes actors given end p few s g w lt
@@ -464,7 +464,7 @@ short demo.Ring bytes actors given end p few s g w lt = ring bytes actors given 
 short demo.Butterfly bytes actors given end p few s g w lt = butterfly (length actors) given end p w lt
 
 -- wherever a plain run ends, no role has made many acts
-pub few_acts : (kind : Demo) (bytes : List ℕ) (actors : List DemoActor) (given : ℕ → DemoActor) (limit : ℕ) (capacity : Option ℕ) (end : Ending DemoActor) (role : ℕ) → length bytes ≤ MOST_BYTES
+pub few_acts : (kind : Demo) (bytes : List ℕ) (actors : List DemoTalker) (given : ℕ → DemoTalker) (limit : ℕ) (capacity : Option ℕ) (end : Ending DemoTalker) (role : ℕ) → length bytes ≤ MOST_BYTES
     → StartsWithActors kind bytes actors → IsGiven given actors → IsPlain (demo_machines kind (length actors)) by_demo given limit capacity end
     → role < length (demo_machines kind (length actors)) → length ((last_moment end).history role) < 4096
 few_acts kind bytes actors given limit capacity end role few s g is there =
@@ -472,7 +472,7 @@ few_acts kind bytes actors given limit capacity end role few s g is there =
     short kind bytes actors given (last_moment end) role few s g (went machines given limit (last_moment end) (sound_plain by_demo machines given limit capacity end is)) there
 
 -- a role is stopped at a low limit alone
-pub low_limit : (kind : Demo) (bytes : List ℕ) (actors : List DemoActor) (given : ℕ → DemoActor) (limit : ℕ) (capacity : Option ℕ) (role : ℕ) (end : Moment DemoActor) → length bytes ≤ MOST_BYTES
+pub low_limit : (kind : Demo) (bytes : List ℕ) (actors : List DemoTalker) (given : ℕ → DemoTalker) (limit : ℕ) (capacity : Option ℕ) (role : ℕ) (end : Moment DemoTalker) → length bytes ≤ MOST_BYTES
     → StartsWithActors kind bytes actors → IsGiven given actors → IsPlain (demo_machines kind (length actors)) by_demo given limit capacity (Stopped role end) → limit < 4096
 low_limit kind bytes actors given limit capacity role end few s g is =
     let stops = end_holds by_demo (demo_machines kind (length actors)) limit capacity is.first (Stopped role end) is.run in

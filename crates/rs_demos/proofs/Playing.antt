@@ -10,11 +10,11 @@ use Rattle.rs_model.specs.declared.values.Value.{Value}
 use Rattle.rs_core.specs.Actors.{PlaysSent, PlaysGot, PlaysAction}
 use Rattle.rs_core.specs.Histories.{Action, Sent, Got, History}
 use Rattle.rs_core.proofs.Fifo.{sents, gots}
-use Rattle.rs_demos.specs.Acting.{by_demo, actor_behind_value}
-use Rattle.rs_demos.specs.declared.actors.DemoActor.{DemoActor}
+use Rattle.rs_demos.specs.Acting.{by_demo, talker_behind_value}
+use Rattle.rs_demos.specs.declared.actors.DemoTalker.{DemoTalker}
 
 -- it is sent by one of these arms
-pub record SentAt (x : DemoActor) (arms : List Arm) (q r : Role) (l : Label) (v : Value) (t : ℕ) (y : DemoActor) : Type 0 where
+pub record SentAt (x : DemoTalker) (arms : List Arm) (q r : Role) (l : Label) (v : Value) (t : ℕ) (y : DemoTalker) : Type 0 where
   pub peer : q ≡ r
   pub arm : Arm
   pub picks : slice_get arms (by_demo.chooses x arms).0 ≡ Some arm
@@ -23,7 +23,7 @@ pub record SentAt (x : DemoActor) (arms : List Arm) (q r : Role) (l : Label) (v 
   pub goes : arm.next ≡ t
   pub becomes : by_demo.asked x arms ≡ y
 
-pub sent_at : (m : Machine_data) (s : ℕ) (x : DemoActor) (arms : List Arm) (q r : Role) (l : Label) (v : Value) (t : ℕ) (y : DemoActor)
+pub sent_at : (m : Machine_data) (s : ℕ) (x : DemoTalker) (arms : List Arm) (q r : Role) (l : Label) (v : Value) (t : ℕ) (y : DemoTalker)
     → slice_get m.states s ≡ Some (Puts q arms) → PlaysSent by_demo m s x r l v t y → SentAt x arms q r l v t y
 sent_at m s x arms q r l v t y st p =
     let e : Some (Puts q arms) ≡ Some (Puts r p.arms) = sym st ∙ p.puts in
@@ -35,16 +35,16 @@ sent_at m s x arms q r l v t y st p =
     record { peer = er; arm = p.arm; picks = subst P ea p.picks; label = p.same_label; value = subst V ea p.same_value; goes = p.goes; becomes = subst B ea p.becomes }
 
 -- it is taken by one of these arms
-pub record GotAt (x : DemoActor) (arms : List Arm) (q r : Role) (l : Label) (v : Value) (t : ℕ) (y : DemoActor) : Type 0 where
+pub record GotAt (x : DemoTalker) (arms : List Arm) (q r : Role) (l : Label) (v : Value) (t : ℕ) (y : DemoTalker) : Type 0 where
   pub peer : q ≡ r
   pub place : ℕ
   pub arm : Arm
   pub follows : slice_get arms place ≡ Some arm
   pub label : arm.label ≡ l
   pub goes : arm.next ≡ t
-  pub becomes : actor_behind_value x v ≡ y
+  pub becomes : talker_behind_value x v ≡ y
 
-pub got_at : (m : Machine_data) (s : ℕ) (x : DemoActor) (arms : List Arm) (q r : Role) (l : Label) (v : Value) (t : ℕ) (y : DemoActor)
+pub got_at : (m : Machine_data) (s : ℕ) (x : DemoTalker) (arms : List Arm) (q r : Role) (l : Label) (v : Value) (t : ℕ) (y : DemoTalker)
     → slice_get m.states s ≡ Some (Takes q arms) → PlaysGot by_demo m s x r l v t y → GotAt x arms q r l v t y
 got_at m s x arms q r l v t y st p =
     let e : Some (Takes q arms) ≡ Some (Takes r p.arms) = sym st ∙ p.takes in
@@ -53,15 +53,15 @@ got_at m s x arms q r l v t y st p =
     let P : List Arm → Type 0 = λ z. slice_get z p.place ≡ Some p.arm in
     record { peer = er; place = p.place; arm = p.arm; follows = subst P ea p.follows; label = p.same_label; goes = p.goes; becomes = p.becomes }
 
-pub no_got : (m : Machine_data) (s : ℕ) (x : DemoActor) (arms : List Arm) (q r : Role) (l : Label) (v : Value) (t : ℕ) (y : DemoActor)
+pub no_got : (m : Machine_data) (s : ℕ) (x : DemoTalker) (arms : List Arm) (q r : Role) (l : Label) (v : Value) (t : ℕ) (y : DemoTalker)
     → slice_get m.states s ≡ Some (Puts q arms) → PlaysGot by_demo m s x r l v t y → ⊥
 no_got m s x arms q r l v t y st p = let e : Some (Puts q arms) ≡ Some (Takes r p.arms) = sym st ∙ p.takes in cc (e)
 
-pub no_sent : (m : Machine_data) (s : ℕ) (x : DemoActor) (arms : List Arm) (q r : Role) (l : Label) (v : Value) (t : ℕ) (y : DemoActor)
+pub no_sent : (m : Machine_data) (s : ℕ) (x : DemoTalker) (arms : List Arm) (q r : Role) (l : Label) (v : Value) (t : ℕ) (y : DemoTalker)
     → slice_get m.states s ≡ Some (Takes q arms) → PlaysSent by_demo m s x r l v t y → ⊥
 no_sent m s x arms q r l v t y st p = let e : Some (Takes q arms) ≡ Some (Puts r p.arms) = sym st ∙ p.puts in cc (e)
 
-pub over : (m : Machine_data) (s : ℕ) (x : DemoActor) (a : Action) (t : ℕ) (y : DemoActor)
+pub over : (m : Machine_data) (s : ℕ) (x : DemoTalker) (a : Action) (t : ℕ) (y : DemoTalker)
     → slice_get m.states s ≡ Some Done → PlaysAction by_demo m s x a t y → ⊥
 over m s x (Sent r l v) t y st p = let e : Some Done ≡ Some (Puts r p.arms) = sym st ∙ p.puts in cc (e)
 over m s x (Got r l v) t y st p = let e : Some Done ≡ Some (Takes r p.arms) = sym st ∙ p.takes in cc (e)
@@ -91,7 +91,7 @@ gots_cons q r l v h e = elim (eqb_tells r.0 q) [ inl t ↦ rw t.0 refl | inr t �
 pub gots_skip : (q : ℕ) (r : Role) (l : Label) (v : Value) (h : History) → (r.0 ≡ q → ⊥) → gots q (Got r l v ∷ h) ≡ gots q h
 gots_skip q r l v h n = elim (eqb_tells r.0 q) [ inl t ↦ absurd (n t.1) | inr t ↦ rw t.0 refl ]
 
-pub nowhere : (m : Machine_data) (s : ℕ) (x : DemoActor) (a : Action) (t : ℕ) (y : DemoActor)
+pub nowhere : (m : Machine_data) (s : ℕ) (x : DemoTalker) (a : Action) (t : ℕ) (y : DemoTalker)
     → slice_get m.states s ≡ None → PlaysAction by_demo m s x a t y → ⊥
 nowhere m s x (Sent r l v) t y st p = let e : None ≡ Some (Puts r p.arms) = sym st ∙ p.puts in cc (e)
 nowhere m s x (Got r l v) t y st p = let e : None ≡ Some (Takes r p.arms) = sym st ∙ p.takes in cc (e)

@@ -14,14 +14,14 @@ use Rattle.rs_core.specs.Plain.{Moment, Ended, IsPlain}
 use Rattle.rs_core.specs.Runs.{IsGiven, HasActors}
 use Rattle.rs_core.specs.Histories.{Got, History}
 use Rattle.rs_core.proofs.Fifo.{sents, gots}
-use Rattle.rs_demos.specs.Acting.{by_demo, actor_behind_value, number_told, ring_behind}
+use Rattle.rs_demos.specs.Acting.{by_demo, talker_behind_value, number_told, ring_behind}
 use Rattle.rs_demos.specs.Numbers.{SpellsNumbers, takes_numbers}
 use Rattle.rs_demos.specs.Outputs.{output_of, result_of}
 use Rattle.rs_demos.specs.Results.{Computes, results_text, sums_of, sum_of_numbers, in_64_bits}
 use Rattle.rs_demos.specs.Sessions.{demo_machines, next_in_ring, previous_in_ring, ring_machine, ring_pairs, role}
 use Rattle.rs_demos.specs.Starts.{StartsWithActors, ring_member}
-use Rattle.rs_demos.specs.declared.actors.DemoActor.{DemoActor}
-use Rattle.rs_demos.specs.declared.actors.DemoActor.TheVariants as actor
+use Rattle.rs_demos.specs.declared.actors.DemoTalker.{DemoTalker}
+use Rattle.rs_demos.specs.declared.actors.DemoTalker.TheVariants as actor
 use Rattle.rs_demos.specs.declared.parts.RingMember.{RingMember}
 use Rattle.rs_demos.proofs.Butterflies.{same_lists, mapped, many_mapped, start_states, whole_numbers}
 use Rattle.rs_demos.proofs.Playing.{sents_cons, gots_cons}
@@ -35,25 +35,25 @@ abbrev msg : Value → Message
 msg v = record { label = record { 0 = 0 }; value = v }
 
 -- a number before each value that comes
-abbrev all_sent : DemoActor → List Value → List Message
+abbrev all_sent : DemoTalker → List Value → List Message
 all_sent x [] = []
-all_sent x (v ∷ vs) = msg (value.Whole (held x)) ∷ all_sent (actor_behind_value x v) vs
+all_sent x (v ∷ vs) = msg (value.Whole (held x)) ∷ all_sent (talker_behind_value x v) vs
 
-abbrev told_all : DemoActor → List Value → DemoActor
+abbrev told_all : DemoTalker → List Value → DemoTalker
 told_all x [] = x
-told_all x (v ∷ vs) = told_all (actor_behind_value x v) vs
+told_all x (v ∷ vs) = told_all (talker_behind_value x v) vs
 
-record Traded (count q r : ℕ) (x y : DemoActor) (h : History) : Type 0 where
+record Traded (count q r : ℕ) (x y : DemoTalker) (h : History) : Type 0 where
   values : List Value
   many : length values ≡ count
   sent : sents q h ≡ all_sent x values
   got : gots r h ≡ map msg values
   left : told_all x values ≡ y
 
-traded : (xs : List ℕ) (q r : ℕ) (x y : DemoActor) (h : History) → Trades (map (λ (round : ℕ). (q, r)) xs) y x h → Traded (length xs) q r x y h
+traded : (xs : List ℕ) (q r : ℕ) (x y : DemoTalker) (h : History) → Trades (map (λ (round : ℕ). (q, r)) xs) y x h → Traded (length xs) q r x y h
 traded [] q r x y h t = record { values = []; many = refl; sent = ap (λ (z : History). sents q z) t.0; got = ap (λ (z : History). gots r z) t.0; left = t.1 }
 traded (n ∷ xs) q r x y h t =
-    let on = traded xs q r (actor_behind_value x t.came) y t.later t.rest in
+    let on = traded xs q r (talker_behind_value x t.came) y t.later t.rest in
     record {
       values = t.came ∷ on.values;
       many = ap suc on.many;
@@ -63,11 +63,11 @@ traded (n ∷ xs) q r x y h t =
       left = on.left;
     }
 
-many_sent : (x : DemoActor) (vs : List Value) → length (all_sent x vs) ≡ length vs
+many_sent : (x : DemoTalker) (vs : List Value) → length (all_sent x vs) ≡ length vs
 many_sent x [] = refl
-many_sent x (v ∷ vs) = ap suc (many_sent (actor_behind_value x v) vs)
+many_sent x (v ∷ vs) = ap suc (many_sent (talker_behind_value x v) vs)
 
-ring_stays : (m : RingMember) (v : Value) → (k : RingMember) × (actor_behind_value (actor.RingMember m) v ≡ actor.RingMember k)
+ring_stays : (m : RingMember) (v : Value) → (k : RingMember) × (talker_behind_value (actor.RingMember m) v ≡ actor.RingMember k)
 ring_stays m v = (ring_behind m (number_told v), refl)
 
 first_sent : (m : RingMember) (vs : List Value) → 0 < length vs → slice_get (all_sent (actor.RingMember m) vs) 0 ≡ Some (msg (value.Whole m.last))
@@ -80,10 +80,10 @@ next_sent : (vs : List Value) (m : RingMember) (r : ℕ) (c : ℤ) → slice_get
 next_sent [] m r c e lt = absurd (omega arith)
 next_sent (v ∷ vs) m zero c e lt =
     let is : v ≡ value.Whole c = cc (e) in
-    ap (λ (z : Value). slice_get (all_sent (actor_behind_value (actor.RingMember m) z) vs) 0) is ∙ first_sent (record { last = c; sum = in_64_bits (m.sum +ℤ c) }) vs (omega arith)
+    ap (λ (z : Value). slice_get (all_sent (talker_behind_value (actor.RingMember m) z) vs) 0) is ∙ first_sent (record { last = c; sum = in_64_bits (m.sum +ℤ c) }) vs (omega arith)
 next_sent (v ∷ vs) m (suc r) c e lt =
     let k = ring_stays m v in
-    ap (λ (z : DemoActor). slice_get (all_sent z vs) (suc r)) k.1 ∙ next_sent vs k.0 r c e (omega arith)
+    ap (λ (z : DemoTalker). slice_get (all_sent z vs) (suc r)) k.1 ∙ next_sent vs k.0 r c e (omega arith)
 
 unmapped : (vs : List Value) (r : ℕ) (w : Value) → slice_get (map msg vs) r ≡ Some (msg w) → slice_get vs r ≡ Some w
 unmapped [] r w e = absurd (cc (e))
@@ -263,14 +263,14 @@ no_queue : (xs q ys : List Message) → xs ++ q ≡ ys → length ys ≡ length 
 no_queue xs [] ys e n = sym (append-nil xs) ∙ e
 no_queue xs (m ∷ q) ys e n = absurd (omega (arith, n, ap length e, length-append xs (m ∷ q)))
 
-abbrev ring_at : (ℕ → ℤ) → ℕ → DemoActor
+abbrev ring_at : (ℕ → ℤ) → ℕ → DemoTalker
 ring_at z i = ring_member (z i)
 
-abbrev AllTraded : ℕ → (ℕ → ℤ) → (ℕ → History) → (ℕ → DemoActor) → Type 0
+abbrev AllTraded : ℕ → (ℕ → ℤ) → (ℕ → History) → (ℕ → DemoTalker) → Type 0
 AllTraded n z h y = (i : ℕ) → i < n → Traded (n - 1) (next_in_ring n i) (previous_in_ring n i) (ring_at z i) (y i) (h i)
 
 -- what role i gets is what the one before it sends
-passed_on : (n : ℕ) (z : ℕ → ℤ) (h : ℕ → History) (y : ℕ → DemoActor) → 2 ≤ n → n ≤ 16 → (t : AllTraded n z h y)
+passed_on : (n : ℕ) (z : ℕ → ℤ) (h : ℕ → History) (y : ℕ → DemoTalker) → 2 ≤ n → n ≤ 16 → (t : AllTraded n z h y)
     → ((a b : ℕ) → a ≢ b → (q : List Message) × (gots a (h b) ++ q ≡ sents b (h a)))
     → (i : ℕ) (lt : i < n) (ltp : previous_in_ring n i < n)
     → map msg (t i lt).values ≡ all_sent (ring_at z (previous_in_ring n i)) (t (previous_in_ring n i) ltp).values
@@ -283,7 +283,7 @@ passed_on n z h y low high t fifo i lt ltp =
     (ap (λ (k : List Message). k ++ f.0) (sym (t i lt).got) ∙ f.1 ∙ sent)
     (many_sent (ring_at z (previous_in_ring n i)) (t (previous_in_ring n i) ltp).values ∙ (t (previous_in_ring n i) ltp).many ∙ sym (t i lt).many ∙ sym (many_mapped msg (t i lt).values))
 
-value_at : (n : ℕ) (z : ℕ → ℤ) (h : ℕ → History) (y : ℕ → DemoActor) → 2 ≤ n → n ≤ 16 → (t : AllTraded n z h y)
+value_at : (n : ℕ) (z : ℕ → ℤ) (h : ℕ → History) (y : ℕ → DemoTalker) → 2 ≤ n → n ≤ 16 → (t : AllTraded n z h y)
     → ((a b : ℕ) → a ≢ b → (q : List Message) × (gots a (h b) ++ q ≡ sents b (h a)))
     → (r i : ℕ) (lt : i < n) → r < n - 1 → slice_get (t i lt).values r ≡ Some (value.Whole (z (back n (suc r) i)))
 value_at n z h y low high t fifo zero i lt few =
@@ -300,7 +300,7 @@ value_at n z h y low high t fifo (suc r) i lt few =
     unmapped (t i lt).values (suc r) (value.Whole (z (back n (suc r) (previous_in_ring n i)))) (ap (λ (k : List Message). slice_get k (suc r)) e ∙ next)
 
 -- the sum that role i has at the end
-sum_at : (n : ℕ) (zs : List ℤ) (h : ℕ → History) (y : ℕ → DemoActor) → 2 ≤ n → n ≤ 16 → length zs ≡ n
+sum_at : (n : ℕ) (zs : List ℤ) (h : ℕ → History) (y : ℕ → DemoTalker) → 2 ≤ n → n ≤ 16 → length zs ≡ n
     → ((j : ℕ) → get_or zs j (pos 0) ≡ in_64_bits (get_or zs j (pos 0)))
     → AllTraded n (λ (j : ℕ). get_or zs j (pos 0)) h y → ((a b : ℕ) → a ≢ b → (q : List Message) × (gots a (h b) ++ q ≡ sents b (h a)))
     → (i : ℕ) → i < n → result_of (y i) ≡ in_64_bits (sum_of_numbers zs)
@@ -335,7 +335,7 @@ many_range : (k a : ℕ) → length (range_with_len a k) ≡ k
 many_range zero a = refl
 many_range (suc k) a = ap suc (many_range k (a + 1))
 
-results : (n : ℕ) (zs : List ℤ) (bytes : List ℕ) (actors after : List DemoActor) (given : ℕ → DemoActor) (end : Moment DemoActor)
+results : (n : ℕ) (zs : List ℤ) (bytes : List ℕ) (actors after : List DemoTalker) (given : ℕ → DemoTalker) (end : Moment DemoTalker)
     → 2 ≤ n → n ≤ 16 → length zs ≡ n → SpellsNumbers zs bytes → actors ≡ map ring_member zs → IsGiven given actors → Ran (demo_machines demo.Ring n) given end
     → HasActors n end.actor after → map result_of after ≡ sums_of zs
 results n zs bytes actors after given end low high many spells is g r has =
@@ -347,7 +347,7 @@ results n zs bytes actors after given end low high many spells is g r has =
     all i lt =
         let there = machine_of n i lt in
         let x : given i ≡ ring_member (get_or zs i (pos 0)) =
-        g i (ring_member (get_or zs i (pos 0))) (ap (λ (z : List DemoActor). slice_get z i) is ∙ mapped ring_member zs i (get_or zs i (pos 0)) (number_at zs i (omega (arith, many)))) in
+        g i (ring_member (get_or zs i (pos 0))) (ap (λ (z : List DemoTalker). slice_get z i) is ∙ mapped ring_member zs i (get_or zs i (pos 0)) (number_at zs i (omega (arith, many)))) in
         let tr = trades (end.history i) (ring_pairs n i) (ring_machine n i) 0 (ring_member (get_or zs i (pos 0))) (end.at.at i) (end.actor i) refl
         (start_states (ring_machine n i) (ring_pairs n i) refl) (playing (demo_machines demo.Ring n) given end i (ring_machine n i) (ring_member (get_or zs i (pos 0))) r there x)
         (r.over i (ring_machine n i) there) in
@@ -362,7 +362,7 @@ results n zs bytes actors after given end low high many spells is g r has =
         let theirs = mapped (λ (z : ℤ). in_64_bits (sum_of_numbers zs)) zs i (get_or zs i (pos 0)) (number_at zs i (omega (arith, many))) in
         ours ∙ ap (λ (z : ℤ). Some z) sum ∙ sym theirs
 
-pub ring_run : (bytes : List ℕ) (actors after : List DemoActor) (given : ℕ → DemoActor) (limit : ℕ) (capacity : Option ℕ) (end : Moment DemoActor)
+pub ring_run : (bytes : List ℕ) (actors after : List DemoTalker) (given : ℕ → DemoTalker) (limit : ℕ) (capacity : Option ℕ) (end : Moment DemoTalker)
     → StartsWithActors demo.Ring bytes actors → IsGiven given actors → IsPlain (demo_machines demo.Ring (length actors)) by_demo given limit capacity (Ended end)
     → HasActors (length actors) end.actor after → Computes demo.Ring bytes (output_of demo.Ring after)
 ring_run bytes actors after given limit capacity end s g is has =

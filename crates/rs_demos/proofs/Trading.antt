@@ -9,20 +9,20 @@ use Rattle.rs_model.specs.declared.values.Value.{Value}
 use Rattle.rs_model.specs.declared.values.Value.TheVariants as value
 use Rattle.rs_core.specs.Actors.{PlaysFrom}
 use Rattle.rs_core.specs.Histories.{Action, Sent, Got, History}
-use Rattle.rs_demos.specs.Acting.{by_demo, actor_behind_value}
+use Rattle.rs_demos.specs.Acting.{by_demo, talker_behind_value}
 use Rattle.rs_demos.specs.Sessions.{Exchange, role, arm, states_from}
-use Rattle.rs_demos.specs.declared.actors.DemoActor.{DemoActor}
-use Rattle.rs_demos.specs.declared.actors.DemoActor.TheVariants as actor
+use Rattle.rs_demos.specs.declared.actors.DemoTalker.{DemoTalker}
+use Rattle.rs_demos.specs.declared.actors.DemoTalker.TheVariants as actor
 use Rattle.rs_demos.proofs.Playing.{sent_at, got_at, no_got, no_sent, over, only_arm}
 
 -- members hold a number
 
-abbrev pub is_member : DemoActor → Bool
+abbrev pub is_member : DemoTalker → Bool
 is_member (actor.RingMember m) = true
 is_member (actor.ButterflyMember m) = true
 is_member _ = false
 
-abbrev pub held : DemoActor → ℤ
+abbrev pub held : DemoTalker → ℤ
 held (actor.RingMember m) = m.last
 held (actor.ButterflyMember m) = m.held
 held _ = pos 0
@@ -30,14 +30,14 @@ held _ = pos 0
 abbrev one_arm : ℕ → List Arm
 one_arm next = arm 0 sort.Whole next ∷ []
 
-chooses : (x : DemoActor) (next : ℕ) → is_member x ≡ true → (by_demo.chooses x (one_arm next) ≡ (0, value.Whole (held x))) × (by_demo.asked x (one_arm next) ≡ x)
+chooses : (x : DemoTalker) (next : ℕ) → is_member x ≡ true → (by_demo.chooses x (one_arm next) ≡ (0, value.Whole (held x))) × (by_demo.asked x (one_arm next) ≡ x)
 chooses (actor.RingMember m) next h = (refl, refl)
 chooses (actor.ButterflyMember m) next h = (refl, refl)
 chooses (actor.Source b) next h = absurd (cc (h))
 chooses (actor.Kernel k) next h = absurd (cc (h))
 chooses (actor.Sink b) next h = absurd (cc (h))
 
-pub stays_member : (x : DemoActor) (v : Value) → is_member x ≡ true → is_member (actor_behind_value x v) ≡ true
+pub stays_member : (x : DemoTalker) (v : Value) → is_member x ≡ true → is_member (talker_behind_value x v) ≡ true
 stays_member (actor.RingMember m) v h = refl
 stays_member (actor.ButterflyMember m) v h = refl
 stays_member (actor.Source b) v h = absurd (cc (h))
@@ -46,21 +46,21 @@ stays_member (actor.Sink b) v h = absurd (cc (h))
 
 -- pairs of acts
 
-abbrev pub script_sent : Exchange → DemoActor → Action
+abbrev pub script_sent : Exchange → DemoTalker → Action
 script_sent e x = Sent (role e.0) (record { 0 = 0 }) (value.Whole (held x))
 
 abbrev pub script_got : Exchange → Value → Action
 script_got e v = Got (role e.1) (record { 0 = 0 }) v
 
 -- one pair of acts, and what comes behind it
-pub record Trade (e : Exchange) (Behind : DemoActor → History → Type 0) (x : DemoActor) (h : History) : Type 0 where
+pub record Trade (e : Exchange) (Behind : DemoTalker → History → Type 0) (x : DemoTalker) (h : History) : Type 0 where
   pub came : Value
   pub later : History
   pub history_is : h ≡ script_sent e x ∷ script_got e came ∷ later
-  pub rest : Behind (actor_behind_value x came) later
+  pub rest : Behind (talker_behind_value x came) later
 
 -- the history has these pairs of acts, one behind the other, and leads from actor x to y
-abbrev pub Trades : List Exchange → DemoActor → DemoActor → History → Type 0
+abbrev pub Trades : List Exchange → DemoTalker → DemoTalker → History → Type 0
 Trades [] y x h = (h ≡ []) × (x ≡ y)
 Trades (e ∷ es) y x h = Trade e (λ z k. Trades es y z k) x h
 
@@ -84,7 +84,7 @@ not_over m s t st here' e d =
     let h : Some st ≡ Some Done = sym here' ∙ subst P (sym e) d in
     cc (h)
 
-pub trades : (h : History) (es : List Exchange) (m : Machine_data) (s : ℕ) (x : DemoActor) (t : ℕ) (y : DemoActor) → is_member x ≡ true → HasStates m s es
+pub trades : (h : History) (es : List Exchange) (m : Machine_data) (s : ℕ) (x : DemoTalker) (t : ℕ) (y : DemoTalker) → is_member x ≡ true → HasStates m s es
     → PlaysFrom by_demo m s x h t y → slice_get m.states t ≡ Some Done → Trades es y x h
 trades [] [] m s x t y mem st p d = (refl, p.1)
 trades (a ∷ h) [] m s x t y mem st p d = absurd (over m s x a p.0 p.1 (here m s [] st) p.2)
@@ -114,8 +114,8 @@ trades (Sent r l v ∷ Got r' l' v' ∷ h) (e ∷ es) m s x t y mem st p d =
     let a' = only_arm (arm 0 sort.Whole (suc (suc s))) g'.arm g'.place g'.follows in
     let n' : suc (suc s) ≡ p.3.0 = ap (λ (z : Arm). z.next) a' ∙ g'.goes in
     let el' : record { 0 = 0 } ≡ l' = ap (λ (z : Arm). z.label) a' ∙ g'.label in
-    let ex' : actor_behind_value x v' ≡ p.3.1 = ap (λ (z : DemoActor). actor_behind_value z v') ex ∙ g'.becomes in
-    let P : ℕ → DemoActor → Type 0 = λ i z. PlaysFrom by_demo m i z h t y in
+    let ex' : talker_behind_value x v' ≡ p.3.1 = ap (λ (z : DemoTalker). talker_behind_value z v') ex ∙ g'.becomes in
+    let P : ℕ → DemoTalker → Type 0 = λ i z. PlaysFrom by_demo m i z h t y in
     let on = subst₂ P (sym n') (sym ex') p.3.3 in
     let one : Sent r l v ≡ script_sent e x = cc (g.peer, el, ev) in
     let other : Got r' l' v' ≡ script_got e v' = cc (g'.peer, el') in
@@ -123,5 +123,5 @@ trades (Sent r l v ∷ Got r' l' v' ∷ h) (e ∷ es) m s x t y mem st p d =
       came = v';
       later = h;
       history_is = cc (one, other);
-      rest = trades h es m (suc (suc s)) (actor_behind_value x v') t y (stays_member x v' mem) (next_states m s e es st) on d;
+      rest = trades h es m (suc (suc s)) (talker_behind_value x v') t y (stays_member x v' mem) (next_states m s e es st) on d;
     }

@@ -1,17 +1,13 @@
--- Public: what the actors of the demos choose, and what they become.
+-- Public: what the talkers of the demos have at hand, and what they become.
 use Rattle.std.specs.Prelude.{ℕ, ◌/◌, ◌%◌, ◌^◌, ℤ, pos, ◌+ℤ◌, ◌-ℤ◌, List, [], ◌∷◌, ◌++◌, take, drop, ◌==◌, nat_lt, if◌then◌else◌, Option, Some, None}
-use Rattle.rs_model.specs.Values.{empty_value}
 use Rattle.rs_demos.specs.declared.parts.TheConstants.{PIECE_BYTES}
-use Rattle.rs_model.specs.Serving.{serves}
-use Rattle.rs_model.specs.declared.graph.Arm.{Arm}
-use Rattle.rs_model.specs.declared.values.Sort.{Sort}
-use Rattle.rs_model.specs.declared.values.Sort.TheVariants as sort
 use Rattle.rs_model.specs.declared.values.Value.{Value}
 use Rattle.rs_model.specs.declared.values.Value.TheVariants as value
-use Rattle.rs_core.specs.Actors.{Choice, Behaviour}
+use Rattle.rs_core.specs.Actors.{Behaviour}
+use Rattle.rs_actors.specs.Talking.{Conduct, by_sorts}
 use Rattle.rs_demos.specs.Results.{inverse_bytes, in_64_bits}
-use Rattle.rs_demos.specs.declared.actors.DemoActor.{DemoActor}
-use Rattle.rs_demos.specs.declared.actors.DemoActor.TheVariants as actor
+use Rattle.rs_demos.specs.declared.actors.DemoTalker.{DemoTalker}
+use Rattle.rs_demos.specs.declared.actors.DemoTalker.TheVariants as actor
 use Rattle.rs_demos.specs.declared.parts.RingMember.{RingMember}
 use Rattle.rs_demos.specs.declared.parts.ButterflyMember.{ButterflyMember}
 
@@ -33,54 +29,20 @@ abbrev pub next_piece : List ℕ → Option (List ℕ)
 next_piece [] = None
 next_piece (b ∷ bytes) = Some (piece_of (b ∷ bytes))
 
--- what an actor would send: a source its next piece, or the unit where no bytes are left; a kernel the piece that it
+-- what a talker has at hand: a source its next piece, or the unit where no bytes are left; a kernel the piece that it
 -- holds, or the unit where it holds none; a sink the unit; a member of a ring or of a butterfly the number that it holds
-abbrev pub value_at_hand : DemoActor → Value
+abbrev pub value_at_hand : DemoTalker → Value
 value_at_hand (actor.Source bytes) = octets_or_unit (next_piece bytes)
 value_at_hand (actor.Kernel k) = octets_or_unit k.piece
 value_at_hand (actor.Sink bytes) = value.Unit
 value_at_hand (actor.RingMember m) = value.Whole m.last
 value_at_hand (actor.ButterflyMember m) = value.Whole m.held
 
--- the sort of a value
-abbrev pub sort_of : Value → Sort
-sort_of value.Unit = sort.Unit
-sort_of (value.Flag b) = sort.Flag
-sort_of (value.Natural n) = sort.Natural
-sort_of (value.Whole z) = sort.Whole
-sort_of (value.Octets bytes) = sort.Octets
-sort_of (value.Numbers zs) = sort.Numbers
-
--- the first of the first two arms where a value of the sort may stand: no state of a demo has more than two arms
-abbrev pub arm_place : Sort → List Arm → Option ℕ
-arm_place s [] = None
-arm_place s (a ∷ []) = if serves s a.sort then Some 0 else None
-arm_place s (a ∷ b ∷ others) = if serves s a.sort then Some 0 else (if serves s b.sort then Some 1 else None)
-
--- the empty value of the first arm's sort
-abbrev pub empty_for : List Arm → Value
-empty_for [] = value.Unit
-empty_for (a ∷ arms) = empty_value a.sort
-
--- what it wants goes by that arm; where there is none, the first arm is taken, with an empty value
-abbrev pub chosen_at : DemoActor → List Arm → Option ℕ → Choice
-chosen_at x arms (Some place) = (place, value_at_hand x)
-chosen_at x arms None = (0, empty_for arms)
-
--- what an actor is when it has sent what it wanted
-abbrev pub after_sending : DemoActor → DemoActor
+-- what a talker is when it has sent what it had at hand
+abbrev pub after_sending : DemoTalker → DemoTalker
 after_sending (actor.Source bytes) = actor.Source (behind_piece bytes)
 after_sending (actor.Kernel k) = actor.Kernel (record { piece = None })
 after_sending x = x
-
--- what an actor is when it has sent what it wanted, where an arm was found for it; else it stays as it is
-abbrev pub actor_behind_choice : DemoActor → Option ℕ → DemoActor
-actor_behind_choice x (Some place) = after_sending x
-actor_behind_choice x None = x
-
--- the place of the arm by which what it wants can go
-abbrev pub arm_for : DemoActor → List Arm → Option ℕ
-arm_for x arms = arm_place (sort_of (value_at_hand x)) arms
 
 -- the number that a value of the sort `int` tells, also where it is a natural number; any other value tells none
 abbrev pub number_told : Value → Option ℤ
@@ -111,19 +73,23 @@ abbrev pub butterfly_behind : ButterflyMember → Option ℤ → ButterflyMember
 butterfly_behind m (Some c) = butterfly_told m c
 butterfly_behind m None = m
 
--- what an actor becomes when a value comes: a kernel holds the piece, each byte inverted; a sink joins the pieces; a
+-- what a talker becomes when a value comes: a kernel holds the piece, each byte inverted; a sink joins the pieces; a
 -- member is told the number
-abbrev pub actor_behind_value : DemoActor → Value → DemoActor
-actor_behind_value (actor.Kernel k) (value.Octets bytes) = actor.Kernel (record { piece = Some (inverse_bytes bytes) })
-actor_behind_value (actor.Sink bytes) (value.Octets piece) = actor.Sink (bytes ++ piece)
-actor_behind_value (actor.RingMember m) v = actor.RingMember (ring_behind m (number_told v))
-actor_behind_value (actor.ButterflyMember m) v = actor.ButterflyMember (butterfly_behind m (number_told v))
-actor_behind_value x v = x
+abbrev pub talker_behind_value : DemoTalker → Value → DemoTalker
+talker_behind_value (actor.Kernel k) (value.Octets bytes) = actor.Kernel (record { piece = Some (inverse_bytes bytes) })
+talker_behind_value (actor.Sink bytes) (value.Octets piece) = actor.Sink (bytes ++ piece)
+talker_behind_value (actor.RingMember m) v = actor.RingMember (ring_behind m (number_told v))
+talker_behind_value (actor.ButterflyMember m) v = actor.ButterflyMember (butterfly_behind m (number_told v))
+talker_behind_value x v = x
 
--- how the actors of the demos behave
-abbrev pub by_demo : Behaviour DemoActor
-by_demo = record {
-  chooses = λ x arms. chosen_at x arms (arm_for x arms);
-  asked = λ x arms. actor_behind_choice x (arm_for x arms);
-  told = λ x arms place v. actor_behind_value x v;
+-- how the talkers of the demos do
+abbrev pub demo_conduct : Conduct DemoTalker
+demo_conduct = record {
+  at_hand = value_at_hand;
+  behind_sending = after_sending;
+  behind_value = talker_behind_value;
 }
+
+-- how their actors behave: they choose by sorts
+abbrev pub by_demo : Behaviour DemoTalker
+by_demo = by_sorts demo_conduct

@@ -2,7 +2,6 @@ pub mod Numbers
 pub mod Results
 pub mod Acting
 pub mod Starts
-pub mod Choosing
 pub mod Reading
 pub mod Outputs
 pub mod Sessions

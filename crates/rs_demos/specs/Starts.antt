@@ -2,23 +2,23 @@
 use Rattle.std.specs.Prelude.{◌≡◌, ℕ, ℤ, List, [], ◌∷◌, map, None}
 use Rattle.std.specs.List.{enumerate_from}
 use Rattle.rs_demos.specs.Numbers.{AreAsked}
-use Rattle.rs_demos.specs.declared.actors.DemoActor.{DemoActor}
-use Rattle.rs_demos.specs.declared.actors.DemoActor.TheVariants as actor
+use Rattle.rs_demos.specs.declared.actors.DemoTalker.{DemoTalker}
+use Rattle.rs_demos.specs.declared.actors.DemoTalker.TheVariants as actor
 use Rattle.rs_model.specs.declared.demos.Demo.{Demo}
 use Rattle.rs_model.specs.declared.demos.Demo.TheVariants as demo
 use Rattle.rs_demos.specs.declared.faults.DemoFault.{DemoFault}
 use Rattle.rs_demos.specs.declared.faults.DemoFault.TheVariants as fault
 
 -- a member of a ring holds its own number, which is also its sum so far
-abbrev pub ring_member : ℤ → DemoActor
+abbrev pub ring_member : ℤ → DemoTalker
 ring_member z = actor.RingMember (record { last = z; sum = z })
 
 -- a member of a butterfly holds its own number, and all bits of its role are before it
-abbrev pub butterfly_member : ℕ × ℤ → DemoActor
+abbrev pub butterfly_member : ℕ × ℤ → DemoTalker
 butterfly_member x = actor.ButterflyMember (record { bits = x.0; held = x.1 })
 
 -- the actors, in role order
-abbrev pub StartsWithActors : Demo → List ℕ → List DemoActor → Type 0
+abbrev pub StartsWithActors : Demo → List ℕ → List DemoTalker → Type 0
 StartsWithActors demo.Double bytes actors =
     actors ≡ actor.Kernel (record { piece = None }) ∷ actor.Source bytes ∷ actor.Sink [] ∷ []
 StartsWithActors demo.Stream bytes actors = actors ≡ actor.Source bytes ∷ actor.Sink [] ∷ []

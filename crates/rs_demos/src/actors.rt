@@ -1,19 +1,17 @@
-//! The actors of the demos.
+//! The actors of the demos, and the talkers that they play.
 
-ghost use Rattle.std.specs.Prelude.{◌≡◌, ◌≢◌, ◌+ℤ◌, ◌-ℤ◌, [], IfOk, OnErr, OnOk};
-ghost use Rattle.rs_model.specs.Serving.{serves, sort_number};
-ghost use Rattle.rs_demos.specs.Acting.{after_sending, butterfly_behind, butterfly_told, by_demo, arm_place, number_told, ring_behind, ring_told, sort_of, actor_behind_value, value_at_hand};
-ghost use Rattle.rs_demos.specs.Choosing.{chooses_well_shown};
+ghost use Rattle.std.specs.Prelude.{◌≡◌, ◌+ℤ◌, ◌-ℤ◌, IfOk};
+ghost use Rattle.rs_demos.specs.Acting.{butterfly_behind, butterfly_told, demo_conduct, number_told, ring_behind, ring_told};
 ghost use Rattle.rs_demos.specs.Results.{inverse_bytes, in_64_bits};
 
 use crate::parts::{ButterflyMember, Kernel, PieceSink, PieceSource, RingMember};
-use rs_core::Actor;
-use rs_model::{Arm, NoMemory, Numbers, Octets, Sort, Value};
+use rs_actors::{Talker, TalkingActor};
+use rs_model::{NoMemory, Octets, Sort, Value};
 use std::alloc::Global;
 
-/// What chooses for a role of a demo.
+/// What a role of a demo sends, and what it makes of what comes.
 #[derive(Drop, Debug)]
-pub enum DemoActor {
+pub enum DemoTalker {
     Source(PieceSource),
     Kernel(Kernel),
     Sink(PieceSink),
@@ -21,53 +19,8 @@ pub enum DemoActor {
     ButterflyMember(ButterflyMember),
 }
 
-impl DemoActor {
-    /// The sort of what it would send.
-    fn wanted_sort(&self) -> Sort
-        ensures { result ≡ sort_of (value_at_hand self.now) }
-    {
-        match self {
-            DemoActor::Source(source) if source.left().is_empty() => Sort::Unit,
-            DemoActor::Source(_) => Sort::Octets,
-            DemoActor::Kernel(kernel) => match kernel.piece {
-                Some(_) => Sort::Octets,
-                None => Sort::Unit,
-            },
-            DemoActor::Sink(_) => Sort::Unit,
-            DemoActor::RingMember(_) | DemoActor::ButterflyMember(_) => Sort::Whole,
-        }
-    }
-
-    /// What it would send, which it then has sent.
-    fn send(&mut self, alloc: Global) -> Result<Value, NoMemory>
-        ensures value { IfOk result (λ v. v ≡ value_at_hand self.old) }
-        ensures becomes { OnOk result (self.new ≡ after_sending self.old) }
-        ensures err { OnErr result (self.new ≡ self.old) }
-    {
-        Ok(match self {
-            DemoActor::Source(source) if source.left().is_empty() => Value::Unit,
-            DemoActor::Source(source) => Value::Octets(source.send_piece(alloc)?),
-            DemoActor::Kernel(kernel) => match kernel.piece.take() {
-                Some(piece) => Value::Octets(piece),
-                None => Value::Unit,
-            },
-            DemoActor::Sink(_) => Value::Unit,
-            DemoActor::RingMember(member) => Value::Whole(member.last),
-            DemoActor::ButterflyMember(member) => Value::Whole(member.held),
-        })
-    }
-}
-
-/// The first of the first two arms where a value of the sort may stand.
-fn arm_place(sort: Sort, arms: &[Arm]) -> Option<u16>
-    ensures { result ≡ arm_place sort arms.now }
-{
-    match arms {
-        [first, ..] if sort.serves(first.sort) => Some(0),
-        [_, second, ..] if sort.serves(second.sort) => Some(1),
-        _ => None,
-    }
-}
+/// What chooses for a role of a demo.
+pub type DemoActor = TalkingActor<DemoTalker>;
 
 /// The number that a value of the sort `int` tells.
 fn number_told(value: &Value) -> Option<i64>
@@ -151,36 +104,47 @@ impl ButterflyMember {
     }
 }
 
-impl Actor for DemoActor {
-    ghost behaviour = { by_demo };
+impl Talker for DemoTalker {
+    ghost conduct = { demo_conduct };
 
-    /// Sends what it wants by the arm that has its sort, else an empty value by the first arm.
-    fn choose(&mut self, alloc: Global, arms: &[Arm]) -> Result<(u16, Value), NoMemory> {
-        match arm_place(self.wanted_sort(), arms) {
-            Some(place) => Ok((place, self.send(alloc)?)),
-            None => Ok((0, arms[0].sort.empty_value(alloc)?)),
+    fn sort(&self) -> Sort {
+        match self {
+            DemoTalker::Source(source) if source.left().is_empty() => Sort::Unit,
+            DemoTalker::Source(_) => Sort::Octets,
+            DemoTalker::Kernel(kernel) => match kernel.piece {
+                Some(_) => Sort::Octets,
+                None => Sort::Unit,
+            },
+            DemoTalker::Sink(_) => Sort::Unit,
+            DemoTalker::RingMember(_) | DemoTalker::ButterflyMember(_) => Sort::Whole,
         }
     }
 
+    fn send(&mut self, alloc: Global) -> Result<Value, NoMemory> {
+        Ok(match self {
+            DemoTalker::Source(source) if source.left().is_empty() => Value::Unit,
+            DemoTalker::Source(source) => Value::Octets(source.send_piece(alloc)?),
+            DemoTalker::Kernel(kernel) => match kernel.piece.take() {
+                Some(piece) => Value::Octets(piece),
+                None => Value::Unit,
+            },
+            DemoTalker::Sink(_) => Value::Unit,
+            DemoTalker::RingMember(member) => Value::Whole(member.last),
+            DemoTalker::ButterflyMember(member) => Value::Whole(member.held),
+        })
+    }
+
     /// Keeps what comes, as its role does.
-    fn take(
-        &mut self,
-        alloc: Global,
-        _arms: &[Arm],
-        _arm: u16,
-        value: &Value,
-    ) -> Result<(), NoMemory> {
+    fn take(&mut self, alloc: Global, value: &Value) -> Result<(), NoMemory> {
         match (self, value) {
-            (DemoActor::Kernel(kernel), Value::Octets(bytes)) => {
+            (DemoTalker::Kernel(kernel), Value::Octets(bytes)) => {
                 kernel.piece = Some(inverse_bytes(alloc, bytes.as_slice())?);
             }
-            (DemoActor::Sink(sink), Value::Octets(piece)) => sink.append(piece.as_slice())?,
-            (DemoActor::RingMember(member), value) => *member = member.behind_value(value),
-            (DemoActor::ButterflyMember(member), value) => *member = member.behind_value(value),
+            (DemoTalker::Sink(sink), Value::Octets(piece)) => sink.append(piece.as_slice())?,
+            (DemoTalker::RingMember(member), value) => *member = member.behind_value(value),
+            (DemoTalker::ButterflyMember(member), value) => *member = member.behind_value(value),
             _ => {}
         }
         Ok(())
     }
-
-    ghost chooses_well = { chooses_well_shown };
 }

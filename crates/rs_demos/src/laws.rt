@@ -17,7 +17,7 @@ ghost use Rattle.rs_demos.specs.Results.{Computes};
 ghost use Rattle.rs_demos.specs.Sessions.{demo_machines, demo_protocol, has_line, has_session};
 ghost use Rattle.rs_demos.specs.Starts.{HasNoNumbers, StartsWithActors};
 ghost use Rattle.rs_demos.specs.Texts.{IsDemoText, document_of};
-ghost use Rattle.rs_demos.specs.declared.actors.DemoActor.{DemoActor};
+ghost use Rattle.rs_demos.specs.declared.actors.DemoTalker.{DemoTalker};
 
 /// Bytes spell one list of numbers at most.
 pub fn bytes_spell_one_list_of_numbers()
@@ -26,23 +26,23 @@ pub fn bytes_spell_one_list_of_numbers()
 
 /// A demo has actors for the bytes, or these aren't the numbers that it asks for.
 pub fn demos_have_actors_or_no_numbers()
-    ensures { (kind : Demo) (bytes : List ℕ) → ((actors : List DemoActor) × StartsWithActors kind bytes actors) ⊎ HasNoNumbers kind bytes }
+    ensures { (kind : Demo) (bytes : List ℕ) → ((actors : List DemoTalker) × StartsWithActors kind bytes actors) ⊎ HasNoNumbers kind bytes }
 {}
 
 /// No demo has actors for bytes that aren't the numbers that it asks for.
 pub fn demos_with_actors_have_numbers()
-    ensures { (kind : Demo) (bytes : List ℕ) (actors : List DemoActor) → StartsWithActors kind bytes actors → HasNoNumbers kind bytes → ⊥ }
+    ensures { (kind : Demo) (bytes : List ℕ) (actors : List DemoTalker) → StartsWithActors kind bytes actors → HasNoNumbers kind bytes → ⊥ }
 {}
 
 /// The actors that a demo has for the bytes are one list.
 pub fn demos_start_in_one_way()
-    ensures { (kind : Demo) (bytes : List ℕ) (actors others : List DemoActor) → StartsWithActors kind bytes actors → StartsWithActors kind bytes others → actors ≡ others }
+    ensures { (kind : Demo) (bytes : List ℕ) (actors others : List DemoTalker) → StartsWithActors kind bytes actors → StartsWithActors kind bytes others → actors ≡ others }
 {}
 
 /// Where the plain run of a demo's machines with the actors of the bytes has ended, over queues of any capacity or of
 /// none and with any limit, what is printed of the actors that it leaves is what the demo computes of the bytes.
 pub fn ended_runs_compute()
-    ensures { (kind : Demo) (bytes : List ℕ) (actors after : List DemoActor) (given : ℕ → DemoActor) (limit : ℕ) (capacity : Option ℕ) (end : Moment DemoActor) → StartsWithActors kind bytes actors
+    ensures { (kind : Demo) (bytes : List ℕ) (actors after : List DemoTalker) (given : ℕ → DemoTalker) (limit : ℕ) (capacity : Option ℕ) (end : Moment DemoTalker) → StartsWithActors kind bytes actors
         → IsGiven given actors → IsPlain (demo_machines kind (length actors)) by_demo given limit capacity (Ended end) → HasActors (length actors) end.actor after
         → Computes kind bytes (output_of kind after) }
 {}
@@ -50,10 +50,10 @@ pub fn ended_runs_compute()
 /// No role of a demo makes 4,096 acts, wherever the plain run of a demo's machines with the actors of the bytes ends, over
 /// queues of any capacity or of none. So a role is stopped only at a lower limit.
 pub fn demos_are_stopped_at_low_limits_alone()
-    ensures acts { (kind : Demo) (bytes : List ℕ) (actors : List DemoActor) (given : ℕ → DemoActor) (limit : ℕ) (capacity : Option ℕ) (end : Ending DemoActor) (role : ℕ) → length bytes ≤ MOST_BYTES
+    ensures acts { (kind : Demo) (bytes : List ℕ) (actors : List DemoTalker) (given : ℕ → DemoTalker) (limit : ℕ) (capacity : Option ℕ) (end : Ending DemoTalker) (role : ℕ) → length bytes ≤ MOST_BYTES
         → StartsWithActors kind bytes actors → IsGiven given actors → IsPlain (demo_machines kind (length actors)) by_demo given limit capacity end
         → role < length (demo_machines kind (length actors)) → length ((last_moment end).history role) < 4096 }
-    ensures limit { (kind : Demo) (bytes : List ℕ) (actors : List DemoActor) (given : ℕ → DemoActor) (limit : ℕ) (capacity : Option ℕ) (role : ℕ) (end : Moment DemoActor) → length bytes ≤ MOST_BYTES
+    ensures limit { (kind : Demo) (bytes : List ℕ) (actors : List DemoTalker) (given : ℕ → DemoTalker) (limit : ℕ) (capacity : Option ℕ) (role : ℕ) (end : Moment DemoTalker) → length bytes ≤ MOST_BYTES
         → StartsWithActors kind bytes actors → IsGiven given actors → IsPlain (demo_machines kind (length actors)) by_demo given limit capacity (Stopped role end) → limit < 4096 }
 {}
 

@@ -13,7 +13,7 @@ mod parts;
 mod sessions;
 mod starts;
 
-pub use actors::DemoActor;
+pub use actors::{DemoActor, DemoTalker};
 pub use documents::demo_document;
 pub use faults::DemoFault;
 pub use outputs::{demo_output, into_demo_output};

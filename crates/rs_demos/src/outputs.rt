@@ -6,7 +6,8 @@ ghost use Rattle.rs_demos.specs.Outputs.{bytes_of, output_of, result_of};
 ghost use Rattle.rs_demos.specs.Printing.{joined_text, further_numbers_text};
 ghost use Rattle.rs_demos.specs.Results.{results_text};
 
-use crate::actors::DemoActor;
+use crate::actors::{DemoActor, DemoTalker};
+use rs_actors::TalkingActor;
 use rs_model::{Demo, NoMemory};
 use rs_text::Text;
 use std::alloc::Global;
@@ -40,7 +41,7 @@ fn into_bytes_at(alloc: Global, mut actors: Vec<DemoActor>, place: usize) -> Tex
     ensures { result ≡ bytes_of (slice_get actors.items place) }
 {
     if place < actors.len() {
-        if let DemoActor::Sink(sink) = actors.swap_remove(place) {
+        if let DemoTalker::Sink(sink) = actors.swap_remove(place).into_talker() {
             return sink.into_text();
         }
     }
@@ -50,8 +51,8 @@ fn into_bytes_at(alloc: Global, mut actors: Vec<DemoActor>, place: usize) -> Tex
 fn bytes_at(actors: &[DemoActor], place: usize) -> &[u8]
     ensures { result.now ≡ bytes_of (slice_get actors.now place) }
 {
-    match actors.get(place) {
-        Some(DemoActor::Sink(sink)) => sink.as_slice(),
+    match actors.get(place).map(TalkingActor::talker) {
+        Some(DemoTalker::Sink(sink)) => sink.as_slice(),
         _ => &[],
     }
 }
@@ -59,9 +60,9 @@ fn bytes_at(actors: &[DemoActor], place: usize) -> &[u8]
 fn result_of(actor: &DemoActor) -> i64
     ensures { result ≡ result_of actor.now }
 {
-    match actor {
-        DemoActor::RingMember(member) => member.sum,
-        DemoActor::ButterflyMember(member) => member.held,
+    match actor.talker() {
+        DemoTalker::RingMember(member) => member.sum,
+        DemoTalker::ButterflyMember(member) => member.held,
         _ => 0,
     }
 }

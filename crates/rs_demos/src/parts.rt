@@ -1,4 +1,4 @@
-//! What the actors of the demos hold.
+//! What the talkers of the demos hold.
 
 ghost use Rattle.std.specs.Prelude.{◌≡◌, ◌++◌, [], IfOk, OnErr, OnOk};
 ghost use Rattle.rs_demos.specs.Acting.{behind_piece, piece_of};

@@ -5,12 +5,13 @@ ghost use Rattle.std.specs.List.{enumerate_from};
 ghost use Rattle.rs_demos.specs.Numbers.{AreAsked, takes_numbers};
 ghost use Rattle.rs_demos.specs.Reading.{ReadsInVain};
 ghost use Rattle.rs_demos.specs.Starts.{StartRefuses, StartsWithActors, butterfly_member, ring_member};
-ghost use Rattle.rs_demos.specs.declared.actors.DemoActor.TheVariants as actor;
+ghost use Rattle.rs_demos.specs.declared.actors.DemoTalker.TheVariants as actor;
 
-use crate::actors::DemoActor;
+use crate::actors::{DemoActor, DemoTalker};
 use crate::faults::DemoFault;
 use crate::numbers::numbers_of;
 use crate::parts::{ButterflyMember, Kernel, PieceSink, PieceSource, RingMember};
+use rs_actors::TalkingActor;
 use rs_model::{Demo, NoMemory};
 use std::alloc::Global;
 
@@ -63,9 +64,10 @@ fn double_actors(alloc: Global, bytes: &[u8]) -> Result<Vec<DemoActor>, NoMemory
     ensures { IfOk result (λ actors. actors.items ≡ actor.Kernel (record { piece = None }) ∷ actor.Source bytes.now ∷ actor.Sink [] ∷ []) }
 {
     let mut actors = Vec::new(alloc);
-    actors.push(DemoActor::Kernel(Kernel { piece: None }))?;
-    actors.push(DemoActor::Source(PieceSource::new(alloc, bytes)?))?;
-    actors.push(DemoActor::Sink(PieceSink::new(alloc)))?;
+    actors.push(TalkingActor::new(DemoTalker::Kernel(Kernel { piece: None })))?;
+    let source = PieceSource::new(alloc, bytes)?;
+    actors.push(TalkingActor::new(DemoTalker::Source(source)))?;
+    actors.push(TalkingActor::new(DemoTalker::Sink(PieceSink::new(alloc))))?;
     Ok(actors)
 }
 
@@ -73,8 +75,9 @@ fn stream_actors(alloc: Global, bytes: &[u8]) -> Result<Vec<DemoActor>, NoMemory
     ensures { IfOk result (λ actors. actors.items ≡ actor.Source bytes.now ∷ actor.Sink [] ∷ []) }
 {
     let mut actors = Vec::new(alloc);
-    actors.push(DemoActor::Source(PieceSource::new(alloc, bytes)?))?;
-    actors.push(DemoActor::Sink(PieceSink::new(alloc)))?;
+    let source = PieceSource::new(alloc, bytes)?;
+    actors.push(TalkingActor::new(DemoTalker::Source(source)))?;
+    actors.push(TalkingActor::new(DemoTalker::Sink(PieceSink::new(alloc))))?;
     Ok(actors)
 }
 
@@ -82,10 +85,10 @@ fn ring_actors(alloc: Global, numbers: &[i64]) -> Result<Vec<DemoActor>, NoMemor
     ensures { IfOk result (λ actors. actors.items ≡ map ring_member numbers.now) }
 {
     let member = |number: &i64| {
-        DemoActor::RingMember(RingMember {
+        TalkingActor::new(DemoTalker::RingMember(RingMember {
             last: *number,
             sum: *number,
-        })
+        }))
     };
     Ok(numbers.iter().map(member).collect(alloc)?)
 }
@@ -94,10 +97,10 @@ fn butterfly_actors(alloc: Global, numbers: &[i64]) -> Result<Vec<DemoActor>, No
     ensures { IfOk result (λ actors. actors.items ≡ map butterfly_member (enumerate_from 0 numbers.now)) }
 {
     let member = |(role, number): (usize, &i64)| {
-        DemoActor::ButterflyMember(ButterflyMember {
+        TalkingActor::new(DemoTalker::ButterflyMember(ButterflyMember {
             bits: role,
             held: *number,
-        })
+        }))
     };
     Ok(numbers.iter().enumerate().map(member).collect(alloc)?)
 }

@@ -10,7 +10,7 @@ use Rattle.rs_answers.specs.declared.limits.TheConstants.{DEMO_LIMIT}
 use Rattle.rs_answers.proofs.OneDemo.{one_opening}
 use Rattle.rs_answers.proofs.Stopping.{never_stopped}
 use Rattle.rs_demos.specs.Acting.{by_demo}
-use Rattle.rs_demos.specs.declared.actors.DemoActor.{DemoActor}
+use Rattle.rs_demos.specs.declared.actors.DemoTalker.{DemoTalker}
 use Rattle.rs_demos.proofs.Deciding.{not_both_shown}
 use Rattle.rs_derive.specs.Data.{Derivation_data}
 use Rattle.rs_documents.specs.Data.{Document_data}
@@ -41,8 +41,8 @@ WasPerformed a = IsPerformed (status_of a.verdict)
 was_performed : (a b : Answer_data) → a ≡ b → WasPerformed b → WasPerformed a
 was_performed a b e h = subst WasPerformed (sym e) h
 
-end_is_performed : (kind : Demo) (bytes : List ℕ) (actors : List DemoActor) (text : List ℕ) (d : Document_data) (ps : List Projection_data) (ms : List Machine_data) (capacity : ℕ) (a : Answer_data)
-    (o : Ending DemoActor) → length bytes ≤ MOST_BYTES
+end_is_performed : (kind : Demo) (bytes : List ℕ) (actors : List DemoTalker) (text : List ℕ) (d : Document_data) (ps : List Projection_data) (ms : List Machine_data) (capacity : ℕ) (a : Answer_data)
+    (o : Ending DemoTalker) → length bytes ≤ MOST_BYTES
     → Opens kind bytes actors text → SpellsDocument text d → HasMachines d ps ms → IsPlain ms by_demo (actor_at actors) DEMO_LIMIT (Some capacity) o → TellsDemoEnd kind d.names (length ms) a o
     → WasPerformed a
 end_is_performed kind bytes actors text d ps ms capacity a o short opens spells h plain (HasEnded k xs has x) = was_performed a _ x tt
@@ -50,7 +50,7 @@ end_is_performed kind bytes actors text d ps ms capacity a o short opens spells 
     absurd (never_stopped kind bytes actors text d ps ms (Some capacity) p k short opens spells h plain)
 
 -- what is answered to the document of a demo that can be performed
-own_is_performed : (kind : Demo) (ring : Option ℕ) (bytes : List ℕ) (c : CanBePerformed kind ring bytes) (actors : List DemoActor) (text : List ℕ) (d : Document_data) (a : Answer_data)
+own_is_performed : (kind : Demo) (ring : Option ℕ) (bytes : List ℕ) (c : CanBePerformed kind ring bytes) (actors : List DemoTalker) (text : List ℕ) (d : Document_data) (a : Answer_data)
     → Opens kind bytes actors text → SpellsDocument text d → d ≡ c.session.document → AnswersOwn kind ring actors d a → WasPerformed a
 own_is_performed kind ring bytes c actors text d a opens spells is (IsRefused r h x) =
     let f = derived DEFAULT_BOUND c.text c.session in

@@ -5,7 +5,7 @@ use Rattle.rs_answers.specs.Data.{Answer_data}
 use Rattle.rs_answers.specs.Refusals.{refusal_answer}
 use Rattle.rs_answers.specs.Demos.{AnswersDemo, HasBadNumbers, IsDocument, IsRefused, IsAccepted, IsTooSmall, IsRun, TellsDemoEnd, HasEnded, IsStopped}
 use Rattle.rs_core.specs.Plain.{Ending}
-use Rattle.rs_demos.specs.declared.actors.DemoActor.{DemoActor}
+use Rattle.rs_demos.specs.declared.actors.DemoTalker.{DemoTalker}
 use Rattle.rs_model.specs.Data.{Names_data}
 use Rattle.rs_model.specs.declared.demos.Demo.{Demo}
 use Rattle.rs_tool.specs.Answers.{AnswersData, DataIsTooLong, DataIsShort}
@@ -54,7 +54,7 @@ not_full a b e h = subst IsNotFull (sym e) h
 no_run_is_not_full : (a : Answer_data) → (IsOfRun (status_of a.verdict) → ⊥) → IsNotFull a
 no_run_is_not_full a h full = h (subst IsOfRun (sym full) tt)
 
-end_is_not_full : (kind : Demo) (names : Names_data) (roles : ℕ) (a : Answer_data) (o : Ending DemoActor) → TellsDemoEnd kind names roles a o → IsNotFull a
+end_is_not_full : (kind : Demo) (names : Names_data) (roles : ℕ) (a : Answer_data) (o : Ending DemoTalker) → TellsDemoEnd kind names roles a o → IsNotFull a
 end_is_not_full kind names roles a o (HasEnded k xs h x) = not_full a _ x (λ full. cc)
 end_is_not_full kind names roles a o (IsStopped p k x) = not_full a _ x (λ full. cc)
 

@@ -4,7 +4,7 @@ use Rattle.rs_answers.specs.Derivations.{AreCanonical}
 use Rattle.rs_answers.specs.Machines.{machines_of}
 use Rattle.rs_answers.specs.Runs.{capacity_of}
 use Rattle.rs_answers.specs.Demos.{Opens}
-use Rattle.rs_demos.specs.declared.actors.DemoActor.{DemoActor}
+use Rattle.rs_demos.specs.declared.actors.DemoTalker.{DemoTalker}
 use Rattle.rs_derive.specs.Data.{Derivation_data}
 use Rattle.rs_model.specs.declared.limits.TheConstants.{MOST_BYTES}
 use Rattle.rs_model.specs.declared.demos.Demo.{Demo}
@@ -20,7 +20,7 @@ use Rattle.rs_model.specs.declared.limits.TheConstants.{DEFAULT_BOUND}
 -- derived; and the rings hold as many messages as its room says
 pub record CanBePerformed (kind : Demo) (ring : Option ℕ) (bytes : List ℕ) : Type 0 where
   pub short : length bytes ≤ MOST_BYTES
-  pub actors : List DemoActor
+  pub actors : List DemoTalker
   pub text : List ℕ
   pub opens : Opens kind bytes actors text
   pub session : SpellsDerivableSession DEFAULT_BOUND text

@@ -1,4 +1,4 @@
-use Rattle.std.proofs.Common.{◌≡◌, ◌⊎◌, ◌∙◌, inr, ap, subst}
+use Rattle.std.proofs.Common.{◌≡◌, ◌⊎◌, ◌∙◌, ℕ, inr, ap, subst, sym}
 use Rattle.std.specs.Prelude.{IfErr}
 use Rattle.rs_model.specs.Data.{Protocol_data}
 use Rattle.rs_project.specs.Numbered.{AreNumberedProjections}
@@ -6,7 +6,8 @@ use Rattle.rs_documents.specs.Data.{Document_data}
 use Rattle.rs_answers.specs.Refusals.{HasNoSession}
 use Rattle.rs_answers.specs.declared.refusals.Refusal.TheVariants as refusal
 use Rattle.rs_answers.proofs.Answering.{ill_machine, tells_ill_formed, tells_no_projection}
-use Rattle.rs_answers.proofs.EachRole.{chosen_small_by}
+use Rattle.rs_answers.proofs.EachRole.{chosen_small_by, others_have_no_fault}
+use Rattle.rs_answers.specs.Sessions.{OthersHaveNoFault}
 use Rattle.rs_answers.proofs.sessions.session_of.Goals as goal
 
 pub returns-in_err-well_formed-clause-err : goal.returns-in_err-well_formed-clause-err
@@ -20,16 +21,22 @@ returns-in_err-projections-clause-err c =
     (tells_no_projection _ c.in_err-projections.field-0.0 c.from_residual-in_err-projections.result c.from_residual-in_err-projections.ensures.1 c.in_ok-well_formed.ensures.none
     c.in_err-projections.ensures.err)
 
-pub first_refusal-requires : goal.first_refusal-requires
-first_refusal-requires c =
-    chosen_small_by c.args.document.now c.as_slice.result.now c.in_ok-projections.projections.items c.as_slice-3.result.now
-    (c.as_slice.ensures.value ∙ ap (λ (d : Document_data). d.machines) c.document.view_is)
+pub first_refusal-requires-clause-small : goal.first_refusal-requires-clause-small
+first_refusal-requires-clause-small c =
+    chosen_small_by c.args.document.now c.as_slice-own.result.now c.in_ok-projections.projections.items c.as_slice-2.result.now
+    (c.as_slice-own.ensures.value ∙ ap (λ (d : Document_data). d.machines) c.document.view_is)
     c.requires (subst (λ (d : Document_data). AreNumberedProjections d.protocol c.in_ok-projections.projections.items) c.document.view_is c.in_ok-projections.ensures.ok)
-    (c.as_slice-3.ensures.value ∙ rw c.as_slice-2.ensures.value at c.in_ok-machines.ensures)
+    (c.as_slice-2.ensures.value ∙ rw c.as_slice.ensures.value at c.in_ok-machines.ensures)
+
+pub first_refusal-requires-clause-others : goal.first_refusal-requires-clause-others
+first_refusal-requires-clause-others c =
+    subst (λ (n : ℕ). OthersHaveNoFault n c.as_slice-own.result.now c.as_slice-2.result.now) (sym (ap (λ (p : Protocol_data). p.roles) c.protocol.view_is))
+    (others_have_no_fault _ c.as_slice-own.result.now c.in_ok-projections.projections.items c.as_slice-2.result.now c.in_ok-well_formed.ensures.ok c.in_ok-projections.ensures.ok
+    (c.as_slice-2.ensures.value ∙ rw c.as_slice.ensures.value at c.in_ok-machines.ensures))
 
 pub returns-in-Some-clause-err : goal.returns-in-Some-clause-err
 returns-in-Some-clause-err c =
     subst (λ d. (refusal.IllMachine c.in-Some.role c.in-Some.fault ≡ refusal.NoMemory) ⊎ HasNoSession d (refusal.IllMachine c.in-Some.role c.in-Some.fault)) c.document.view_is
     (inr (ill_machine _ c.in_ok-projections.projections.items c.in_ok-machines.machines.items c.in-Some.role c.in-Some.fault c.in_ok-well_formed.ensures.none c.in_ok-projections.ensures.ok
-    (rw c.as_slice.ensures.value at (rw c.as_slice-2.ensures.value at c.in_ok-machines.ensures))
-    (rw (ap (λ (p : Protocol_data). p.roles) c.protocol.view_is) at (rw c.as_slice-3.ensures.value at c.in-Some.ensures.some))))
+    (rw c.as_slice-own.ensures.value at (rw c.as_slice.ensures.value at c.in_ok-machines.ensures))
+    (rw (ap (λ (p : Protocol_data). p.roles) c.protocol.view_is) at (rw c.as_slice-2.ensures.value at c.in-Some.ensures.some))))
