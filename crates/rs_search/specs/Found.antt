@@ -1,10 +1,9 @@
--- Steps: what is known of the candidates that were found.
-use Rattle.std.specs.Prelude.{◌≡◌, ℕ, ◌<◌, ◌≤◌, ◌^◌, List, [], length, map, slice_index_or, take}
+-- Public: what is known of the candidates that were found.
+use Rattle.std.specs.Prelude.{◌≡◌, ℕ, ◌<◌, ◌≤◌, ◌^◌, List, [], length, map, slice_index_or}
 use Rattle.std.specs.List.{list_any}
 use Rattle.rs_derive.specs.Moves.{Spot}
 use Rattle.rs_graph.specs.Built.{IsBuilt}
 use Rattle.rs_graph.specs.Discovery.{IsDiscovery}
-use Rattle.rs_graph.specs.Naming.{Growing}
 use Rattle.rs_graph.specs.Removal.{IsRemoval, at, moves_at}
 use Rattle.rs_model.specs.Data.{Machine_data}
 use Rattle.rs_model.specs.declared.limits.TheConstants.{MOST_CANDIDATES}
@@ -21,11 +20,6 @@ pub record AreNotedCandidates (sub above : Machine_data) (bound : ℕ) (spots : 
   pub keeps : d.keeps.items ≡ map (is_keeping sub above bound) spots
   pub cut : d.cut ≡ list_any (is_cut sub above bound) spots
   pub choosing : d.choosing ≡ list_any (is_choosing sub above bound) spots
-
--- the candidates within the bound that are found so far, of the first of which it is known what they lead to
-pub record AreFoundSoFar (sub above : Machine_data) (bound : ℕ) (d : Candidates) : Type 0 where
-  pub growing : Growing (nexts_within sub above bound) (start_spot sub above) d.table.spots d.table.rows
-  pub noted : AreNotedCandidates sub above bound (take (length d.table.rows) d.table.spots) d
 
 -- all candidates within the bound, numbered in order of first sight, with what each leads to
 pub record AreFoundCandidates (sub above : Machine_data) (bound : ℕ) (d : Candidates) : Type 0 where

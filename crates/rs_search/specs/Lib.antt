@@ -5,8 +5,10 @@ pub mod Costs
 pub mod Examples
 pub mod Forward
 pub mod Found
+pub mod FoundSoFar
 pub mod Itself
 pub mod Nodes
 pub mod Survives
+pub mod Spots
 pub mod Table
 pub mod Turns

@@ -8,28 +8,11 @@ use Rattle.rs_derive.specs.Within.{IsPlaceWithin}
 use Rattle.rs_derive.specs.declared.targets.EdgeTarget.{EdgeTarget}
 use Rattle.rs_graph.specs.Naming.{Adds, AreNamed, IsNamed}
 use Rattle.rs_search.specs.Buckets.{bucket_of_spot, codes_of}
+pub use Rattle.rs_search.specs.Spots.{SpotTable_data, nexts_of_nodes, ranks_of, spots_of}
 use Rattle.rs_search.specs.declared.found.Nexts.{Nexts}
 use Rattle.rs_search.specs.declared.found.Nexts.TheVariants.{One, Several}
 use Rattle.rs_search.specs.declared.table.Entry.{Entry}
 use Rattle.rs_model.specs.Chains.{AllAreChained}
-
--- the spots by their numbers, of the first of them the numbers of what each leads to, and their ranks
-pub record SpotTable_data : Type 0 where
-  pub spots : List Spot
-  pub rows : List (List ℕ)
-  pub ranks : List ℕ
-
--- the spots of nodes
-abbrev pub spots_of : List DNode_data → List Spot
-spots_of nodes = map spot_of nodes
-
--- their nexts
-abbrev pub nexts_of_nodes : List DNode_data → List (List ℕ)
-nexts_of_nodes nodes = map (λ (n : DNode_data). n.next) nodes
-
--- their ranks
-abbrev pub ranks_of : List DNode_data → List ℕ
-ranks_of nodes = map (λ (n : DNode_data). n.rank) nodes
 
 -- the codes that are filed
 abbrev pub codes_in : List Entry → List ℕ

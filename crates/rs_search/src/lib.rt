@@ -13,4 +13,7 @@ mod table;
 mod turns;
 
 pub use faults::SearchFault;
+pub use found::Candidates;
 pub use searches::{search, search_counted};
+pub use survivors::candidates_of;
+pub use table::SpotTable;

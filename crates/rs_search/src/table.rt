@@ -124,7 +124,8 @@ pub struct SpotTable {
 
 impl Model for SpotTable {
     ghost use Rattle.std.specs.Prelude.{take};
-    ghost use Rattle.rs_search.specs.Table.{IsTable, SpotTable_data, nexts_of_nodes, ranks_of, spots_of};
+    ghost use Rattle.rs_search.specs.Spots.{SpotTable_data, nexts_of_nodes, ranks_of, spots_of};
+    ghost use Rattle.rs_search.specs.Table.{IsTable};
 
     ghost Value = { SpotTable_data };
 
@@ -282,7 +283,7 @@ impl SpotTable {
     ghost use Rattle.rs_search.specs.declared.found.SearchStop.TheVariants.{TooLarge};
 
     /// The spot with these states and nothing owed, in so many buckets, with room for so many spots.
-    pub fn new(
+    pub(crate) fn new(
         alloc: Global,
         state: u32,
         above: u32,
@@ -315,7 +316,7 @@ impl SpotTable {
 
     /// How many spots there are.
     #[inline(always)]
-    pub fn len(&self) -> usize
+    pub(crate) fn len(&self) -> usize
         ensures { result ≡ length self.now.spots }
     {
         self.nodes.len()
@@ -323,7 +324,7 @@ impl SpotTable {
 
     /// Of how many it is known what they lead to.
     #[inline(always)]
-    pub fn known(&self) -> usize
+    pub(crate) fn known(&self) -> usize
         ensures count { result ≡ length self.now.rows }
         ensures within { result ≤ length self.now.spots }
         ensures ranks { length self.now.ranks ≡ length self.now.spots }
@@ -351,7 +352,7 @@ impl SpotTable {
 
     /// The rank of the spot with the number.
     #[inline(always)]
-    pub fn rank(&self, number: usize) -> u32
+    pub(crate) fn rank(&self, number: usize) -> u32
         requires { number < length self.now.ranks }
         ensures { slice_get self.now.ranks number ≡ Some result }
     {
@@ -360,7 +361,7 @@ impl SpotTable {
 
     /// Gives the spot with the number that rank.
     #[inline(always)]
-    pub fn set_rank(&mut self, number: usize, rank: u32)
+    pub(crate) fn set_rank(&mut self, number: usize, rank: u32)
         requires { number < length self.old.ranks }
         ensures ranks { self.new.ranks ≡ slice_set self.old.ranks number rank }
         ensures spots { self.new.spots ≡ self.old.spots }
@@ -372,7 +373,7 @@ impl SpotTable {
 
     /// The number of the spot of the target from the spot `k`, which is added where it is new.
     #[inline(always)]
-    pub fn number_of(
+    pub(crate) fn number_of(
         &mut self,
         alloc: Global,
         k: usize,
@@ -404,7 +405,7 @@ impl SpotTable {
 
     /// Files the spots in so many buckets, once there are more of them than buckets.
     #[inline(always)]
-    pub fn spread(&mut self, alloc: Global, buckets: usize) -> Result<(), NoMemory>
+    pub(crate) fn spread(&mut self, alloc: Global, buckets: usize) -> Result<(), NoMemory>
         requires buckets { IsBucketCount buckets }
         requires fits { length self.old.spots < 2 ^ 32 }
         ensures spots { self.new.spots ≡ self.old.spots }
@@ -433,7 +434,7 @@ impl SpotTable {
 
     /// Notes what the first spot of which it isn't known leads to.
     #[inline(always)]
-    pub fn push_row(&mut self, row: NodeRow)
+    pub(crate) fn push_row(&mut self, row: NodeRow)
         requires { length self.old.rows < length self.old.spots }
         ensures spots { self.new.spots ≡ self.old.spots }
         ensures rows { self.new.rows ≡ self.old.rows ++ row ∷ [] }
@@ -457,7 +458,7 @@ impl SpotTable {
     }
 
     /// The nodes at the spots.
-    pub fn into_nodes(self) -> Vec<DNode>
+    pub(crate) fn into_nodes(self) -> Vec<DNode>
         requires { length self.rows ≡ length self.spots }
         ensures { AreNodes self.spots (places_of 0 self.spots) self.rows self.ranks (length self.spots) result.items }
     {

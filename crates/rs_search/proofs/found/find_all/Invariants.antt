@@ -1,5 +1,5 @@
 use Rattle.std.proofs.Common.{◌≤◌, ◌-◌, length}
-use Rattle.rs_search.specs.Found.{AreFoundSoFar}
+use Rattle.rs_search.specs.FoundSoFar.{AreFoundSoFar}
 use Rattle.rs_search.proofs.found.find_all.Given as goal
 
 abbrev pub invariant-loop-alloc : goal.invariant-loop-alloc

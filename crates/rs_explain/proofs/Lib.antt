@@ -1,0 +1,6 @@
+pub mod Blocking
+pub mod Existing
+pub mod Firsts
+pub mod Nearest
+pub mod Small
+pub mod Spreading

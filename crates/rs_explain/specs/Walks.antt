@@ -1,0 +1,65 @@
+-- Public: walks by moves through spots that don't survive, to one that has no move within the bound.
+use Rattle.std.specs.Prelude.{◌≡◌, ◌⊎◌, ℕ, ◌<◌, ◌≤◌, List, [], ◌∷◌, length, slice_get, Option, Some}
+use Rattle.rs_model.specs.Data.{Machine_data}
+use Rattle.rs_derive.specs.Moves.{Spot, HasMove}
+use Rattle.rs_graph.specs.Lists.{Among}
+use Rattle.rs_search.specs.Candidates.{MoveWithin}
+use Rattle.rs_search.specs.Survives.{Survives}
+use Rattle.rs_search.specs.Turns.{nexts_within}
+
+-- a step of a walk: the place of an arm, and the spot behind it
+pub record WalkStep_data : Type 0 where
+  pub place : ℕ
+  pub spot : Spot
+
+-- the spot at that place among all to which the moves of p lead: by the machine's arm there where both send, by the projection's
+-- where the machine passes one, and by place 0 where it makes what it owes
+abbrev pub LeadsBy : Machine_data → Machine_data → ℕ → Spot → ℕ → Spot → Type 0
+LeadsBy sub above bound p place r = slice_get (nexts_within sub above bound p) place ≡ Some r
+
+-- each step leads by its place to its spot
+abbrev pub IsWalk : Machine_data → Machine_data → ℕ → Spot → List WalkStep_data → Type 0
+IsWalk sub above bound p [] = Unit {0}
+IsWalk sub above bound p (s ∷ later) = LeadsBy sub above bound p s.place s.spot × IsWalk sub above bound s.spot later
+
+-- the spot to which a walk from p leads
+abbrev pub end_of : Spot → List WalkStep_data → Spot
+end_of p [] = p
+end_of p (s ∷ later) = end_of s.spot later
+
+-- the spot doesn't survive
+abbrev pub Dies : Machine_data → Machine_data → ℕ → Spot → Type 0
+Dies sub above bound p = Survives sub above bound p → ⊥
+
+-- no spot of the walk survives
+abbrev pub AllDie : Machine_data → Machine_data → ℕ → Spot → List WalkStep_data → Type 0
+AllDie sub above bound p [] = Dies sub above bound p
+AllDie sub above bound p (s ∷ later) = Dies sub above bound p × AllDie sub above bound s.spot later
+
+-- the spot has no move within the bound
+abbrev pub IsDeadEnd : Machine_data → Machine_data → ℕ → Spot → Type 0
+IsDeadEnd sub above bound p = (results : List Spot) → MoveWithin sub above bound p results → ⊥
+
+-- a walk from p through spots that don't survive to a dead end
+pub record IsLostWalk (sub above : Machine_data) (bound : ℕ) (p : Spot) (steps : List WalkStep_data) : Type 0 where
+  pub walk : IsWalk sub above bound p steps
+  pub dies : AllDie sub above bound p steps
+  pub ends : IsDeadEnd sub above bound (end_of p steps)
+
+-- where the walks first differ, the first goes by a lesser place
+abbrev pub IsNoLater : List WalkStep_data → List WalkStep_data → Type 0
+IsNoLater [] others = Unit {0}
+IsNoLater (s ∷ later) [] = ⊥
+IsNoLater (s ∷ later) (o ∷ others) = (s.place < o.place) ⊎ ((s.place ≡ o.place) × IsNoLater later others)
+
+-- such a walk, as short as there is, and of least places among those as short
+pub record IsFirstWalk (sub above : Machine_data) (bound : ℕ) (p : Spot) (steps : List WalkStep_data) : Type 0 where
+  pub lost : IsLostWalk sub above bound p steps
+  pub shortest : (others : List WalkStep_data) → IsLostWalk sub above bound p others → length steps ≤ length others
+  pub least : (others : List WalkStep_data) → IsLostWalk sub above bound p others → length others ≡ length steps → IsNoLater steps others
+
+-- whichever move a spot of the walk makes, of whatever bound, it leads to the next spot, too
+abbrev pub IsForced : Machine_data → Machine_data → Spot → List WalkStep_data → Type 0
+IsForced sub above p [] = Unit {0}
+IsForced sub above p (s ∷ later) =
+    ((makes : Option ℕ) (results : List Spot) → HasMove sub above p makes results → Among results s.spot) × IsForced sub above s.spot later

@@ -1,0 +1,126 @@
+//! Why a machine has no derivation within a bound.
+ghost use Rattle.std.specs.Prelude.{◌≡◌, ◌<◌, ◌≤◌, Bool, IfOk, length};
+ghost use Rattle.rs_derive.specs.Derivations.{IsProper, spot_of};
+ghost use Rattle.rs_explain.specs.Explanations.{IsExplanation};
+ghost use Rattle.rs_explain.specs.OnWay.{AreCharted, ending_at};
+ghost use Rattle.rs_model.specs.declared.limits.TheConstants.{MOST_CANDIDATES};
+ghost use Rattle.rs_search.specs.Canonical.{IsNotFound};
+ghost use Rattle.rs_search.specs.Found.{AreFoundCandidates};
+
+use crate::Obstacle;
+use crate::distances::distances;
+use crate::obstacles::obstacle_at;
+use crate::walking::walk;
+use rs_derive::DNode;
+use rs_graph::{graph_of, remove_uncounted};
+use rs_model::{Machine, NoMemory};
+use rs_prefix::Pending;
+use rs_search::{Candidates, candidates_of};
+use std::alloc::Global;
+use std::marker::Model;
+
+/// A step of a walk of a machine beside its projection: by the arm at the place to the spot behind it. The arm is the
+/// machine's own where both send, and the projection's where the machine passes one of its acts; place 0 where the
+/// machine makes an act that it owes.
+#[derive(Drop, Debug)]
+pub struct WalkStep {
+    pub place: u32,
+    /// The state of the machine behind the step.
+    pub state: u32,
+    /// What the machine owes behind the step, the oldest first.
+    pub pending: Pending,
+    /// The state of the projection behind the step.
+    pub above: u32,
+}
+
+impl Model for WalkStep {
+    ghost use Rattle.rs_derive.specs.Moves.{spot};
+    ghost use Rattle.rs_explain.specs.Walks.{WalkStep_data};
+
+    ghost Value = { WalkStep_data };
+
+    ghost view = { λ s. record { place = s.place; spot = spot s.state s.pending s.above } };
+}
+
+/// Why a walk ends: its last spot has no move within the bound.
+#[derive(Clone, Copy, Debug, PartialEq, Eq)]
+pub enum Ending {
+    /// It has no move of whatever bound.
+    Blocked(Obstacle),
+    /// By its move the machine would owe more acts than the bound.
+    Cut,
+}
+
+/// Why the start of a machine and its projection doesn't survive: a walk from there, and why it ends.
+#[derive(Drop, Debug)]
+pub struct Explanation {
+    pub steps: Vec<WalkStep>,
+    pub ending: Ending,
+}
+
+impl Model for Explanation {
+    ghost use Rattle.rs_explain.specs.Explanations.{Explanation_data};
+
+    ghost Value = { Explanation_data };
+
+    ghost view = { λ e. record { steps = e.steps.items; ending = e.ending } };
+}
+
+// Of each candidate that doesn't survive how many steps it is from a dead end.
+fn far_of(
+    alloc: Global,
+    sub: &Machine,
+    above: &Machine,
+    bound: u8,
+    found: &Candidates,
+) -> Result<Vec<Option<u32>>, NoMemory>
+    requires found { AreFoundCandidates sub.now above.now bound found.now }
+    requires bounded { length found.now.table.spots ≤ MOST_CANDIDATES }
+    ensures { IfOk result (λ far. AreCharted sub.now above.now bound found.now.table.spots found.now.table.rows far.items) }
+{
+    let rows = found.table.copy_rows(alloc)?;
+    let graph = graph_of(alloc, found.anys.as_slice(), rows.as_slice())?;
+    let left = remove_uncounted(alloc, &graph)?;
+    let far = distances(alloc, &graph, left.current.as_slice())?;
+    Ok(far)
+}
+
+// Why a dead end has no move within the bound.
+fn ending_of(sub: &Machine, above: &Machine, node: &DNode) -> Ending
+    requires state { node.now.state < length sub.now.states }
+    requires present { node.now.above < length above.now.states }
+    ensures { result ≡ ending_at sub.now above.now (spot_of node.now) }
+{
+    let state = &sub.states[node.state as usize];
+    let there = &above.states[node.above as usize];
+    match obstacle_at(&node.pending, state, there) {
+        Some(obstacle) => Ending::Blocked(obstacle),
+        None => Ending::Cut,
+    }
+}
+
+/// Why the search finds no derivation of the machine `sub` from its projection `above` within the bound, where it doesn't.
+/// The candidates are found again, and those that don't survive removed again.
+pub fn explain(
+    alloc: Global,
+    sub: &Machine,
+    above: &Machine,
+    bound: u8,
+) -> Result<Explanation, NoMemory>
+    requires ours { IsProper sub.now }
+    requires theirs { IsProper above.now }
+    requires refused { (cut : Bool) × IsNotFound sub.now above.now bound cut }
+    ensures { IfOk result (λ e. IsExplanation sub.now above.now bound e) }
+{
+    let found = match candidates_of(alloc, sub, above, bound) {
+        Ok(found) => found,
+        Err(_) => return Err(NoMemory),
+    };
+    let far = far_of(alloc, sub, above, bound, &found)?;
+    let way = walk(alloc, sub, above, bound, &found.table, far.as_slice())?;
+    let ending = ending_of(sub, above, found.table.node(way.node));
+    Ok(Explanation {
+        steps: way.steps,
+        ending,
+    })
+}
