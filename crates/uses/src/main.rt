@@ -1,47 +1,57 @@
-//! A user of the library: it reads a document, has its session accepted, runs it on one thread, and tells of both.
+//! A user of the library: it opens the document of standard input, runs its session with draws, and prints what each role did.
 #![tactic(auto)]
 
-mod counting;
-mod runs;
+ghost use Rattle.std.specs.Prelude.{◌≡◌, IfOk, min};
+ghost use Rattle.rs_answers.specs.Data.{Answer_data};
+ghost use Rattle.rs_answers.specs.Runs.{TellsRun, actor_of};
+ghost use Rattle.rs_model.specs.declared.limits.TheConstants.{MOST_CAPACITY};
+ghost use Rattle.rs_safety.specs.Room.{room_of};
+ghost use Rattle.uses.specs.declared.TheConstants.{LIMIT, SEED};
 
-use rs_core::Outcome;
-use runs::{RunEnd, Told, run_of};
-use std::alloc::Alloc;
+use rs_core::{RunFault, SeededActor};
+use rs_io::{StdSource, read_all};
+use rs_model::MOST_BYTES;
+use rs_open::{OpenSession, open};
+use rs_text::Text;
+use std::alloc::{Alloc, Global};
 use std::process::ExitCode;
 
-/// Double buffering, one ready ahead.
-const BUFFERING: &[u8] =
-    b"roles K, S, T\nprotocol rec X. K->S:ready(). T->K:ready(). S->K{copy(bytes). K->T:copy(bytes). X, stop(). K->S:ready(). K->T:stop(). end}\nmachine K: S!ready(). rec X. S!ready(). T?ready(). S?{copy(bytes). T!copy(bytes). X, stop(). T!stop(). end}\n";
+/// How many acts a role makes at most.
+const LIMIT: u32 = 10_000;
+
+/// Where the draws begin.
+const SEED: u32 = 0;
+
+/// What each role did, or which was stopped, in a run by draws: just what `run` prints of it.
+fn run_drawn(alloc: Global, session: &OpenSession) -> Result<Text, RunFault>
+    ensures { IfOk result (λ text. (answer : Answer_data) × (text ≡ answer.text)
+        × TellsRun session.now.names session.now.session.machines (actor_of SEED) LIMIT (min (room_of session.now.session.derivations) MOST_CAPACITY) answer) }
+{
+    let run = session
+        .run(alloc, LIMIT, |role| Ok(SeededActor::new(SEED, role)))?
+        .run;
+    Ok(session.told(alloc, run.outcome)?)
+}
+
+/// Prints what a run of the text's session comes to, or why the text is refused; true where a run was printed.
+fn answer<R: Print>(rt: &R, alloc: Global, text: &[u8]) -> bool {
+    match open(alloc, text) {
+        Ok(session) => match run_drawn(alloc, &session) {
+            Ok(told) => rt.write_all(told.as_slice()).is_ok(),
+            Err(_) => false,
+        },
+        Err(refused) => {
+            let _ = print!(rt; "{refused}");
+            false
+        }
+    }
+}
 
 fn main(rt: HostRuntime) -> ExitCode {
-    let printed = match run_of(rt.alloc(), BUFFERING, Some(16), 100) {
-        Some(
-            Told {
-                machines,
-                room,
-                run,
-            },
-        ) => {
-            let (end, taken) = match run {
-                Ok(
-                    RunEnd {
-                        outcome: Outcome::Ended(_),
-                        taken,
-                    },
-                ) => ("each role has ended", taken),
-                Ok(
-                    RunEnd {
-                        outcome: Outcome::Stopped(_),
-                        taken,
-                    },
-                ) => ("the limit was met", taken),
-                Err(_) => ("no role could move, or memory was refused", 0),
-            };
-            println!(rt;
-                "{machines} machines are safe, with room for {room}: {end}, and {taken} messages came"
-            )
-        }
-        None => println!(rt; "nothing is accepted"),
+    let alloc = rt.alloc();
+    let is_run = match read_all(alloc, &mut StdSource::new(rt.reader()), MOST_BYTES) {
+        Ok(text) => answer(&rt, alloc, text.as_slice()),
+        Err(_) => false,
     };
-    ExitCode::from(if printed.is_ok() { 0 } else { 1 })
+    ExitCode::from(if is_run { 0 } else { 1 })
 }

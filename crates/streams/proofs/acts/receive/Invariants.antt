@@ -1,0 +1,5 @@
+use Rattle.streams.proofs.Waiting.{IsAs}
+use Rattle.streams.proofs.acts.receive.Given as goal
+
+abbrev pub invariant-loop : goal.invariant-loop
+invariant-loop g l = ((goal.iterator-loop g).can_next l.iterator' × (goal.iterator-loop g).is_finite l.iterator') × IsAs l.session l.fn.stage l.stage
