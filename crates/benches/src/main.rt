@@ -6,6 +6,7 @@
 #![tactic(auto)]
 
 mod act_sessions;
+mod channel_runs;
 mod endpoint_acts;
 mod ring_machines;
 mod ring_players;
@@ -22,6 +23,7 @@ mod worker_sessions;
 mod worker_times;
 
 use act_sessions::Way;
+use ring_times::Carrier;
 use rs_model::NoMemory;
 use std::alloc::{Alloc, Global};
 use std::env::{self, Env};
@@ -135,13 +137,15 @@ fn tell_acts<R: Print + Alloc<A = Global>>(rt: &R, way: Way, count: u32) -> io::
     }
 }
 
-/// Tells how many parcels came in a second.
+/// Tells how many parcels came in a second: by the rings of a session, by the kit's channel, and by its ring of two threads.
 fn tell_ring_times<R: Threads + Wait + Sync + Clock + Print + Alloc<A = Global>>(
     rt: &R,
 ) -> io::Result<()> {
     for (threads, capacity) in ROWS {
-        let rate = ring_times::of_stream(rt, threads, capacity)?;
-        println!(rt; "threads {threads}, capacity {capacity}: {rate} parcels a second")?;
+        let rings = ring_times::of_stream(rt, Carrier::Rings, threads, capacity)?;
+        let channel = ring_times::of_stream(rt, Carrier::Channel, threads, capacity)?;
+        let kit_ring = ring_times::of_stream(rt, Carrier::KitRing, threads, capacity)?;
+        println!(rt; "{threads}\t{capacity}\t{rings}\t{channel}\t{kit_ring}")?;
     }
     Ok(())
 }
