@@ -1,6 +1,7 @@
 -- Where the start doesn't survive there is an explanation, and one only: the removal of the candidates, carried out on the definitions.
-use Rattle.std.proofs.Common.{◌≡◌, ◌≢◌, ◌⊎◌, inl, inr, ℕ, ◌<◌, ◌≤◌, zero, suc, Bool, true, false, List, [], ◌∷◌, get_or, slice_get, Option, Some, refl, sym, ap, subst, ◌∙◌, arith, if◌then◌else◌}
+use Rattle.std.proofs.Common.{◌≡◌, ◌≢◌, ◌⊎◌, inl, inr, ℕ, ◌<◌, ◌≤◌, zero, suc, Bool, true, false, List, [], ◌∷◌, length, get_or, slice_get, Option, Some, refl, sym, ap, subst, ◌∙◌, arith, if◌then◌else◌}
 use Rattle.std.proofs.lemmas.Bool.{cases_lt, false≢true}
+use Rattle.std.proofs.lemmas.List.{get_or_past}
 use Rattle.std.proofs.lemmas.Option.{none-some, same_Some}
 use Rattle.rs_model.specs.Data.{Machine_data}
 use Rattle.rs_model.specs.declared.limits.TheConstants.{MOST_CANDIDATES}
@@ -10,29 +11,32 @@ use Rattle.rs_derive.specs.Derivations.{IsDerivation, IsProper, NameResults, spo
 use Rattle.rs_derive.specs.Due.{Due}
 use Rattle.rs_derive.specs.Moves.{HasMove, Spot}
 use Rattle.rs_derive.specs.Targets.{same_spot}
-use Rattle.rs_graph.proofs.Growth.{all_found, at_in, at_short, growing_begin}
-use Rattle.rs_graph.proofs.Kept.{Pictures}
+use Rattle.rs_graph.proofs.Growth.{all_found, at_in, at_short, at_within, growing_begin}
 use Rattle.rs_graph.specs.Discovery.{IsDiscovery}
 use Rattle.rs_graph.specs.Graphs.{Graph_data, moves_of}
 use Rattle.rs_graph.specs.Lists.{Among, ArePlacesOf, concat}
 use Rattle.rs_graph.specs.Removal.{IsRemoval, Leads, at}
 use Rattle.rs_graph.specs.Removal as removal
-use Rattle.rs_search.proofs.Choices.{bool_cases, chosen_among, moves_at, more_no, to_cut}
+use Rattle.rs_search.proofs.Accepted.{named_result}
+use Rattle.rs_search.proofs.Choices.{bool_cases, chosen_among, from_move, moves_at, more_no, to_cut}
 use Rattle.rs_search.proofs.Deciding.{graph_outs, graph_pictures, graph_within, outs_at, row_at}
+use Rattle.rs_search.proofs.Determined.{starts_survive}
 use Rattle.rs_search.proofs.Discovering.{Tells, discovered}
 use Rattle.rs_search.proofs.Removing.{left}
 use Rattle.rs_search.proofs.Same.{not_spot, spot_is}
 use Rattle.rs_search.proofs.Staying.{stays_within}
 use Rattle.rs_search.proofs.Surviving.{derived_survives}
-use Rattle.rs_search.proofs.Verdicts.{candidate_short, dies, from_candidate, more_than, survives}
-use Rattle.rs_search.specs.Candidates.{IsCandidate, MoveWithin, Start, start_spot}
-use Rattle.rs_search.specs.Canonical.{IsNotFound}
+use Rattle.rs_search.proofs.Verdicts.{candidate_short, dies, from_candidate, more_than, survives, to_candidate}
+use Rattle.rs_search.specs.Candidates.{IsCandidate, MeetsACut, MoveWithin, Start, start_spot}
+use Rattle.rs_search.specs.Canonical.{IsCanonical, IsNotFound}
+use Rattle.rs_search.specs.Survives.{StandTogether}
 use Rattle.rs_search.specs.Turns.{is_any, no_turn, nexts_within, owes_more, turn_of, turn_with_cut, turn_within}
 use Rattle.rs_explain.proofs.Blocking.{no_move, one_obstacle, some_obstacle}
-use Rattle.rs_explain.proofs.Firsts.{Decides, end_candidate, first_walk, lost_dies, lost_here, lost_on, no_moves_dead, one_first_walk, step}
-use Rattle.rs_explain.specs.Explanations.{EndsBy, Explanation_data, IsExplanation}
+use Rattle.rs_explain.proofs.Firsts.{Decides, cut_dead, cut_or_not, dead_are_dead, dead_told, end_candidate, first_lost, lost_dies, no_moves_dead, one_lost}
+use Rattle.rs_explain.proofs.Ways.{step}
+use Rattle.rs_explain.specs.Explanations.{AGreaterBoundHelps, EndsBy, Explanation_data, IsExplanation}
 use Rattle.rs_explain.specs.Obstacles.{HasNoMove}
-use Rattle.rs_explain.specs.Walks.{IsDeadEnd, IsFirstWalk, IsForced, IsLostWalk, WalkStep_data, end_of}
+use Rattle.rs_explain.specs.Walks.{Dies, IsDeadEnd, IsFirstCutWalk, IsFirstWalk, IsForced, IsLostWalk, LeadsBy, WalkStep_data, end_of}
 use Rattle.rs_explain.specs.declared.explaining.Ending.{Ending}
 use Rattle.rs_explain.specs.declared.explaining.Ending.TheVariants as ending
 use Rattle.rs_explain.specs.declared.obstacles.Obstacle.{Obstacle}
@@ -74,63 +78,106 @@ decides sub above bound r p c =
       | inr le ↦ inr (dies sub above bound r.found (graph sub above bound r) r.current r.order pic r.gone n.0 p n.1 le)
     ]
 
-in_row : (any : Bool) (row : List ℕ) (r : ℕ) → Among (get_or (moves_of any row) 0 []) r → Among row r
-in_row true [] r h = h
-in_row true (n ∷ row) r (inl e) = inl e
-in_row true (n ∷ row) r (inr h) = absurd h
-in_row false row r h = h
+pub row_from : (any : Bool) (row : List ℕ) (place r : ℕ) → Among (get_or (moves_of any row) place []) r → Among row r
+row_from true [] place r h = (let e : get_or {A = List ℕ} [] place [] ≡ [] = get_or_past [] place [] (omega arith) in let bad : Among [] r = subst (λ (z : List ℕ). Among z r) e h in absurd bad)
+row_from true (n ∷ row) zero r (inl e) = inl e
+row_from true (n ∷ row) zero r (inr h) = absurd h
+row_from true (n ∷ row) (suc place) r h = inr (row_from true row place r h)
+row_from false row zero r h = h
+row_from false row (suc place) r h = (let e : get_or {A = List ℕ} [] place [] ≡ [] = get_or_past [] place [] (omega arith) in let bad : Among [] r = subst (λ (z : List ℕ). Among z r) e h in absurd bad)
 
-pub place_named : (found : List Spot) (ns : List ℕ) (xs : List Spot) (i n : ℕ) → ArePlacesOf found ns xs → slice_get ns i ≡ Some n → (y : Spot) × (slice_get xs i ≡ Some y) × (slice_get found n ≡ Some y)
+pub place_named : {X : Type 0} (found : List X) (ns : List ℕ) (xs : List X) (i n : ℕ) → ArePlacesOf found ns xs → slice_get ns i ≡ Some n → (y : X) × (slice_get xs i ≡ Some y) × (slice_get found n ≡ Some y)
 place_named found [] [] i n h e = absurd (none-some n e)
 place_named found [] (x ∷ xs) i n h e = absurd h
 place_named found (m ∷ ns) [] i n h e = absurd h
 place_named found (m ∷ ns) (x ∷ xs) zero n h e = (x, refl, subst (λ (z : ℕ). slice_get found z ≡ Some x) (same_Some m n e) h.0)
 place_named found (m ∷ ns) (x ∷ xs) (suc i) n h e = place_named found ns xs i n h.1 e
 
+-- a result of the move at that place, which was removed before
+record Before (sub above : Machine_data) (bound : ℕ) (r : Removed sub above bound) (i : ℕ) (x : Spot) (move : List Spot) : Type 0 where
+  pub index : ℕ
+  pub early : index < i
+  pub number : ℕ
+  pub stands : slice_get r.order index ≡ Some number
+  pub spot : Spot
+  pub spot_is : slice_get r.found number ≡ Some spot
+  pub place : ℕ
+  pub leads : LeadsBy sub above bound x place spot
+  pub among : Among move spot
+
+before : (sub above : Machine_data) (bound : ℕ) (r : Removed sub above bound) (i n place : ℕ) (x : Spot) (move : List Spot) → slice_get r.order i ≡ Some n → slice_get r.found n ≡ Some x
+    → slice_get (moves_at sub above bound x) place ≡ Some move → Before sub above bound r i x move
+before sub above bound r i n place x move o f e =
+    let outs = graph_outs sub above bound r.found r.rows in
+    let pic = graph_pictures sub above bound r.found r.rows r.discovery in
+    let k = pic.count n x f in
+    let w = at_short (moves_at sub above bound x) place move e in
+    let b = r.gone.ordered i n place o (omega arith) in
+    let row = row_at sub above bound r.found r.rows r.discovery n x f in
+    let m = row_from (is_any sub above bound x) row.0 place b.result
+    (subst (λ (z : List (List ℕ)). Among (get_or z place []) b.result) (outs_at (is_any sub above bound) r.found r.rows n x row.0 f row.1) b.leads) in
+    let at = at_in row.0 b.result m in
+    let y = place_named r.found row.0 (nexts_within sub above bound x) at.0 b.result (r.discovery.names n x row.0 f row.1) at.1 in
+    let z = named_result r.found (get_or (get_or outs n []) place []) move (pic.names n place x move f e) b.result b.leads in
+    record {
+      index = b.index;
+      early = b.early;
+      number = b.result;
+      stands = b.stands;
+      spot = y.0;
+      spot_is = y.2;
+      place = at.0;
+      leads = y.1;
+      among = subst (λ (v : Spot). Among move v) (same_Some z.0 y.0 (sym z.1 ∙ y.2)) z.2;
+    }
+
+-- each spot that is removed dies
+gone_die : (sub above : Machine_data) (bound : ℕ) (r : Removed sub above bound) (i n : ℕ) (x : Spot) → slice_get r.order i ≡ Some n → slice_get r.found n ≡ Some x → Dies sub above bound x
+gone_die sub above bound r i n x o f =
+    let g = r.gone.gone i n o in
+    dies sub above bound r.found (graph sub above bound r) r.current r.order (graph_pictures sub above bound r.found r.rows r.discovery) r.gone n x f (let q = g.1 in omega arith)
+
+lost_on : (sub above : Machine_data) (bound : ℕ) (Ends : Spot → Type 0) (p : Spot) (place : ℕ) (q : Spot) (later : List WalkStep_data) → Dies sub above bound p → LeadsBy sub above bound p place q
+    → IsLostWalk sub above bound Ends q later → IsLostWalk sub above bound Ends p (step place q ∷ later)
+lost_on sub above bound Ends p place q later d e l = record { walk = (e, l.walk); dies = (d, l.dies); ends = l.ends }
+
 -- from each spot that is removed a walk leads to a dead end, through spots that were removed before
 way : (sub above : Machine_data) (bound : ℕ) (r : Removed sub above bound) (most i n : ℕ) (x : Spot) → i < most → slice_get r.order i ≡ Some n → slice_get r.found n ≡ Some x
-    → (steps : List WalkStep_data) × IsLostWalk sub above bound x steps
+    → (steps : List WalkStep_data) × IsLostWalk sub above bound (IsDeadEnd sub above bound) x steps
 way sub above bound r zero i n x lt o f = let bad : ⊥ = omega arith in absurd bad
-way sub above bound r (suc most) i n x lt o f = elim (cases_lt 0 (removal.moves_at outs n)) [
-  | inr none ↦ (let e = pic.count n x f in ([], lost_here sub above bound x (no_moves_dead sub above bound x (omega arith))))
+way sub above bound r (suc most) i n x lt o f = elim (cases_lt 0 (length (moves_at sub above bound x))) [
+  | inr none ↦ ([], record { walk = tt; dies = gone_die sub above bound r i n x o f; ends = no_moves_dead sub above bound x (omega arith) })
   | inl some ↦ (
-      let g = r.gone.gone i n o in
-      let d = dies sub above bound r.found (graph sub above bound r) r.current r.order pic r.gone n x f (let q = g.1 in omega arith) in
-      let b = r.gone.ordered i n 0 o some in
-      let row = row_at sub above bound r.found r.rows r.discovery n x f in
-      let m = in_row (is_any sub above bound x) row.0 b.result
-      (subst (λ (z : List (List ℕ)). Among (get_or z 0 []) b.result) (outs_at (is_any sub above bound) r.found r.rows n x row.0 f row.1) b.leads) in
-      let place = at_in row.0 b.result m in
-      let y = place_named r.found row.0 (nexts_within sub above bound x) place.0 b.result (r.discovery.names n x row.0 f row.1) place.1 in
+      let m = at_within (moves_at sub above bound x) 0 some in
+      let b = before sub above bound r i n 0 x m.0 o f m.1 in
       let e = b.early in
-      let on = way sub above bound r most b.index b.result y.0 (omega arith) b.stands y.2 in
-      (step place.0 y.0 ∷ on.0, lost_on sub above bound x place.0 y.0 on.0 d y.1 on.1))
+      let on = way sub above bound r most b.index b.number b.spot (omega arith) b.stands b.spot_is in
+      (step b.place b.spot ∷ on.0, lost_on sub above bound (IsDeadEnd sub above bound) x b.place b.spot on.0 (gone_die sub above bound r i n x o f) b.leads on.1))
 ]
-  where
-    outs : List (List (List ℕ))
-    outs = graph_outs sub above bound r.found r.rows
 
-    pic : Pictures (moves_at sub above bound) r.found (graph_outs sub above bound r.found r.rows)
-    pic = graph_pictures sub above bound r.found r.rows r.discovery
+-- the start stands in the order, where it doesn't survive
+start_gone : (sub above : Machine_data) (bound : ℕ) (r : Removed sub above bound) → Dies sub above bound (start_spot sub above) → (i : ℕ) × (slice_get r.order i ≡ Some 0)
+start_gone sub above bound r d =
+    let outs = graph_outs sub above bound r.found r.rows in
+    let pic = graph_pictures sub above bound r.found r.rows r.discovery in
+    let w = r.gone.within 0 in
+    let full : at r.current 0 ≡ removal.moves_at outs 0 = elim (cases_lt (at r.current 0) (removal.moves_at outs 0)) [
+      | inl lt ↦ absurd (d (survives sub above bound r.found r.rows (graph sub above bound r) r.current r.order r.discovery pic r.gone 0 (start_spot sub above) r.discovery.first lt))
+      | inr le ↦ omega arith
+    ] in
+    let s = pic.size in
+    let k = at_short r.found 0 (start_spot sub above) r.discovery.first in
+    at_in r.order 0 (r.gone.listed 0 (omega arith) full)
 
 -- where the start doesn't survive there is a first walk
 pub walk_from_start : (sub above : Machine_data) (bound : ℕ) (cut : Bool) → IsNotFound sub above bound cut → (steps : List WalkStep_data) × IsFirstWalk sub above bound (start_spot sub above) steps
 walk_from_start sub above bound cut nf =
     let r = removed sub above bound cut nf in
-    let outs = graph_outs sub above bound r.found r.rows in
-    let pic = graph_pictures sub above bound r.found r.rows r.discovery in
-    let w = r.gone.within 0 in
-    let full : at r.current 0 ≡ removal.moves_at outs 0 = elim (cases_lt (at r.current 0) (removal.moves_at outs 0)) [
-      | inl lt ↦ absurd (nf.dies (survives sub above bound r.found r.rows (graph sub above bound r) r.current r.order r.discovery pic r.gone 0 (start_spot sub above) r.discovery.first lt))
-      | inr le ↦ omega arith
-    ] in
-    let s = pic.size in
-    let k = at_short r.found 0 (start_spot sub above) r.discovery.first in
-    let i = at_in r.order 0 (r.gone.listed 0 (omega arith) full) in
+    let i = start_gone sub above bound r nf.dies in
     let l = way sub above bound r (suc i.0) i.0 0 (start_spot sub above) (omega arith) i.1 r.discovery.first in
-    first_walk sub above bound (decides sub above bound r) (start_spot sub above) Start l.0 l.1
+    first_lost sub above bound (IsDeadEnd sub above bound) (decides sub above bound r) (dead_told sub above bound) (dead_are_dead sub above bound) (start_spot sub above) Start l.0 l.1
 
--- why the walk ends
+-- where no move is taken away
 
 -- where the bound takes no move away each move is within it
 pub uncut_within : (sub above : Machine_data) (bound : ℕ) (p : Spot) (makes : Option ℕ) (rs : List Spot) → (turn_within sub above bound p).cut ≡ false → HasMove sub above p makes rs → MoveWithin sub above bound p rs
@@ -141,6 +188,46 @@ uncut_within sub above bound p makes rs e m =
       | inl y ↦ (let k : true ≡ false = subst (λ (b : Bool). (if b then no_turn true else turn_of (Some t.d)).cut ≡ false) y e' in absurd (false≢true (sym k)))
       | inr f ↦ record { makes = makes; move = m; short = λ r k. more_no bound (concat t.d.nexts) f r (chosen_among t.d.nexts rs t.picks r k) }
     ]
+
+-- walks to a cut
+
+-- from each spot that is removed, and survives within a greater bound, a walk leads to a cut
+cut_way : (sub above : Machine_data) (bound greater : ℕ) (r : Removed sub above bound) (set : List Spot) → StandTogether sub above greater set
+    → (most i n : ℕ) (x : Spot) → i < most → slice_get r.order i ≡ Some n → slice_get r.found n ≡ Some x → Among set x
+    → (steps : List WalkStep_data) × IsLostWalk sub above bound (MeetsACut sub above bound) x steps
+cut_way sub above bound greater r set st zero i n x lt o f h = let bad : ⊥ = omega arith in absurd bad
+cut_way sub above bound greater r set st (suc most) i n x lt o f h =
+    let d = gone_die sub above bound r i n x o f in
+    let c = to_candidate sub above bound x (r.discovery.reached n x f) in
+    elim (bool_cases (turn_within sub above bound x).cut) [
+      | inl y ↦ ([], record { walk = tt; dies = d; ends = to_cut sub above bound x (candidate_short sub above bound x c) y })
+      | inr k ↦ (
+          let s = st.each x h in
+          let m = uncut_within sub above bound x s.move.makes s.results k s.move.move in
+          let p = at_in (moves_at sub above bound x) s.results (from_move sub above bound x s.results m) in
+          let b = before sub above bound r i n p.0 x s.results o f p.1 in
+          let e = b.early in
+          let on = cut_way sub above bound greater r set st most b.index b.number b.spot (omega arith) b.stands b.spot_is (s.all b.spot b.among) in
+          (step b.place b.spot ∷ on.0, lost_on sub above bound (MeetsACut sub above bound) x b.place b.spot on.0 d b.leads on.1))
+    ]
+
+-- where the start survives within a greater bound only, there is a first walk to a cut
+pub cut_from_start : (sub above : Machine_data) (bound : ℕ) (cut : Bool) → IsNotFound sub above bound cut → AGreaterBoundHelps sub above bound
+    → (steps : List WalkStep_data) × IsFirstCutWalk sub above bound (start_spot sub above) steps
+cut_from_start sub above bound cut nf g =
+    let r = removed sub above bound cut nf in
+    let i = start_gone sub above bound r nf.dies in
+    let l = cut_way sub above bound g.greater r g.survives.set g.survives.stand (suc i.0) i.0 0 (start_spot sub above) (omega arith) i.1 r.discovery.first g.survives.among in
+    first_lost sub above bound (MeetsACut sub above bound) (decides sub above bound r) (cut_or_not sub above bound) (cut_dead sub above bound) (start_spot sub above) Start l.0 l.1
+
+pub one_cut_walk : (sub above : Machine_data) (bound : ℕ) (a b : List WalkStep_data) → IsFirstCutWalk sub above bound (start_spot sub above) a → IsFirstCutWalk sub above bound (start_spot sub above) b → a ≡ b
+one_cut_walk sub above bound a b f g = one_lost sub above bound (MeetsACut sub above bound) (start_spot sub above) a b f g
+
+-- a canonical derivation within a greater bound tells that it helps
+pub canonical_helps : (sub above : Machine_data) (bound greater : ℕ) (d : Derivation_data) → bound ≤ greater → IsCanonical sub above greater d → AGreaterBoundHelps sub above bound
+canonical_helps sub above bound greater d le c = record { greater = greater; more = le; survives = starts_survive sub above greater d c.canonical }
+
+-- why a walk ends at a dead end
 
 pub ending_of : (sub above : Machine_data) (bound : ℕ) → IsProper sub → IsProper above → (p : Spot) → IsCandidate sub above bound p → IsDeadEnd sub above bound p
     → (e : Ending) × EndsBy sub above bound p e
@@ -155,7 +242,7 @@ pub some_explanation : (sub above : Machine_data) (bound : ℕ) (cut : Bool) →
     → (e : Explanation_data) × IsExplanation sub above bound e
 some_explanation sub above bound cut ws wa nf =
     let f = walk_from_start sub above bound cut nf in
-    let l = f.1.lost in
+    let l = f.1.is in
     let c = end_candidate sub above bound (start_spot sub above) f.0 Start l.walk in
     let e = ending_of sub above bound ws wa (end_of (start_spot sub above) f.0) c l.ends in
     (record { steps = f.0; ending = e.0 }, record { first = f.1; ending = e.1 })
@@ -173,7 +260,7 @@ same_explanation a b e f = rw (e, f) refl
 
 pub one_explanation : (sub above : Machine_data) (bound : ℕ) (a b : Explanation_data) → IsExplanation sub above bound a → IsExplanation sub above bound b → a ≡ b
 one_explanation sub above bound a b h k =
-    let e = one_first_walk sub above bound (start_spot sub above) a.steps b.steps h.first k.first in
+    let e = one_lost sub above bound (IsDeadEnd sub above bound) (start_spot sub above) a.steps b.steps h.first k.first in
     same_explanation a b e
     (one_ending sub above bound (end_of (start_spot sub above) b.steps) a.ending b.ending
     (subst (λ (z : List WalkStep_data). EndsBy sub above bound (end_of (start_spot sub above) z) a.ending) e h.ending) k.ending)
@@ -181,7 +268,7 @@ one_explanation sub above bound a b h k =
 -- what an explanation certifies
 
 pub none_within : (sub above : Machine_data) (bound : ℕ) (e : Explanation_data) (d : Derivation_data) → IsExplanation sub above bound e → IsDerivation d sub above → d.bound ≤ bound → ⊥
-none_within sub above bound e d h v le = lost_dies sub above bound (start_spot sub above) e.steps h.first.lost (derived_survives sub above bound d v le)
+none_within sub above bound e d h v le = lost_dies sub above bound (IsDeadEnd sub above bound) (start_spot sub above) e.steps h.first.is (derived_survives sub above bound d v le)
 
 named : (nodes : List DNode_data) (js : List ℕ) (rs : List Spot) (r : Spot) → NameResults nodes js rs → Among rs r → (j : ℕ) × (m : DNode_data) × (slice_get nodes j ≡ Some m) × (spot_of m ≡ r)
 named nodes js [] r h m = absurd m
@@ -208,6 +295,6 @@ certified sub above steps d f stuck v = forced_on sub above d v (start_spot sub 
 -- where no candidate meets a cut the walk doesn't end at one
 pub uncut_blocked : (sub above : Machine_data) (bound : ℕ) (e : Explanation_data) → IsNotFound sub above bound false → IsExplanation sub above bound e → e.ending ≢ ending.Cut
 uncut_blocked sub above bound e nf h q =
-    let c = end_candidate sub above bound (start_spot sub above) e.steps Start h.first.lost.walk in
+    let c = end_candidate sub above bound (start_spot sub above) e.steps Start h.first.is.walk in
     let cut : EndsBy sub above bound (end_of (start_spot sub above) e.steps) ending.Cut = subst (λ (z : Ending). EndsBy sub above bound (end_of (start_spot sub above) e.steps) z) q h.ending in
     false≢true (nf.cuts.1 (record { spot = end_of (start_spot sub above) e.steps; candidate = c; cut = cut }))

@@ -1,22 +1,20 @@
--- Walks through spots that don't survive: where there is one there is a first one.
-use Rattle.std.proofs.Common.{◌≡◌, ◌⊎◌, inl, inr, ℕ, ◌<◌, ◌≤◌, ◌+◌, zero, suc, Bool, true, false, List, [], ◌∷◌, length, map, slice_get, refl, sym, ap, subst, ◌∙◌, arith}
-use Rattle.std.proofs.lemmas.Bool.{cases_lt, cases_order}
-use Rattle.std.proofs.lemmas.Option.{same_Some}
+-- Walks through spots that don't survive: where there is one there is a first one, and one only.
+use Rattle.std.proofs.Common.{◌≡◌, ◌⊎◌, inl, inr, ℕ, Bool, true, false, List, [], ◌∷◌, length, map, slice_get, Option, Some, None, refl, sym, ◌∙◌, arith, if◌then◌else◌}
+use Rattle.std.proofs.lemmas.Bool.{false≢true}
 use Rattle.rs_model.specs.Data.{Machine_data}
 use Rattle.rs_derive.proofs.Mapped.{map_at}
+use Rattle.rs_derive.specs.Due.{Due, due}
 use Rattle.rs_derive.specs.Moves.{Spot}
-use Rattle.rs_graph.proofs.Growth.{at_short, at_within, in_at}
+use Rattle.rs_graph.proofs.Growth.{in_at}
 use Rattle.rs_graph.specs.Graphs.{moves_of}
 use Rattle.rs_graph.specs.Lists.{Among}
-use Rattle.rs_search.proofs.Choices.{from_move, moves_at, to_move}
-use Rattle.rs_search.specs.Candidates.{IsCandidate, MoveWithin, Onward}
+use Rattle.rs_search.proofs.Choices.{bool_cases, from_cut, from_move, moves_at, to_cut, to_move}
+use Rattle.rs_search.proofs.Verdicts.{candidate_short}
+use Rattle.rs_search.specs.Candidates.{IsCandidate, MeetsACut, MoveWithin, Onward}
 use Rattle.rs_search.specs.Survives.{Survives}
-use Rattle.rs_search.specs.Turns.{nexts_within, turn_within}
-use Rattle.rs_explain.specs.Walks.{Dies, IsDeadEnd, IsFirstWalk, IsLostWalk, IsNoLater, IsWalk, LeadsBy, WalkStep_data, end_of}
-
--- a step by that place to that spot
-abbrev pub step : ℕ → Spot → WalkStep_data
-step place q = record { place = place; spot = q }
+use Rattle.rs_search.specs.Turns.{Turn_data, no_turn, nexts_within, owes_more, turn_of, turn_within}
+use Rattle.rs_explain.proofs.Ways.{AreTold, GoBy, IsWay, first_same, first_walk, one_first, seek}
+use Rattle.rs_explain.specs.Walks.{AllDie, Dies, IsDeadEnd, IsFirst, IsLostWalk, IsWalk, LeadsBy, WalkStep_data, end_of}
 
 -- moves and steps
 
@@ -66,157 +64,114 @@ pub end_candidate : (sub above : Machine_data) (bound : ℕ) (p : Spot) (steps :
 end_candidate sub above bound p [] c w = c
 end_candidate sub above bound p (s ∷ later) c w = end_candidate sub above bound s.spot later (candidate_on sub above bound p s.place s.spot c w.0) w.1
 
+-- a spot that meets a cut has no move within the bound
+
+cut_none : (b : Bool) (u : Turn_data) (rs : List Spot) → u.cut ≡ false → (if b then no_turn true else u).cut ≡ true
+    → Among (moves_of (if b then no_turn true else u).any (if b then no_turn true else u).spots) rs → ⊥
+cut_none true u rs f e h = h
+cut_none false u rs f e h = false≢true (sym f ∙ e)
+
+uncut_of : (o : Option Due) → (turn_of o).cut ≡ false
+uncut_of None = refl
+uncut_of (Some d) = refl
+
+pub cut_dead : (sub above : Machine_data) (bound : ℕ) (p : Spot) → MeetsACut sub above bound p → IsDeadEnd sub above bound p
+cut_dead sub above bound p c rs m =
+    cut_none (owes_more bound (turn_of (due sub above p)).spots) (turn_of (due sub above p)) rs (uncut_of (due sub above p)) (from_cut sub above bound p c) (from_move sub above bound p rs m)
+
+-- a candidate meets a cut, or doesn't
+pub cut_or_not : (sub above : Machine_data) (bound : ℕ) (p : Spot) → IsCandidate sub above bound p → MeetsACut sub above bound p ⊎ (MeetsACut sub above bound p → ⊥)
+cut_or_not sub above bound p c = elim (bool_cases (turn_within sub above bound p).cut) [
+  | inl y ↦ inl (to_cut sub above bound p (candidate_short sub above bound p c) y)
+  | inr f ↦ inr (λ k. false≢true (sym f ∙ from_cut sub above bound p k))
+]
+
 -- lost walks
 
-pub lost_on : (sub above : Machine_data) (bound : ℕ) (p : Spot) (place : ℕ) (q : Spot) (later : List WalkStep_data) → Dies sub above bound p → LeadsBy sub above bound p place q
-    → IsLostWalk sub above bound q later → IsLostWalk sub above bound p (step place q ∷ later)
-lost_on sub above bound p place q later d e l = record { walk = (e, l.walk); dies = (d, l.dies); ends = l.ends }
+-- a step from a spot that doesn't survive
+abbrev pub LostStep : Machine_data → Machine_data → ℕ → Spot → ℕ → Spot → Type 0
+LostStep sub above bound p place q = Dies sub above bound p × LeadsBy sub above bound p place q
 
-pub lost_here : (sub above : Machine_data) (bound : ℕ) (p : Spot) → IsDeadEnd sub above bound p → IsLostWalk sub above bound p []
-lost_here sub above bound p e = record { walk = tt; dies = dead_dies sub above bound p e; ends = e }
+-- each of these ends is a dead end
+abbrev pub AreDead : Machine_data → Machine_data → ℕ → (Spot → Type 0) → Type 0
+AreDead sub above bound Ends = (p : Spot) → Ends p → IsDeadEnd sub above bound p
 
-pub lost_tail : (sub above : Machine_data) (bound : ℕ) (p : Spot) (s : WalkStep_data) (later : List WalkStep_data) → IsLostWalk sub above bound p (s ∷ later)
-    → LeadsBy sub above bound p s.place s.spot × IsLostWalk sub above bound s.spot later
-lost_tail sub above bound p s later l = (l.walk.0, record { walk = l.walk.1; dies = l.dies.1; ends = l.ends })
+pub lost_by : (sub above : Machine_data) (bound : ℕ) (p : Spot) (place : ℕ) (q : Spot) → LostStep sub above bound p place q → slice_get (nexts_within sub above bound p) place ≡ Some q
+lost_by sub above bound p place q g = g.1
 
-pub lost_dies : (sub above : Machine_data) (bound : ℕ) (p : Spot) (steps : List WalkStep_data) → IsLostWalk sub above bound p steps → Dies sub above bound p
-lost_dies sub above bound p [] l = l.dies
-lost_dies sub above bound p (s ∷ later) l = l.dies.0
+lost_go : (sub above : Machine_data) (bound : ℕ) (p : Spot) (steps : List WalkStep_data) → IsWalk sub above bound p steps → AllDie sub above bound p steps → GoBy (LostStep sub above bound) p steps
+lost_go sub above bound p [] w d = tt
+lost_go sub above bound p (s ∷ later) w d = ((d.0, w.0), lost_go sub above bound s.spot later w.1 d.1)
+
+pub lost_way : (sub above : Machine_data) (bound : ℕ) (Ends : Spot → Type 0) (p : Spot) (steps : List WalkStep_data) → IsLostWalk sub above bound Ends p steps
+    → IsWay (LostStep sub above bound) Ends p steps
+lost_way sub above bound Ends p steps l = record { go = lost_go sub above bound p steps l.walk l.dies; ends = l.ends }
+
+go_walk : (sub above : Machine_data) (bound : ℕ) (p : Spot) (steps : List WalkStep_data) → GoBy (LostStep sub above bound) p steps → IsWalk sub above bound p steps
+go_walk sub above bound p [] g = tt
+go_walk sub above bound p (s ∷ later) g = (g.0.1, go_walk sub above bound s.spot later g.1)
+
+go_dies : (sub above : Machine_data) (bound : ℕ) (p : Spot) (steps : List WalkStep_data) → GoBy (LostStep sub above bound) p steps → Dies sub above bound (end_of p steps)
+    → AllDie sub above bound p steps
+go_dies sub above bound p [] g d = d
+go_dies sub above bound p (s ∷ later) g d = (g.0.0, go_dies sub above bound s.spot later g.1 d)
+
+pub way_lost : (sub above : Machine_data) (bound : ℕ) (Ends : Spot → Type 0) → AreDead sub above bound Ends → (p : Spot) (steps : List WalkStep_data) → IsWay (LostStep sub above bound) Ends p steps
+    → IsLostWalk sub above bound Ends p steps
+way_lost sub above bound Ends dead p steps w = record {
+  walk = go_walk sub above bound p steps w.go;
+  dies = go_dies sub above bound p steps w.go (dead_dies sub above bound (end_of p steps) (dead (end_of p steps) w.ends));
+  ends = w.ends;
+}
+
+pub lost_dies : (sub above : Machine_data) (bound : ℕ) (Ends : Spot → Type 0) (p : Spot) (steps : List WalkStep_data) → IsLostWalk sub above bound Ends p steps → Dies sub above bound p
+lost_dies sub above bound Ends p [] l = l.dies
+lost_dies sub above bound Ends p (s ∷ later) l = l.dies.0
 
 -- first walks
-
-pub first_here : (sub above : Machine_data) (bound : ℕ) (p : Spot) → IsDeadEnd sub above bound p → IsFirstWalk sub above bound p []
-first_here sub above bound p e = record { lost = lost_here sub above bound p e; shortest = λ others l. omega arith; least = λ others l q. tt }
-
--- by a step as near as there is, and nearer than each by a lesser place
-pub first_on : (sub above : Machine_data) (bound : ℕ) (p : Spot) (place : ℕ) (q : Spot) (later : List WalkStep_data) → Dies sub above bound p → LeadsBy sub above bound p place q
-    → IsFirstWalk sub above bound q later → ((others : List WalkStep_data) → IsLostWalk sub above bound p others → suc (length later) ≤ length others)
-    → ((i : ℕ) (x : Spot) (others : List WalkStep_data) → i < place → LeadsBy sub above bound p i x → IsLostWalk sub above bound x others → length later < length others)
-    → IsFirstWalk sub above bound p (step place q ∷ later)
-first_on sub above bound p place q later d e f near before = record {
-  lost = lost_on sub above bound p place q later d e f.lost;
-  shortest = near;
-  least = least;
-}
-  where
-    least : (others : List WalkStep_data) → IsLostWalk sub above bound p others → length others ≡ length (step place q ∷ later) → IsNoLater (step place q ∷ later) others
-    least [] l h = let bad : ⊥ = omega arith in absurd bad
-    least (o ∷ rest) l h =
-        let t = lost_tail sub above bound p o rest l in
-        elim (cases_order place o.place) [
-          | inl same ↦ (let at : q ≡ o.spot = same_Some q o.spot (sym e ∙ ap (λ (z : ℕ). slice_get (nexts_within sub above bound p) z) same ∙ t.0) in
-              inr (same, f.least rest (subst (λ (z : Spot). IsLostWalk sub above bound z rest) (sym at) t.1) (omega arith)))
-          | inr other ↦ elim other [
-            | inl lt ↦ inl lt
-            | inr gt ↦ (let k = before o.place o.spot rest gt t.0 t.1 in let bad : ⊥ = omega arith in absurd bad)
-          ]
-        ]
-
--- the search for the first walk
-
--- a first walk of so many steps
-pub record FirstOf (sub above : Machine_data) (bound : ℕ) (p : Spot) (count : ℕ) : Type 0 where
-  pub steps : List WalkStep_data
-  pub first : IsFirstWalk sub above bound p steps
-  pub size : length steps ≡ count
-
--- each lost walk has so many steps at least
-abbrev pub AreFrom : Machine_data → Machine_data → ℕ → Spot → ℕ → Type 0
-AreFrom sub above bound p count = (others : List WalkStep_data) → IsLostWalk sub above bound p others → count ≤ length others
 
 abbrev pub Decides : Machine_data → Machine_data → ℕ → Type 0
 Decides sub above bound = (p : Spot) → IsCandidate sub above bound p → Survives sub above bound p ⊎ Dies sub above bound p
 
--- a first walk of so many steps is sought
-abbrev Seeks : Machine_data → Machine_data → ℕ → ℕ → Type 0
-Seeks sub above bound count = (p : Spot) → IsCandidate sub above bound p → Dies sub above bound p → AreFrom sub above bound p count
-    → FirstOf sub above bound p count ⊎ AreFrom sub above bound p (suc count)
+-- it can be told whether a candidate is one of these ends
+abbrev pub TellsEnds : Machine_data → Machine_data → ℕ → (Spot → Type 0) → Type 0
+TellsEnds sub above bound Ends = (p : Spot) → IsCandidate sub above bound p → Ends p ⊎ (Ends p → ⊥)
 
-not_here : (sub above : Machine_data) (bound : ℕ) (p : Spot) → (IsDeadEnd sub above bound p → ⊥) → AreFrom sub above bound p 1
-not_here sub above bound p ne [] l = absurd (ne l.ends)
-not_here sub above bound p ne (s ∷ later) l = omega arith
+lost_told : (sub above : Machine_data) (bound : ℕ) (Ends : Spot → Type 0) → Decides sub above bound → TellsEnds sub above bound Ends
+    → AreTold (nexts_within sub above bound) (IsCandidate sub above bound) (LostStep sub above bound) Ends
+lost_told sub above bound Ends dec ended = record {
+  by = lost_by sub above bound;
+  good = λ p place q c g. candidate_on sub above bound p place q c g.1;
+  tells = λ p place q c e. elim (dec p c) [ inl alive ↦ inr (λ g. g.0 alive) | inr d ↦ inl (d, e) ];
+  ended = ended;
+}
 
--- at the spots behind p, of which the first so many have no walk as short
-seek_on : (sub above : Machine_data) (bound count : ℕ) → Decides sub above bound → Seeks sub above bound count → (p : Spot) → IsCandidate sub above bound p → Dies sub above bound p
-    → AreFrom sub above bound p (suc count) → (n i : ℕ) → i + n ≡ length (nexts_within sub above bound p)
-    → ((j : ℕ) (x : Spot) → j < i → LeadsBy sub above bound p j x → AreFrom sub above bound x (suc count))
-    → FirstOf sub above bound p (suc count) ⊎ AreFrom sub above bound p (suc (suc count))
-seek_on sub above bound count dec seeks p c d far zero i s before = inr none
-  where
-    none : AreFrom sub above bound p (suc (suc count))
-    none [] l = let k = far [] l in let bad : ⊥ = omega arith in absurd bad
-    none (o ∷ rest) l =
-        let t = lost_tail sub above bound p o rest l in
-        let w = at_short (nexts_within sub above bound p) o.place o.spot t.0 in
-        let k = before o.place o.spot (omega arith) t.0 rest t.1 in omega arith
-seek_on sub above bound count dec seeks p c d far (suc n) i s before =
-    let x = at_within (nexts_within sub above bound p) i (omega arith) in
-    let cx = candidate_on sub above bound p i x.0 c x.1 in
-    elim (dec x.0 cx) [
-      | inl alive ↦ seek_on sub above bound count dec seeks p c d far n (suc i) (omega arith) (more x.0 x.1 (λ others l. absurd (lost_dies sub above bound x.0 others l alive)))
-      | inr dx ↦ elim (seeks x.0 cx dx (λ others l. let k = far (step i x.0 ∷ others) (lost_on sub above bound p i x.0 others d x.1 l) in omega arith)) [
-        | inl f ↦ inl record {
-          steps = step i x.0 ∷ f.steps;
-          first = first_on sub above bound p i x.0 f.steps d x.1 f.first (λ others l. let k = far others l in let z = f.size in omega arith)
-              (λ j y others lt e l. let k = before j y lt e others l in let z = f.size in omega arith);
-          size = (let z = f.size in omega arith);
-        }
-        | inr none ↦ seek_on sub above bound count dec seeks p c d far n (suc i) (omega arith) (more x.0 x.1 none)
-      ]
-    ]
-  where
-    more : (x : Spot) → LeadsBy sub above bound p i x → AreFrom sub above bound x (suc count)
-        → (j : ℕ) (y : Spot) → j < suc i → LeadsBy sub above bound p j y → AreFrom sub above bound y (suc count)
-    more x e none j y lt q = elim (cases_lt j i) [
-      | inl a ↦ before j y a q
-      | inr a ↦ (let same : i ≡ j = omega arith in
-          let at : x ≡ y = same_Some x y (sym e ∙ ap (λ (z : ℕ). slice_get (nexts_within sub above bound p) z) same ∙ q) in
-          subst (λ (z : Spot). AreFrom sub above bound z (suc count)) at none)
-    ]
-
-seek : (sub above : Machine_data) (bound : ℕ) → Decides sub above bound → (count : ℕ) → Seeks sub above bound count
-seek sub above bound dec zero p c d far = elim (dead_or_not sub above bound p) [
-  | inl e ↦ inl record { steps = []; first = first_here sub above bound p e; size = refl }
-  | inr ne ↦ inr (not_here sub above bound p ne)
-]
-seek sub above bound dec (suc count) p c d far =
-    seek_on sub above bound count dec (seek sub above bound dec count) p c d far (length (nexts_within sub above bound p)) 0 (omega arith)
-    (λ j x lt e. let bad : ⊥ = omega arith in absurd bad)
-
--- where there is a lost walk there is a first one
-hunt : (sub above : Machine_data) (bound : ℕ) → Decides sub above bound → (p : Spot) → IsCandidate sub above bound p → (steps : List WalkStep_data) → IsLostWalk sub above bound p steps
-    → (k count : ℕ) → count + k ≡ suc (length steps) → AreFrom sub above bound p count → (first : List WalkStep_data) × IsFirstWalk sub above bound p first
-hunt sub above bound dec p c steps l zero count e far = let k = far steps l in let bad : ⊥ = omega arith in absurd bad
-hunt sub above bound dec p c steps l (suc k) count e far = elim (seek sub above bound dec count p c (lost_dies sub above bound p steps l) far) [
-  | inl f ↦ (f.steps, f.first)
-  | inr on ↦ hunt sub above bound dec p c steps l k (suc count) (omega arith) on
-]
-
-pub first_walk : (sub above : Machine_data) (bound : ℕ) → Decides sub above bound → (p : Spot) → IsCandidate sub above bound p → (steps : List WalkStep_data) → IsLostWalk sub above bound p steps
-    → (first : List WalkStep_data) × IsFirstWalk sub above bound p first
-first_walk sub above bound dec p c steps l = hunt sub above bound dec p c steps l (suc (length steps)) 0 (omega arith) (λ others h. omega arith)
+pub first_lost : (sub above : Machine_data) (bound : ℕ) (Ends : Spot → Type 0) → Decides sub above bound → TellsEnds sub above bound Ends → AreDead sub above bound Ends
+    → (p : Spot) → IsCandidate sub above bound p → (steps : List WalkStep_data) → IsLostWalk sub above bound Ends p steps
+    → (first : List WalkStep_data) × IsFirst (IsLostWalk sub above bound Ends p) first
+first_lost sub above bound Ends dec ended dead p c steps l =
+    let told = lost_told sub above bound Ends dec ended in
+    let f = first_walk (IsWay (LostStep sub above bound) Ends p)
+    (λ count. seek (nexts_within sub above bound) (IsCandidate sub above bound) (LostStep sub above bound) Ends told count p c) steps (lost_way sub above bound Ends p steps l) in
+    (f.0, first_same (IsWay (LostStep sub above bound) Ends p) (IsLostWalk sub above bound Ends p) (way_lost sub above bound Ends dead p) (lost_way sub above bound Ends p) f.0 f.1)
 
 -- there is one at most
+pub one_lost : (sub above : Machine_data) (bound : ℕ) (Ends : Spot → Type 0) (p : Spot) (a b : List WalkStep_data) → IsFirst (IsLostWalk sub above bound Ends p) a
+    → IsFirst (IsLostWalk sub above bound Ends p) b → a ≡ b
+one_lost sub above bound Ends p a b =
+    one_first (nexts_within sub above bound) (LostStep sub above bound) (lost_by sub above bound) p (IsLostWalk sub above bound Ends p)
+    (λ w l. (lost_way sub above bound Ends p w l).go) a b
 
-same_step : (s o : WalkStep_data) → s.place ≡ o.place → s.spot ≡ o.spot → s ≡ o
-same_step s o e f = rw (e, f) refl
+pub dead_told : (sub above : Machine_data) (bound : ℕ) → TellsEnds sub above bound (IsDeadEnd sub above bound)
+dead_told sub above bound p c = dead_or_not sub above bound p
 
-same_walk : (sub above : Machine_data) (bound : ℕ) (p : Spot) (a b : List WalkStep_data) → IsWalk sub above bound p a → IsWalk sub above bound p b → length a ≡ length b → IsNoLater a b → IsNoLater b a
-    → a ≡ b
-same_walk sub above bound p [] [] wa wb e f g = refl
-same_walk sub above bound p [] (o ∷ b) wa wb e f g = let bad : ⊥ = omega arith in absurd bad
-same_walk sub above bound p (s ∷ a) [] wa wb e f g = let bad : ⊥ = omega arith in absurd bad
-same_walk sub above bound p (s ∷ a) (o ∷ b) wa wb e (inl lt) (inl gt) = let bad : ⊥ = omega arith in absurd bad
-same_walk sub above bound p (s ∷ a) (o ∷ b) wa wb e (inl lt) (inr g) = let q = g.0 in let bad : ⊥ = omega arith in absurd bad
-same_walk sub above bound p (s ∷ a) (o ∷ b) wa wb e (inr f) (inl gt) = let q = f.0 in let bad : ⊥ = omega arith in absurd bad
-same_walk sub above bound p (s ∷ a) (o ∷ b) wa wb e (inr f) (inr g) =
-    let at : s.spot ≡ o.spot = same_Some s.spot o.spot (sym wa.0 ∙ ap (λ (z : ℕ). slice_get (nexts_within sub above bound p) z) f.0 ∙ wb.0) in
-    let on = same_walk sub above bound s.spot a b wa.1 (subst (λ (z : Spot). IsWalk sub above bound z b) (sym at) wb.1) (omega arith) f.1 g.1 in
-    ap (λ (z : WalkStep_data). z ∷ a) (same_step s o f.0 at) ∙ ap (λ (z : List WalkStep_data). o ∷ z) on
+pub dead_are_dead : (sub above : Machine_data) (bound : ℕ) → AreDead sub above bound (IsDeadEnd sub above bound)
+dead_are_dead sub above bound p d = d
 
-pub one_first_walk : (sub above : Machine_data) (bound : ℕ) (p : Spot) (a b : List WalkStep_data) → IsFirstWalk sub above bound p a → IsFirstWalk sub above bound p b → a ≡ b
-one_first_walk sub above bound p a b f g =
-    let m = f.shortest b g.lost in
-    let n = g.shortest a f.lost in
-    let e : length a ≡ length b = omega arith in
-    same_walk sub above bound p a b f.lost.walk g.lost.walk e (f.least b g.lost (sym e)) (g.least a f.lost e)
+-- a dead end is at the end of the empty walk, the first one
+pub first_dead : (sub above : Machine_data) (bound : ℕ) (p : Spot) → IsDeadEnd sub above bound p → IsFirst (IsLostWalk sub above bound (IsDeadEnd sub above bound) p) []
+first_dead sub above bound p e = record {
+  is = record { walk = tt; dies = dead_dies sub above bound p e; ends = e };
+  shortest = λ others l. omega arith;
+  least = λ others l q. tt;
+}

@@ -1,95 +1,50 @@
--- Steps that each go nearer to a dead end, by the first place that does, make the first walk.
-use Rattle.std.proofs.Common.{◌≡◌, inl, inr, ℕ, ◌<◌, ◌≤◌, ◌-◌, zero, suc, Bool, true, false, List, [], ◌∷◌, ◌++◌, length, map, get_or, slice_get, Option, Some, refl, sym, ap, subst, ◌∙◌, arith, append_assoc}
+-- The graph of the candidates that don't survive charts the lost walks: steps that go nearer make the first of these.
+use Rattle.std.proofs.Common.{◌≡◌, inl, inr, ℕ, ◌<◌, ◌≤◌, ◌+◌, ◌*◌, zero, suc, Bool, true, false, List, [], ◌∷◌, length, get_or, slice_get, Option, Some, refl, sym, ap, subst, ◌∙◌, arith}
 use Rattle.std.proofs.lemmas.Bool.{cases_lt}
-use Rattle.std.proofs.lemmas.List.{append-nil, get_or_past}
+use Rattle.std.proofs.lemmas.List.Sums.{sum_by-cons}
 use Rattle.std.proofs.lemmas.Option.{none-some, same_Some}
+use Rattle.std.specs.List.{sum_by}
 use Rattle.rs_model.specs.Data.{Machine_data}
 use Rattle.rs_model.specs.declared.machines.State.{State}
 use Rattle.rs_derive.specs.Derivations.{IsProper}
 use Rattle.rs_derive.specs.Moves.{Spot}
 use Rattle.rs_graph.proofs.Buckets.{got}
 use Rattle.rs_graph.proofs.Growth.{at_short, at_within, in_at}
-use Rattle.rs_graph.proofs.Kept.{Pictures}
 use Rattle.rs_graph.specs.Built.{IsBuilt}
 use Rattle.rs_graph.specs.Discovery.{IsDiscovery}
 use Rattle.rs_graph.specs.Graphs.{Graph_data, moves_of}
 use Rattle.rs_graph.specs.Lists.{Among, ArePlacesOf}
-use Rattle.rs_graph.specs.Removal.{IsRemoval, Leads, at}
-use Rattle.rs_graph.specs.Removal as removal
-use Rattle.rs_search.proofs.Choices.{bool_cases, moves_at, to_cut}
-use Rattle.rs_search.proofs.Verdicts.{candidate_short, dies, pictures, rows_within, survives}
+use Rattle.rs_graph.specs.Removal.{edges_in}
+use Rattle.rs_search.proofs.Choices.{bool_cases, to_cut}
+use Rattle.rs_search.proofs.Verdicts.{candidate_short, rows_within}
 use Rattle.rs_search.proofs.Staying.{stays_within}
 use Rattle.rs_search.specs.Candidates.{IsCandidate, Start, start_spot}
-use Rattle.rs_search.specs.Turns.{is_any, nexts_within, turn_within}
+use Rattle.rs_search.specs.Found.{AreFoundCandidates}
+use Rattle.rs_search.specs.Turns.{nexts_within, turn_within}
+use Rattle.rs_search.specs.declared.found.Candidates.{Candidates}
 use Rattle.rs_explain.proofs.Blocking.{moves_or_obstacle}
-use Rattle.rs_explain.proofs.Existing.{place_named, uncut_within}
-use Rattle.rs_explain.proofs.Firsts.{dead_has_no_moves, end_candidate, first_here, first_on, lost_tail, no_moves_dead, step}
-use Rattle.rs_explain.specs.Distances.{AreDistances, IsNear, far_at}
+use Rattle.rs_explain.proofs.Charts.{nearest, way_far}
+use Rattle.rs_explain.proofs.Existing.{place_named, row_from, uncut_within}
+use Rattle.rs_explain.proofs.Firsts.{AreDead, LostStep, dead_dies, end_candidate, lost_by, lost_way, way_lost}
+use Rattle.rs_explain.proofs.Spreading.{edges_few, flag_within}
+use Rattle.rs_explain.proofs.Ways.{IsWay, first_same}
+use Rattle.rs_explain.specs.Distances.{AreDistances, far_at, flag_at}
 use Rattle.rs_explain.specs.Explanations.{EndsBy, IsExplanation}
 use Rattle.rs_explain.specs.ObstacleAt.{obstacle_at}
-use Rattle.rs_explain.specs.OnWay.{AreCharted, IsFirstAt, IsWholeWay, ending_at, ending_by}
-use Rattle.rs_explain.specs.Walks.{Dies, IsDeadEnd, IsFirstWalk, IsLostWalk, LeadsBy, WalkStep_data, end_of}
+use Rattle.rs_explain.specs.OnWay.{AreCharted, AreFlagged, GoNearer, IsLostGraph, IsWholeWay, ending_at, ending_by}
+use Rattle.rs_explain.specs.Walks.{Dies, IsDeadEnd, IsFirst, IsLostWalk, LeadsBy, WalkStep_data, end_of}
 use Rattle.rs_explain.specs.declared.explaining.Ending.{Ending}
 use Rattle.rs_explain.specs.declared.obstacles.Obstacle.{Obstacle}
 
--- a walk from the start has come to the node, from which so many steps are left: each first walk from there completes one from the start
-pub record IsOnWay (sub above : Machine_data) (bound : ℕ) (found : List Spot) (far : List (Option ℕ)) (steps : List WalkStep_data) (node left : ℕ) : Type 0 where
-  pub spot : Spot
-  pub stands : slice_get found node ≡ Some spot
-  pub far_is : far_at far node ≡ Some left
-  pub ends : end_of (start_spot sub above) steps ≡ spot
-  pub on : (rest : List WalkStep_data) → IsFirstWalk sub above bound spot rest → length rest ≡ left
-      → IsFirstWalk sub above bound (start_spot sub above) (steps ++ rest)
-
 -- the graph of the candidates tells the chart
 
-row_to : (any : Bool) (row : List ℕ) (r : ℕ) → Among row r → (place : ℕ) × Among (get_or (moves_of any row) place []) r
+pub row_to : (any : Bool) (row : List ℕ) (r : ℕ) → Among row r → (place : ℕ) × Among (get_or (moves_of any row) place []) r
 row_to true [] r m = absurd m
 row_to true (n ∷ row) r (inl e) = (zero, inl e)
 row_to true (n ∷ row) r (inr m) = let k = row_to true row r m in (suc k.0, k.1)
 row_to false row r m = (zero, m)
 
-row_from : (any : Bool) (row : List ℕ) (place r : ℕ) → Among (get_or (moves_of any row) place []) r → Among row r
-row_from true [] place r h = (let e : get_or {A = List ℕ} [] place [] ≡ [] = get_or_past [] place [] (omega arith) in let bad : Among [] r = subst (λ (z : List ℕ). Among z r) e h in absurd bad)
-row_from true (n ∷ row) zero r (inl e) = inl e
-row_from true (n ∷ row) zero r (inr h) = absurd h
-row_from true (n ∷ row) (suc place) r h = inr (row_from true row place r h)
-row_from false row zero r h = h
-row_from false row (suc place) r h = (let e : get_or {A = List ℕ} [] place [] ≡ [] = get_or_past [] place [] (omega arith) in let bad : Among [] r = subst (λ (z : List ℕ). Among z r) e h in absurd bad)
-
-pub charted : (sub above : Machine_data) (bound : ℕ) (found : List Spot) (rows : List (List ℕ)) (anys : List Bool) (g : Graph_data) (current order : List ℕ) (far : List (Option ℕ))
-    → IsDiscovery (nexts_within sub above bound) (start_spot sub above) found rows → anys ≡ map (is_any sub above bound) found → IsBuilt anys rows (length rows) g → IsRemoval g.outs current order
-    → AreDistances g.outs current far → AreCharted sub above bound found rows far
-charted sub above bound found rows anys g current order far d ea b rem dist = record {
-  discovery = d;
-  size = dist.steps.size ∙ pic.size;
-  dies = λ n e x f h. dies sub above bound found g current order pic rem n x f (let k = (dist.steps.gone n e h).1 in omega arith);
-  ends = λ n x f dead. dist.steps.ends n (here n x f) (pic.count n x f ∙ dead_has_no_moves sub above bound x dead);
-  only = λ n x f h. no_moves_dead sub above bound x (sym (pic.count n x f) ∙ dist.steps.only n h);
-  on = λ n r e x row f dx er m h. (let p = row_to (get_or anys n false) row r m in
-      dist.told r n p.0 e (here n x f, full n x f dx) (subst (λ (z : List (List ℕ)). Among (get_or z p.0 []) r) (sym (outs_row n row er)) p.1) h);
-  tight = λ n e row er h. (let t = dist.steps.tight n e h in
-      (t.1, row_from (get_or anys n false) row t.0 t.1 (subst (λ (z : List (List ℕ)). Among (get_or z t.0 []) t.1) (outs_row n row er) t.2), t.3));
-}
-  where
-    pic : Pictures (moves_at sub above bound) found g.outs
-    pic = pictures sub above bound found rows anys g d ea b
-
-    here : (n : ℕ) (x : Spot) → slice_get found n ≡ Some x → n < length g.outs
-    here n x f = let k = at_short found n x f in let s = pic.size in omega arith
-
-    full : (n : ℕ) (x : Spot) → slice_get found n ≡ Some x → Dies sub above bound x → at current n ≡ removal.moves_at g.outs n
-    full n x f dx = elim (cases_lt (at current n) (removal.moves_at g.outs n)) [
-      | inl lt ↦ absurd (dx (survives sub above bound found rows g current order d pic rem n x f lt))
-      | inr le ↦ (let w = rem.within n in omega arith)
-    ]
-
-    outs_row : (n : ℕ) (row : List ℕ) → slice_get rows n ≡ Some row → get_or g.outs n [] ≡ moves_of (get_or anys n false) row
-    outs_row n row er = b.done n (at_short rows n row er) ∙ ap (λ (z : List ℕ). moves_of (get_or anys n false) z) (got rows n row [] er)
-
--- no lost walk is shorter than the distance
-
-spot_named : (found : List Spot) (ns : List ℕ) (xs : List Spot) (i : ℕ) (y : Spot) → ArePlacesOf found ns xs → slice_get xs i ≡ Some y → (n : ℕ) × (slice_get ns i ≡ Some n) × (slice_get found n ≡ Some y)
+pub spot_named : {X : Type 0} (found : List X) (ns : List ℕ) (xs : List X) (i : ℕ) (y : X) → ArePlacesOf found ns xs → slice_get xs i ≡ Some y → (n : ℕ) × (slice_get ns i ≡ Some n) × (slice_get found n ≡ Some y)
 spot_named found [] [] i y h e = absurd (none-some y e)
 spot_named found [] (x ∷ xs) i y h e = absurd h
 spot_named found (m ∷ ns) [] i y h e = absurd h
@@ -100,88 +55,86 @@ row_of : (sub above : Machine_data) (bound : ℕ) (found : List Spot) (rows : Li
     → slice_get found n ≡ Some x → (row : List ℕ) × (slice_get rows n ≡ Some row)
 row_of sub above bound found rows d n x f = at_within rows n (let k = at_short found n x f in let s = d.all in omega arith)
 
-lost_far : (sub above : Machine_data) (bound : ℕ) (found : List Spot) (rows : List (List ℕ)) (far : List (Option ℕ)) → AreCharted sub above bound found rows far → (steps : List WalkStep_data) (n : ℕ) (x : Spot)
-    → slice_get found n ≡ Some x → IsLostWalk sub above bound x steps → IsNear far n (length steps)
-lost_far sub above bound found rows far c [] n x f l = (0, c.ends n x f l.ends, omega arith)
-lost_far sub above bound found rows far c (s ∷ later) n x f l =
-    let t = lost_tail sub above bound x s later l in
-    let row = row_of sub above bound found rows c.discovery n x f in
-    let k = spot_named found row.0 (nexts_within sub above bound x) s.place s.spot (c.discovery.names n x row.0 f row.1) t.0 in
-    let near = lost_far sub above bound found rows far c later k.0 s.spot k.2 t.1 in
-    let on = c.on n k.0 near.0 x row.0 f l.dies.0 row.1 (in_at row.0 s.place k.0 k.1) near.1 in
-    (on.0, on.1, (let a = near.2 in let b = on.2 in omega arith))
-
-pub one_far : (far : List (Option ℕ)) (n d e : ℕ) → far_at far n ≡ Some d → far_at far n ≡ Some e → d ≡ e
-one_far far n d e a b = same_Some d e (sym a ∙ b)
-
--- a step by the first place that goes nearer
-first_step : (sub above : Machine_data) (bound : ℕ) (found : List Spot) (rows : List (List ℕ)) (far : List (Option ℕ)) → AreCharted sub above bound found rows far → (n d place : ℕ) (x : Spot) (row : List ℕ)
-    → slice_get found n ≡ Some x → slice_get rows n ≡ Some row → far_at far n ≡ Some (suc d) → (a : IsFirstAt far row d place) → (q : Spot) → slice_get found a.number ≡ Some q
-    → LeadsBy sub above bound x place q → (rest : List WalkStep_data) → IsFirstWalk sub above bound q rest → length rest ≡ d → IsFirstWalk sub above bound x (step place q ∷ rest)
-first_step sub above bound found rows far c n d place x row f er h a q fq lead rest w size =
-    first_on sub above bound x place q rest (c.dies n (suc d) x f h) lead w near before
-  where
-    near : (others : List WalkStep_data) → IsLostWalk sub above bound x others → suc (length rest) ≤ length others
-    near others l = let k = lost_far sub above bound found rows far c others n x f l in let v = one_far far n k.0 (suc d) k.1 h in let z = k.2 in omega arith
-
-    before : (i : ℕ) (y : Spot) (others : List WalkStep_data) → i < place → LeadsBy sub above bound x i y → IsLostWalk sub above bound y others → length rest < length others
-    before i y others lt e l =
-        let k = spot_named found row (nexts_within sub above bound x) i y (c.discovery.names n x row f er) e in
-        let m = lost_far sub above bound found rows far c others k.0 y k.2 l in
-        let on = c.on n k.0 m.0 x row f (c.dies n (suc d) x f h) er (in_at row i k.0 k.1) m.1 in
-        let v = one_far far n on.0 (suc d) on.1 h in
-        elim (cases_lt d m.0) [
-          | inl less ↦ (let z = m.2 in omega arith)
-          | inr le ↦ (let u = on.2 in let same : m.0 ≡ d = omega arith in absurd (a.before i k.0 lt k.1 (m.1 ∙ ap Some same)))
-        ]
-
-end_on : (p : Spot) (steps : List WalkStep_data) (s : WalkStep_data) → end_of p (steps ++ s ∷ []) ≡ s.spot
-end_on p [] s = refl
-end_on p (o ∷ steps) s = end_on o.spot steps s
-
--- the way goes on
-pub way_on : (sub above : Machine_data) (bound : ℕ) (found : List Spot) (rows : List (List ℕ)) (far : List (Option ℕ)) (steps steps' : List WalkStep_data) (n d place m : ℕ) (row : List ℕ) (q : Spot)
-    → AreCharted sub above bound found rows far → IsOnWay sub above bound found far steps n (suc d) → slice_get rows n ≡ Some row → IsFirstAt far row d place → slice_get row place ≡ Some m
-    → slice_get found m ≡ Some q → steps' ≡ steps ++ step place q ∷ [] → IsOnWay sub above bound found far steps' m d
-way_on sub above bound found rows far steps steps' n d place m row q c w er a em fq e = rw e record {
-  spot = q;
-  stands = fq;
-  far_is = ap (λ (z : ℕ). far_at far z) (sym number) ∙ a.far_is;
-  ends = end_on (start_spot sub above) steps (step place q);
-  on = λ rest f size. subst (λ (z : List WalkStep_data). IsFirstWalk sub above bound (start_spot sub above) z) (sym (append_assoc steps (step place q ∷ []) rest))
-      (w.on (step place q ∷ rest) (first_step sub above bound found rows far c n d place w.spot row w.stands er w.far_is a q fq' lead rest f size) (ap suc size));
+pub charted : (sub above : Machine_data) (bound : ℕ) (Ends : Spot → Type 0) (found : List Spot) (rows : List (List ℕ)) (anys gone ends : List Bool) (g : Graph_data) (far : List (Option ℕ))
+    → IsDiscovery (nexts_within sub above bound) (start_spot sub above) found rows → IsBuilt anys rows (length rows) g
+    → AreFlagged (Dies sub above bound) found gone → AreFlagged Ends found ends → AreDistances g.outs gone ends far
+    → AreCharted (LostStep sub above bound) Ends found (λ n. 0) rows far
+charted sub above bound Ends found rows anys gone ends g far d b fg fe dist = record {
+  downhill = record {
+    rows_size = d.all;
+    size = dist.steps.size ∙ b.size ∙ d.all;
+    within = λ n r m. (let k = rows_within (nexts_within sub above bound) (start_spot sub above) found rows d n r m in let a = d.all in omega arith);
+    tight = λ n e h. (let t = dist.steps.tight n e h in
+        (t.1, row_from (get_or anys n false) (get_or rows n []) t.0 t.1 (subst (λ (z : List (List ℕ)). Among (get_or z t.0 []) t.1) (outs_row n (inside n (suc e) h)) t.2), t.3));
+  };
+  goes = λ n i r e x y f h a fy. (
+      let row = row_of sub above bound found rows d n x f in
+      let a' : slice_get row.0 i ≡ Some r = subst (λ (z : List ℕ). slice_get z i ≡ Some r) (got rows n row.0 [] row.1) a in
+      let k = place_named found row.0 (nexts_within sub above bound x) i r (d.names n x row.0 f row.1) a' in
+      let at : 0 + i ≡ i = omega arith in
+      (fg.yes n x f (dist.steps.lie n e h), subst (λ (z : ℕ). LeadsBy sub above bound x z y) (sym at) (k.1 ∙ sym k.2 ∙ fy)));
+  named = λ n place x y f s. (
+      let row = row_of sub above bound found rows d n x f in
+      let k = spot_named found row.0 (nexts_within sub above bound x) place y (d.names n x row.0 f row.1) s.1 in
+      (place, k.0, omega arith, subst (λ (z : List ℕ). slice_get z place ≡ Some k.0) (sym (got rows n row.0 [] row.1)) k.1, k.2));
+  ends = λ n x f e. dist.steps.begin n (fe.all n x f e);
+  only = λ n x f h. fe.yes n x f (dist.steps.only n h);
+  on = λ n place i r e x y f s a h. (
+      let lt = at_short found n x f in let q = d.all in
+      let m = row_to (get_or anys n false) (get_or rows n []) r (in_at (get_or rows n []) i r a) in
+      dist.told r n m.0 e (fg.all n x f s.0) (subst (λ (z : List (List ℕ)). Among (get_or z m.0 []) r) (sym (outs_row n (omega arith))) m.1) h);
 }
   where
-    number : a.number ≡ m
-    number = same_Some a.number m (sym a.stands ∙ em)
+    inside : (n e : ℕ) → far_at far n ≡ Some e → n < length rows
+    inside n e h = let k = flag_within gone n (dist.steps.lie n e h) in let s = fg.size in let a = d.all in omega arith
 
-    fq' : slice_get found a.number ≡ Some q
-    fq' = ap (λ (z : ℕ). slice_get found z) number ∙ fq
+    outs_row : (n : ℕ) → n < length rows → get_or g.outs n [] ≡ moves_of (get_or anys n false) (get_or rows n [])
+    outs_row n lt = b.done n lt
 
-    lead : LeadsBy sub above bound w.spot place q
-    lead =
-        let k = place_named found row (nexts_within sub above bound w.spot) place m (c.discovery.names n w.spot row w.stands er) em in
-        k.1 ∙ sym k.2 ∙ fq
+-- the graph has few edges
 
-pub way_begins : (sub above : Machine_data) (bound : ℕ) (found : List Spot) (rows : List (List ℕ)) (far : List (Option ℕ)) (d : ℕ) → AreCharted sub above bound found rows far → far_at far 0 ≡ Some d
-    → IsOnWay sub above bound found far [] 0 d
-way_begins sub above bound found rows far d c h = record { spot = start_spot sub above; stands = c.discovery.first; far_is = h; ends = refl; on = λ rest f size. f }
+results_few : (any : Bool) (row : List ℕ) → sum_by (λ (results : List ℕ). length results) (moves_of any row) ≤ length row
+results_few true [] = omega arith
+results_few true (n ∷ row) =
+    let a = sum_by-cons (λ (results : List ℕ). length results) (n ∷ []) (moves_of true row) in let b = results_few true row in omega arith
+results_few false row = let a = sum_by-cons (λ (results : List ℕ). length results) row [] in omega arith
 
-pub way_ends : (sub above : Machine_data) (bound : ℕ) (found : List Spot) (rows : List (List ℕ)) (far : List (Option ℕ)) (steps : List WalkStep_data) (n d : ℕ) → AreCharted sub above bound found rows far
-    → IsOnWay sub above bound found far steps n d → d ≤ 0 → IsWholeWay sub above bound found steps n
-way_ends sub above bound found rows far steps n d c w le =
-    let z : d ≡ 0 = omega arith in
+pub edges_within : (rows : List (List ℕ)) (anys : List Bool) (g : Graph_data) → IsBuilt anys rows (length rows) g → ((n : ℕ) → length (get_or rows n []) ≤ 65537) → edges_in g.outs ≤ 65537 * length g.outs
+edges_within rows anys g b short = edges_few g.outs few
+  where
+    few : (n : ℕ) → sum_by (λ (results : List ℕ). length results) (get_or g.outs n []) ≤ 65537
+    few n = elim (cases_lt n (length rows)) [
+      | inl lt ↦ (let k = results_few (get_or anys n false) (get_or rows n []) in let s = short n in rw (b.done n lt) (omega arith))
+      | inr le ↦ rw (b.free n le) (omega arith)
+    ]
+
+-- the graph of the candidates has few edges
+pub candidate_edges : (sub above : Machine_data) (bound : ℕ) (found : Candidates) (g : Graph_data) (gone : List Bool) → AreFoundCandidates sub above bound found → IsLostGraph sub above bound found g gone
+    → length found.table.spots ≤ 65536 → edges_in g.outs < 18446744073709551616
+candidate_edges sub above bound found g gone f l few =
+    let e = edges_within found.table.rows found.anys.items g l.built (λ n. let k : length (get_or found.table.rows n []) ≤ 65536 = f.noted.short n in omega arith) in
+    let s = l.built.size in let d = f.discovery.all in omega arith
+
+-- steps that go nearer
+
+-- such steps make a whole way
+pub whole_way : (sub above : Machine_data) (bound : ℕ) (Ends : Spot → Type 0) → AreDead sub above bound Ends → (found : List Spot) (rows : List (List ℕ)) (far : List (Option ℕ))
+    → AreCharted (LostStep sub above bound) Ends found (λ n. 0) rows far → slice_get found 0 ≡ Some (start_spot sub above) → (steps : List WalkStep_data) (last : ℕ)
+    → GoNearer found (λ n. 0) rows far 0 steps last → IsWholeWay sub above bound Ends found steps last
+whole_way sub above bound Ends dead found rows far c f steps last g =
+    let k = nearest (nexts_within sub above bound) (LostStep sub above bound) Ends (lost_by sub above bound) found (λ n. 0) rows far c steps 0 last (start_spot sub above) f g in
     record {
-      first = subst (λ (y : List WalkStep_data). IsFirstWalk sub above bound (start_spot sub above) y) (append-nil steps)
-          (w.on [] (first_here sub above bound w.spot (c.only n w.spot w.stands (w.far_is ∙ ap Some z))) (sym z));
-      stands = w.stands ∙ ap Some (sym w.ends);
+      first = first_same (IsWay (LostStep sub above bound) Ends (start_spot sub above)) (IsLostWalk sub above bound Ends (start_spot sub above))
+          (way_lost sub above bound Ends dead (start_spot sub above)) (lost_way sub above bound Ends (start_spot sub above)) steps k.first;
+      stands = k.stands;
     }
 
 -- the start has a distance
-pub start_far : (sub above : Machine_data) (bound : ℕ) (found : List Spot) (rows : List (List ℕ)) (far : List (Option ℕ)) → AreCharted sub above bound found rows far → (steps : List WalkStep_data)
-    → IsFirstWalk sub above bound (start_spot sub above) steps → (d : ℕ) × (far_at far 0 ≡ Some d)
-start_far sub above bound found rows far c steps w =
-    let k = lost_far sub above bound found rows far c steps 0 (start_spot sub above) c.discovery.first w.lost in (k.0, k.1)
+pub start_far : (sub above : Machine_data) (bound : ℕ) (Ends : Spot → Type 0) (found : List Spot) (rows : List (List ℕ)) (far : List (Option ℕ))
+    → AreCharted (LostStep sub above bound) Ends found (λ n. 0) rows far → slice_get found 0 ≡ Some (start_spot sub above) → (steps : List WalkStep_data)
+    → IsFirst (IsLostWalk sub above bound Ends (start_spot sub above)) steps → (d : ℕ) × (far_at far 0 ≡ Some d)
+start_far sub above bound Ends found rows far c f steps w =
+    let k = way_far (LostStep sub above bound) Ends found (λ n. 0) rows far c steps 0 (start_spot sub above) f (lost_way sub above bound Ends (start_spot sub above) steps w.is) in (k.0, k.1)
 
 -- why it ends
 
@@ -210,18 +163,18 @@ pub record EndSpot (sub above : Machine_data) (bound : ℕ) (steps : List WalkSt
   pub candidate : IsCandidate sub above bound p
   pub dead : IsDeadEnd sub above bound p
 
-pub end_spot : (sub above : Machine_data) (bound : ℕ) (found : List Spot) (steps : List WalkStep_data) (n : ℕ) (p : Spot) → IsWholeWay sub above bound found steps n → slice_get found n ≡ Some p
+pub end_spot : (sub above : Machine_data) (bound : ℕ) (found : List Spot) (steps : List WalkStep_data) (n : ℕ) (p : Spot) → IsWholeWay sub above bound (IsDeadEnd sub above bound) found steps n → slice_get found n ≡ Some p
     → EndSpot sub above bound steps p
 end_spot sub above bound found steps n p w e =
     let same : p ≡ end_of (start_spot sub above) steps = same_Some p (end_of (start_spot sub above) steps) (sym e ∙ w.stands) in
     record {
       same = same;
-      candidate = subst (λ (z : Spot). IsCandidate sub above bound z) (sym same) (end_candidate sub above bound (start_spot sub above) steps Start w.first.lost.walk);
-      dead = subst (λ (z : Spot). IsDeadEnd sub above bound z) (sym same) w.first.lost.ends;
+      candidate = subst (λ (z : Spot). IsCandidate sub above bound z) (sym same) (end_candidate sub above bound (start_spot sub above) steps Start w.first.is.walk);
+      dead = subst (λ (z : Spot). IsDeadEnd sub above bound z) (sym same) w.first.is.ends;
     }
 
 pub whole_explains : (sub above : Machine_data) (bound : ℕ) (found : List Spot) (steps : List WalkStep_data) (n : ℕ) (p : Spot) (e : Ending) → IsProper sub → IsProper above
-    → IsWholeWay sub above bound found steps n → slice_get found n ≡ Some p → e ≡ ending_at sub above p → IsExplanation sub above bound (record { steps = steps; ending = e })
+    → IsWholeWay sub above bound (IsDeadEnd sub above bound) found steps n → slice_get found n ≡ Some p → e ≡ ending_at sub above p → IsExplanation sub above bound (record { steps = steps; ending = e })
 whole_explains sub above bound found steps n p e ws wa w g ee =
     let k = end_spot sub above bound found steps n p w g in
     let by : EndsBy sub above bound p e = subst (λ (z : Ending). EndsBy sub above bound p z) (sym ee) (ends_at sub above bound p ws wa k.candidate k.dead) in
@@ -234,24 +187,24 @@ at_place [] i lt = let bad : ⊥ = omega arith in absurd bad
 at_place (x ∷ xs) zero lt = refl
 at_place (x ∷ xs) (suc i) lt = at_place xs i (omega arith)
 
-pub row_short : (sub above : Machine_data) (bound : ℕ) (found : List Spot) (rows : List (List ℕ)) (far : List (Option ℕ)) → AreCharted sub above bound found rows far → (n r : ℕ) (row : List ℕ)
-    → slice_get rows n ≡ Some row → Among row r → (r < length found) × (r < length far)
-row_short sub above bound found rows far c n r row e m =
-    let k = rows_within (nexts_within sub above bound) (start_spot sub above) found rows c.discovery n r (subst (λ (z : List ℕ). Among z r) (sym (got rows n row [] e)) m) in
-    let a = c.discovery.all in let b = c.size in (omega arith, omega arith)
-
-pub tight_at : (sub above : Machine_data) (bound : ℕ) (found : List Spot) (rows : List (List ℕ)) (far : List (Option ℕ)) (steps : List WalkStep_data) → AreCharted sub above bound found rows far
-    → (n left : ℕ) (row : List ℕ) → IsOnWay sub above bound found far steps n left → 0 < left → slice_get rows n ≡ Some row → (r : ℕ) × Among row r × (far_at far r ≡ Some (left - 1))
-tight_at sub above bound found rows far steps c n left row w lt e =
-    let s : left ≡ suc (left - 1) = omega arith in c.tight n (left - 1) row e (w.far_is ∙ ap Some s)
-
-pub way_on_left : (sub above : Machine_data) (bound : ℕ) (found : List Spot) (rows : List (List ℕ)) (far : List (Option ℕ)) (steps steps' : List WalkStep_data) (n left place m : ℕ) (row : List ℕ) (q : Spot)
-    → AreCharted sub above bound found rows far → IsOnWay sub above bound found far steps n left → 0 < left → slice_get rows n ≡ Some row → IsFirstAt far row (left - 1) place → slice_get row place ≡ Some m
-    → slice_get found m ≡ Some q → steps' ≡ steps ++ step place q ∷ [] → IsOnWay sub above bound found far steps' m (left - 1)
-way_on_left sub above bound found rows far steps steps' n left place m row q c w lt er a em fq e =
-    let s : left ≡ suc (left - 1) = omega arith in
-    way_on sub above bound found rows far steps steps' n (left - 1) place m row q c (subst (λ (z : ℕ). IsOnWay sub above bound found far steps n z) s w) er a em fq e
-
 pub few_places : (rows : List (List ℕ)) (n place most : ℕ) (row : List ℕ) → slice_get rows n ≡ Some row → length (get_or rows n []) ≤ most → place < length row → place < most
 few_places rows n place most row e le lt =
     let k : length (get_or rows n []) ≡ length row = ap (λ (z : List ℕ). length z) (got rows n row [] e) in omega arith
+
+-- the chart of what the code has in hand
+
+pub ends_within : (sub above : Machine_data) (bound : ℕ) (Ends : Spot → Type 0) → AreDead sub above bound Ends → (spots : List Spot) (gone gone' ends ends' : List Bool)
+    → AreFlagged (Dies sub above bound) spots gone → AreFlagged Ends spots ends → gone' ≡ gone → ends' ≡ ends → (n : ℕ) → flag_at ends' n ≡ true → flag_at gone' n ≡ true
+ends_within sub above bound Ends dead spots gone gone' ends ends' fg fe eg ee n h =
+    let h' : flag_at ends n ≡ true = subst (λ (z : List Bool). flag_at z n ≡ true) ee h in
+    let x = at_within spots n (let k = flag_within ends n h' in let s = fe.size in omega arith) in
+    subst (λ (z : List Bool). flag_at z n ≡ true) (sym eg) (fg.all n x.0 x.1 (dead_dies sub above bound x.0 (dead x.0 (fe.yes n x.0 x.1 h'))))
+
+pub chart_of : (sub above : Machine_data) (bound : ℕ) (Ends : Spot → Type 0) (found : Candidates) (g : Graph_data) (gone gone' ends ends' : List Bool) (far far' : List (Option ℕ))
+    → AreFoundCandidates sub above bound found → IsLostGraph sub above bound found g gone → AreFlagged Ends found.table.spots ends → gone' ≡ gone → ends' ≡ ends → far' ≡ far
+    → AreDistances g.outs gone' ends' far → AreCharted (LostStep sub above bound) Ends found.table.spots (λ n. 0) found.table.rows far'
+chart_of sub above bound Ends found g gone gone' ends ends' far far' f l fe eg ee ef d =
+    let d1 : AreDistances g.outs gone ends' far = subst (λ (z : List Bool). AreDistances g.outs z ends' far) eg d in
+    let d2 : AreDistances g.outs gone ends far = subst (λ (z : List Bool). AreDistances g.outs gone z far) ee d1 in
+    let d3 : AreDistances g.outs gone ends far' = subst (λ (z : List (Option ℕ)). AreDistances g.outs gone ends z) (sym ef) d2 in
+    charted sub above bound Ends found.table.spots found.table.rows found.anys.items gone ends g far' f.discovery l.built l.dead fe d3

@@ -1,23 +1,25 @@
--- Distances spread from the nodes without moves along the edges, node by node.
-use Rattle.std.proofs.Common.{◌≡◌, ◌⊎◌, inl, inr, ℕ, ◌<◌, ◌≤◌, ◌+◌, suc, List, [], ◌∷◌, ◌++◌, length, set, get_or, replicate, slice_get, Option, Some, None, refl, sym, ap, subst, ◌∙◌, arith}
-use Rattle.std.proofs.lemmas.Bool.{cases_lt}
+-- Distances spread from the ends along the edges, node by node.
+use Rattle.std.proofs.Common.{◌≡◌, ◌⊎◌, inl, inr, ℕ, ◌<◌, ◌≤◌, ◌+◌, ◌*◌, zero, suc, Bool, true, false, List, [], ◌∷◌, ◌++◌, length, set, get_or, replicate, slice_get, Option, Some, None, refl, sym, ap, subst, ◌∙◌, arith}
+use Rattle.std.proofs.lemmas.Bool.{cases_lt, false≢true}
 use Rattle.std.proofs.lemmas.List.{get_or-set_same, get_or-set_other, get_or_default, get_or_past, get_or-replicate, length-replicate, length-set}
+use Rattle.std.proofs.lemmas.List.Sums.{sum_by-cons}
 use Rattle.std.proofs.lemmas.Option.{none-some, same_Some}
+use Rattle.std.specs.List.{sum_by}
 use Rattle.rs_graph.proofs.Growth.{at_in, at_short, at_within, has_last, has_left, no_more, push_at, push_is, push_once}
 use Rattle.rs_graph.proofs.Removed.{upto, upto_has, upto_length}
 use Rattle.rs_graph.specs.Graphs.{pair_of}
 use Rattle.rs_graph.specs.Lists.{Among}
-use Rattle.rs_graph.specs.Removal.{IsInto, Leads, at, moves_at}
+use Rattle.rs_graph.specs.Removal.{IsInto, Leads, edges_in}
 use Rattle.rs_graph.specs.declared.graph.Move.{Move}
 use Rattle.rs_search.proofs.Discovering.{same_number}
-use Rattle.rs_explain.specs.Distances.{AreDistances, AreEnds, AreQueued, AreSpread, AreSteps, IsGone, IsNear, IsBegun, IsNoted, Begins, Known, New, Passes, Stays, far_at}
+use Rattle.rs_explain.specs.Distances.{AreDistances, AreEnds, AreQueued, AreSpread, AreSteps, IsNear, IsBegun, IsNoted, Begins, Known, New, Outside, Passes, far_at, flag_at}
 
 -- in between: of the moves that lead to the next node the first so many were told
-pub record AreSpreading (outs : List (List (List ℕ))) (current : List ℕ) (far : List (Option ℕ)) (queue : List ℕ) (count node distance : ℕ) (into : List Move) (nth : ℕ) : Type 0 where
-  pub spread : AreSpread outs current far queue count
+pub record AreSpreading (outs : List (List (List ℕ))) (inside ends : List Bool) (far : List (Option ℕ)) (queue : List ℕ) (count node distance : ℕ) (into : List Move) (nth : ℕ) : Type 0 where
+  pub spread : AreSpread outs inside ends far queue count
   pub next : slice_get queue count ≡ Some node
   pub distance_is : far_at far node ≡ Some distance
-  pub part : (k : ℕ) (m : Move) → k < nth → slice_get into k ≡ Some m → IsGone outs current m.node → IsNear far m.node (suc distance)
+  pub part : (k : ℕ) (m : Move) → k < nth → slice_get into k ≡ Some m → flag_at inside m.node ≡ true → IsNear far m.node (suc distance)
 
 -- one distance more
 
@@ -39,7 +41,7 @@ far_was far n d m e lt h = elim (same_number n m) [
 one_far : (far : List (Option ℕ)) (n d e : ℕ) → far_at far n ≡ Some d → far_at far n ≡ Some e → d ≡ e
 one_far far n d e a b = same_Some d e (sym a ∙ b)
 
-far_within : (far : List (Option ℕ)) (n d : ℕ) → far_at far n ≡ Some d → n < length far
+pub far_within : (far : List (Option ℕ)) (n d : ℕ) → far_at far n ≡ Some d → n < length far
 far_within far n d h = elim (cases_lt n (length far)) [
   | inl a ↦ a
   | inr a ↦ absurd (none-some d (sym (get_or_past far n None a) ∙ h))
@@ -48,27 +50,40 @@ far_within far n d h = elim (cases_lt n (length far)) [
 near_kept : (far : List (Option ℕ)) (n d m most : ℕ) → far_at far n ≡ None → IsNear far m most → IsNear (set far n (Some d)) m most
 near_kept far n d m most none h = (h.0, far_kept far n d m h.0 none h.1, h.2)
 
+pub leads_source : (outs : List (List (List ℕ))) (n p r : ℕ) → Leads outs n p r → n < length outs
+leads_source outs n p r h = elim (cases_lt n (length outs)) [
+  | inl a ↦ a
+  | inr a ↦ (let e = get_or_past outs n [] a in let q : get_or {A = List ℕ} [] p [] ≡ [] = get_or_past [] p [] (omega arith) in
+      let bad : Among [] r = subst (λ (z : List ℕ). Among z r) (ap (λ (z : List (List ℕ)). get_or z p []) e ∙ q) h in absurd bad)
+]
+
+pub flag_within : (flags : List Bool) (n : ℕ) → flag_at flags n ≡ true → n < length flags
+flag_within flags n h = elim (cases_lt n (length flags)) [
+  | inl a ↦ a
+  | inr a ↦ absurd (false≢true (sym (get_or_past flags n false a) ∙ h))
+]
+
 -- a node is noted
 
 -- of a queue whose new node has the distance
-record Noting (outs : List (List (List ℕ))) (current : List ℕ) (far : List (Option ℕ)) (queue : List ℕ) (count node distance n place : ℕ) : Type 0 where
-  pub spread : AreSpread outs current far queue count
+record Noting (outs : List (List (List ℕ))) (inside ends : List Bool) (far : List (Option ℕ)) (queue : List ℕ) (count node distance n place : ℕ) : Type 0 where
+  pub spread : AreSpread outs inside ends far queue count
   pub next : slice_get queue count ≡ Some node
   pub distance_is : far_at far node ≡ Some distance
-  pub gone : IsGone outs current n
+  pub inside_is : flag_at inside n ≡ true
   pub leads : Leads outs n place node
   pub none : far_at far n ≡ None
 
-within_far : (outs : List (List (List ℕ))) (current : List ℕ) (far : List (Option ℕ)) (queue : List ℕ) (count node distance n place : ℕ) → Noting outs current far queue count node distance n place
+within_far : (outs : List (List (List ℕ))) (inside ends : List Bool) (far : List (Option ℕ)) (queue : List ℕ) (count node distance n place : ℕ) → Noting outs inside ends far queue count node distance n place
     → n < length far
-within_far outs current far queue count node distance n place h = let a = h.gone.0 in let b = h.spread.steps.size in omega arith
+within_far outs inside ends far queue count node distance n place h = let a = leads_source outs n place node h.leads in let b = h.spread.steps.size in omega arith
 
-noted_steps : (outs : List (List (List ℕ))) (current : List ℕ) (far : List (Option ℕ)) (queue : List ℕ) (count node distance n place : ℕ) → Noting outs current far queue count node distance n place
-    → AreSteps outs current (set far n (Some (distance + 1)))
-noted_steps outs current far queue count node distance n place h = record {
+noted_steps : (outs : List (List (List ℕ))) (inside ends : List Bool) (far : List (Option ℕ)) (queue : List ℕ) (count node distance n place : ℕ) → Noting outs inside ends far queue count node distance n place
+    → AreSteps outs inside ends (set far n (Some (distance + 1)))
+noted_steps outs inside ends far queue count node distance n place h = record {
   size = length-set far n (Some (distance + 1)) ∙ s.size;
-  gone = λ m d e. elim (far_was far n (distance + 1) m d lt e) [ inl q ↦ subst (λ (z : ℕ). IsGone outs current z) q.0 h.gone | inr o ↦ s.gone m d o ];
-  ends = λ m w z. far_kept far n (distance + 1) m 0 h.none (s.ends m w z);
+  lie = λ m d e. elim (far_was far n (distance + 1) m d lt e) [ inl q ↦ subst (λ (z : ℕ). flag_at inside z ≡ true) q.0 h.inside_is | inr o ↦ s.lie m d o ];
+  begin = λ m w. far_kept far n (distance + 1) m 0 h.none (s.begin m w);
   only = λ m e. elim (far_was far n (distance + 1) m 0 lt e) [ inl q ↦ (let k = q.1 in let bad : ⊥ = omega arith in absurd bad) | inr o ↦ s.only m o ];
   tight = λ m d e. elim (far_was far n (distance + 1) m (suc d) lt e) [
     | inl q ↦ (let k : distance ≡ d = (let z = q.1 in omega arith) in
@@ -77,19 +92,19 @@ noted_steps outs current far queue count node distance n place h = record {
   ];
 }
   where
-    s : AreSteps outs current far
+    s : AreSteps outs inside ends far
     s = h.spread.steps
 
     lt : n < length far
-    lt = within_far outs current far queue count node distance n place h
+    lt = within_far outs inside ends far queue count node distance n place h
 
-noted_queue : (outs : List (List (List ℕ))) (current : List ℕ) (far : List (Option ℕ)) (queue : List ℕ) (count node distance n place : ℕ) → Noting outs current far queue count node distance n place
+noted_queue : (outs : List (List (List ℕ))) (inside ends : List Bool) (far : List (Option ℕ)) (queue : List ℕ) (count node distance n place : ℕ) → Noting outs inside ends far queue count node distance n place
     → AreQueued (set far n (Some (distance + 1))) (queue ++ n ∷ [])
-noted_queue outs current far queue count node distance n place h = record {
+noted_queue outs inside ends far queue count node distance n place h = record {
   once = push_once queue n q.once (λ m. let i = at_in queue n m in let k = q.known i.0 n i.1 in none-some k.0 (sym h.none ∙ k.1));
   within = λ i m e. (let l = length-set far n (Some (distance + 1)) in elim (push_is queue n i m e) [
     | inl o ↦ (let w = q.within i m o in omega arith)
-    | inr x ↦ (let y = x.1 in omega arith)
+    | inr x ↦ (let y = x.1 in let w = lt in omega arith)
   ]);
   known = λ i m e. elim (push_is queue n i m e) [
     | inl o ↦ (let k = q.known i m o in (k.0, far_kept far n (distance + 1) m k.0 h.none k.1, k.2))
@@ -118,7 +133,7 @@ noted_queue outs current far queue count node distance n place h = record {
     q = h.spread.queued
 
     lt : n < length far
-    lt = within_far outs current far queue count node distance n place h
+    lt = within_far outs inside ends far queue count node distance n place h
 
     low : distance + 1 ≤ length queue
     low = let k = q.known count node h.next in let v = one_far far node k.0 distance k.1 h.distance_is in let w = at_short queue count node h.next in let z = k.2 in omega arith
@@ -128,11 +143,11 @@ noted_queue outs current far queue count node distance n place h = record {
         let k = q.known i m o in
         let v = one_far (set far n (Some (distance + 1))) m k.0 d (far_kept far n (distance + 1) m k.0 h.none k.1) e in k.1 ∙ ap Some v
 
-noted_spread : (outs : List (List (List ℕ))) (current : List ℕ) (far : List (Option ℕ)) (queue : List ℕ) (count node distance n place : ℕ) → Noting outs current far queue count node distance n place
-    → AreSpread outs current (set far n (Some (distance + 1))) (queue ++ n ∷ []) count
-noted_spread outs current far queue count node distance n place h = record {
-  steps = noted_steps outs current far queue count node distance n place h;
-  queued = noted_queue outs current far queue count node distance n place h;
+noted_spread : (outs : List (List (List ℕ))) (inside ends : List Bool) (far : List (Option ℕ)) (queue : List ℕ) (count node distance n place : ℕ) → Noting outs inside ends far queue count node distance n place
+    → AreSpread outs inside ends (set far n (Some (distance + 1))) (queue ++ n ∷ []) count
+noted_spread outs inside ends far queue count node distance n place h = record {
+  steps = noted_steps outs inside ends far queue count node distance n place h;
+  queued = noted_queue outs inside ends far queue count node distance n place h;
   told = λ i r small e m p d g le y. elim (push_is queue n i r e) [
     | inr new ↦ (let w = at_short queue count node h.next in let z = new.0 in let bad : ⊥ = omega arith in absurd bad)
     | inl o ↦ (let k = h.spread.queued.known i r o in
@@ -143,71 +158,71 @@ noted_spread outs current far queue count node distance n place h = record {
       let same : node ≡ m = same_Some node m (sym (push_at queue n count node h.next) ∙ a) in
       let v = one_far (set far n (Some (distance + 1))) m distance d
       (subst (λ (z : ℕ). far_at (set far n (Some (distance + 1))) z ≡ Some distance) same (far_kept far n (distance + 1) node distance h.none h.distance_is)) x in
-      elim (far_was far n (distance + 1) o e (within_far outs current far queue count node distance n place h) y) [
+      elim (far_was far n (distance + 1) o e (within_far outs inside ends far queue count node distance n place h) y) [
         | inl z ↦ (let w = z.1 in omega arith)
         | inr old ↦ (let w = h.spread.near node o distance e h.next h.distance_is old in omega arith)
       ]);
 }
 
 -- one move more that leads to the next node
-pub note_on : (outs : List (List (List ℕ))) (current : List ℕ) (far : List (Option ℕ)) (queue : List ℕ) (far' : List (Option ℕ)) (queue' : List ℕ) (count node distance : ℕ) (into : List Move) (nth : ℕ) (m : Move)
-    → AreSpreading outs current far queue count node distance into nth → slice_get into nth ≡ Some m → m.node < length outs → Leads outs m.node m.place node
-    → IsNoted outs current m.node (distance + 1) far queue far' queue' → AreSpreading outs current far' queue' count node distance into (nth + 1)
-note_on outs current far queue far' queue' count node distance into nth m s e w le (Stays out ef eq) = rw (ef, eq) record {
+pub note_on : (outs : List (List (List ℕ))) (inside ends : List Bool) (far : List (Option ℕ)) (queue : List ℕ) (far' : List (Option ℕ)) (queue' : List ℕ) (count node distance : ℕ) (into : List Move) (nth : ℕ) (m : Move)
+    → AreSpreading outs inside ends far queue count node distance into nth → slice_get into nth ≡ Some m → m.node < length outs → Leads outs m.node m.place node
+    → IsNoted inside m.node (distance + 1) far queue far' queue' → AreSpreading outs inside ends far' queue' count node distance into (nth + 1)
+note_on outs inside ends far queue far' queue' count node distance into nth m s e w le (Outside out ef eq) = rw (ef, eq) record {
   spread = s.spread;
   next = s.next;
   distance_is = s.distance_is;
-  part = λ k x lt g gone. elim (cases_lt k nth) [
-    | inl a ↦ s.part k x a g gone
+  part = λ k x lt g lies. elim (cases_lt k nth) [
+    | inl a ↦ s.part k x a g lies
     | inr a ↦ (let same : k ≡ nth = omega arith in let same_m : m ≡ x = same_Some m x (sym e ∙ ap (λ (z : ℕ). slice_get into z) (sym same) ∙ g) in
-        absurd (out (subst (λ (z : Move). at current z.node ≡ moves_at outs z.node) (sym same_m) gone.1)))
+        absurd (false≢true (sym out ∙ subst (λ (z : Move). flag_at inside z.node ≡ true) (sym same_m) lies)))
   ];
 }
-note_on outs current far queue far' queue' count node distance into nth m s e w le (Known d known ef eq) = rw (ef, eq) record {
+note_on outs inside ends far queue far' queue' count node distance into nth m s e w le (Known d known ef eq) = rw (ef, eq) record {
   spread = s.spread;
   next = s.next;
   distance_is = s.distance_is;
-  part = λ k x lt g gone. elim (cases_lt k nth) [
-    | inl a ↦ s.part k x a g gone
+  part = λ k x lt g lies. elim (cases_lt k nth) [
+    | inl a ↦ s.part k x a g lies
     | inr a ↦ (let same : k ≡ nth = omega arith in let same_m : m ≡ x = same_Some m x (sym e ∙ ap (λ (z : ℕ). slice_get into z) (sym same) ∙ g) in
         subst (λ (z : Move). IsNear far z.node (suc distance)) same_m (d, known, s.spread.near node m.node distance d s.next s.distance_is known))
   ];
 }
-note_on outs current far queue far' queue' count node distance into nth m s e w le (New gone none ef eq) = rw (ef, eq) record {
-  spread = noted_spread outs current far queue count node distance m.node m.place h;
+note_on outs inside ends far queue far' queue' count node distance into nth m s e w le (New lies none ef eq) = rw (ef, eq) record {
+  spread = noted_spread outs inside ends far queue count node distance m.node m.place h;
   next = push_at queue m.node count node s.next;
   distance_is = far_kept far m.node (distance + 1) node distance none s.distance_is;
   part = λ k x lt g out. elim (cases_lt k nth) [
     | inl a ↦ near_kept far m.node (distance + 1) x.node (suc distance) none (s.part k x a g out)
     | inr a ↦ (let same : k ≡ nth = omega arith in let same_m : m ≡ x = same_Some m x (sym e ∙ ap (λ (z : ℕ). slice_get into z) (sym same) ∙ g) in
         subst (λ (z : Move). IsNear (set far m.node (Some (distance + 1))) z.node (suc distance)) same_m
-        (distance + 1, far_same far m.node (distance + 1) (within_far outs current far queue count node distance m.node m.place h), omega arith))
+        (distance + 1, far_same far m.node (distance + 1) (within_far outs inside ends far queue count node distance m.node m.place h), omega arith))
   ];
 }
   where
-    h : Noting outs current far queue count node distance m.node m.place
-    h = record { spread = s.spread; next = s.next; distance_is = s.distance_is; gone = (w, gone); leads = le; none = none }
+    h : Noting outs inside ends far queue count node distance m.node m.place
+    h = record { spread = s.spread; next = s.next; distance_is = s.distance_is; inside_is = lies; leads = le; none = none }
 
 -- the next node is told
 
-pub tell_begins : (outs : List (List (List ℕ))) (current : List ℕ) (far : List (Option ℕ)) (queue : List ℕ) (count node distance : ℕ) (into : List Move) → AreSpread outs current far queue count
-    → slice_get queue count ≡ Some node → far_at far node ≡ Some distance → AreSpreading outs current far queue count node distance into 0
-tell_begins outs current far queue count node distance into s e d = record { spread = s; next = e; distance_is = d; part = λ k m lt g gone. (let bad : ⊥ = omega arith in absurd bad) }
+pub tell_begins : (outs : List (List (List ℕ))) (inside ends : List Bool) (far : List (Option ℕ)) (queue : List ℕ) (count node distance : ℕ) (into : List Move) → AreSpread outs inside ends far queue count
+    → slice_get queue count ≡ Some node → far_at far node ≡ Some distance → AreSpreading outs inside ends far queue count node distance into 0
+tell_begins outs inside ends far queue count node distance into s e d = record { spread = s; next = e; distance_is = d; part = λ k m lt g lies. (let bad : ⊥ = omega arith in absurd bad) }
 
-pub tell_ends : (outs : List (List (List ℕ))) (intos : List (List Move)) (current : List ℕ) (far : List (Option ℕ)) (queue : List ℕ) (count node distance nth : ℕ) → IsInto outs intos
-    → AreSpreading outs current far queue count node distance (get_or intos node []) nth → length (get_or intos node []) ≤ nth → AreSpread outs current far queue (count + 1)
-tell_ends outs intos current far queue count node distance nth into s le = record {
+pub tell_ends : (outs : List (List (List ℕ))) (intos : List (List Move)) (inside ends : List Bool) (far : List (Option ℕ)) (queue : List ℕ) (count node distance nth : ℕ) → IsInto outs intos
+    → AreSpreading outs inside ends far queue count node distance (get_or intos node []) nth → length (get_or intos node []) ≤ nth → AreSpread outs inside ends far queue (count + 1)
+tell_ends outs intos inside ends far queue count node distance nth into s le = record {
   steps = s.spread.steps;
   queued = s.spread.queued;
-  told = λ i r lt e m place d gone leads y. elim (cases_lt i count) [
-    | inl a ↦ s.spread.told i r a e m place d gone leads y
+  told = λ i r lt e m place d lies leads y. elim (cases_lt i count) [
+    | inl a ↦ s.spread.told i r a e m place d lies leads y
     | inr a ↦ (let same : i ≡ count = omega arith in
         let at : node ≡ r = same_Some node r (sym s.next ∙ ap (λ (z : ℕ). slice_get queue z) (sym same) ∙ e) in
         let v : distance ≡ d = one_far far node distance d s.distance_is (ap (λ (z : ℕ). far_at far z) at ∙ y) in
         let x : Move = record { node = m; place = place } in
         let k = at_in (get_or intos node []) x (into.to x node (subst (λ (z : ℕ). Leads outs m place z) (sym at) leads)) in
         let w = at_short (get_or intos node []) k.0 x k.1 in
-        let n = s.part k.0 x (omega arith) k.1 gone in
+        let n = s.part k.0 x (omega arith) k.1 lies in
         (n.0, n.1, (let z = n.2 in omega arith)))
   ];
   near = λ m o d e a x y. (
@@ -217,13 +232,13 @@ tell_ends outs intos current far queue count node distance nth into s le = recor
 
 -- begin and end
 
-pub spread_begins : (outs : List (List (List ℕ))) (current : List ℕ) (far : List (Option ℕ)) (queue : List ℕ) → ((n : ℕ) → at current n ≤ moves_at outs n) → AreEnds outs far queue (length outs)
-    → AreSpread outs current far queue 0
-spread_begins outs current far queue within h = record {
+pub spread_begins : (outs : List (List (List ℕ))) (inside ends : List Bool) (far : List (Option ℕ)) (queue : List ℕ) → length ends ≡ length outs
+    → ((n : ℕ) → flag_at ends n ≡ true → flag_at inside n ≡ true) → AreEnds ends far queue (length ends) → AreSpread outs inside ends far queue 0
+spread_begins outs inside ends far queue size within h = record {
   steps = record {
-    size = h.size;
-    gone = λ n d e. (let k = at_in queue n (h.only n d e).1 in let t = h.to k.0 n k.1 in let w = within n in (t.0, (let z = t.1 in omega arith)));
-    ends = λ n w z. (let k = at_in queue n (h.from n w w z) in (h.to k.0 n k.1).2);
+    size = h.size ∙ size;
+    lie = λ n d e. (let k = at_in queue n (h.only n d e).1 in within n (h.to k.0 n k.1).1);
+    begin = λ n e. (let k = at_in queue n (h.from n (flag_within ends n e) e) in (h.to k.0 n k.1).2);
     only = λ n e. (let k = at_in queue n (h.only n 0 e).1 in (h.to k.0 n k.1).1);
     tight = λ n d e. (let z = (h.only n (suc d) e).0 in let bad : ⊥ = omega arith in absurd bad);
   };
@@ -238,33 +253,33 @@ spread_begins outs current far queue within h = record {
   near = λ n m d e a x y. (let z = (h.only m e y).0 in omega arith);
 }
 
-pub spread_ends : (outs : List (List (List ℕ))) (current : List ℕ) (far : List (Option ℕ)) (queue : List ℕ) (count : ℕ) → AreSpread outs current far queue count → length queue ≤ count
-    → AreDistances outs current far
-spread_ends outs current far queue count s le = record {
+pub spread_ends : (outs : List (List (List ℕ))) (inside ends : List Bool) (far : List (Option ℕ)) (queue : List ℕ) (count : ℕ) → AreSpread outs inside ends far queue count → length queue ≤ count
+    → AreDistances outs inside ends far
+spread_ends outs inside ends far queue count s le = record {
   steps = s.steps;
-  told = λ r n place d gone leads e. (let k = at_in queue r (s.queued.listed r d e) in let w = at_short queue k.0 r k.1 in
-      s.told k.0 r (omega arith) k.1 n place d gone leads e);
+  told = λ r n place d lies leads e. (let k = at_in queue r (s.queued.listed r d e) in let w = at_short queue k.0 r k.1 in
+      s.told k.0 r (omega arith) k.1 n place d lies leads e);
 }
 
-pub queue_few : (outs : List (List (List ℕ))) (current : List ℕ) (far : List (Option ℕ)) (queue : List ℕ) (count : ℕ) → AreSpread outs current far queue count → length queue ≤ length outs
-queue_few outs current far queue count s =
+pub queue_few : (outs : List (List (List ℕ))) (inside ends : List Bool) (far : List (Option ℕ)) (queue : List ℕ) (count : ℕ) → AreSpread outs inside ends far queue count → length queue ≤ length outs
+queue_few outs inside ends far queue count s =
     let n = no_more queue (upto 0 outs) s.queued.once (λ x h. let k = at_in queue x h in upto_has 0 outs x (omega arith) (let w = s.queued.within k.0 x k.1 in let z = s.steps.size in omega arith)) in
     let l = upto_length 0 outs in omega arith
 
 -- a node's distance fits
-pub distance_few : (outs : List (List (List ℕ))) (current : List ℕ) (far : List (Option ℕ)) (queue : List ℕ) (count node distance : ℕ) → AreSpread outs current far queue count
+pub distance_few : (outs : List (List (List ℕ))) (inside ends : List Bool) (far : List (Option ℕ)) (queue : List ℕ) (count node distance : ℕ) → AreSpread outs inside ends far queue count
     → slice_get queue count ≡ Some node → far_at far node ≡ Some distance → distance < length outs
-distance_few outs current far queue count node distance s e d =
+distance_few outs inside ends far queue count node distance s e d =
     let k = s.queued.known count node e in
     let v = one_far far node k.0 distance k.1 d in
     let w = at_short queue count node e in
-    let f = queue_few outs current far queue count s in
+    let f = queue_few outs inside ends far queue count s in
     let z = k.2 in omega arith
 
--- the nodes without moves
+-- the ends
 
-pub ends_begin : (outs : List (List (List ℕ))) (far : List (Option ℕ)) (queue : List ℕ) → length far ≡ length outs → ((n : ℕ) → far_at far n ≡ None) → queue ≡ [] → AreEnds outs far queue 0
-ends_begin outs far queue size none e = rw e record {
+pub ends_begin : (ends : List Bool) (far : List (Option ℕ)) (queue : List ℕ) → length far ≡ length ends → ((n : ℕ) → far_at far n ≡ None) → queue ≡ [] → AreEnds ends far queue 0
+ends_begin ends far queue size none e = rw e record {
   size = size;
   once = λ i j x a b. absurd (none-some x a);
   to = λ i n a. absurd (none-some n a);
@@ -272,29 +287,29 @@ ends_begin outs far queue size none e = rw e record {
   only = λ n d a. absurd (none-some d (sym (none n) ∙ a));
 }
 
-pub ends_past : (outs : List (List (List ℕ))) (far : List (Option ℕ)) (queue : List ℕ) (count : ℕ) → AreEnds outs far queue count → (moves_at outs count ≡ 0 → ⊥) → AreEnds outs far queue (count + 1)
-ends_past outs far queue count h some = record {
+pub ends_past : (ends : List Bool) (far : List (Option ℕ)) (queue : List ℕ) (count : ℕ) → AreEnds ends far queue count → flag_at ends count ≡ false → AreEnds ends far queue (count + 1)
+ends_past ends far queue count h some = record {
   size = h.size;
   once = h.once;
   to = λ i n a. (let t = h.to i n a in ((let z = t.0 in omega arith), t.1, t.2));
-  from = λ n lt w z. elim (cases_lt n count) [
-    | inl a ↦ h.from n a w z
-    | inr a ↦ (let same : n ≡ count = omega arith in absurd (some (ap (λ (y : ℕ). moves_at outs y) (sym same) ∙ z)))
+  from = λ n lt z. elim (cases_lt n count) [
+    | inl a ↦ h.from n a z
+    | inr a ↦ (let same : n ≡ count = omega arith in absurd (false≢true (sym some ∙ ap (λ (y : ℕ). flag_at ends y) (sym same) ∙ z)))
   ];
   only = h.only;
 }
 
-pub ends_on : (outs : List (List (List ℕ))) (far : List (Option ℕ)) (queue queue' : List ℕ) (count : ℕ) → AreEnds outs far queue count → count < length outs → moves_at outs count ≡ 0
-    → queue' ≡ queue ++ count ∷ [] → AreEnds outs (set far count (Some 0)) queue' (count + 1)
-ends_on outs far queue queue' count h w z e = rw e record {
+pub ends_on : (ends : List Bool) (far : List (Option ℕ)) (queue queue' : List ℕ) (count : ℕ) → AreEnds ends far queue count → flag_at ends count ≡ true
+    → queue' ≡ queue ++ count ∷ [] → AreEnds ends (set far count (Some 0)) queue' (count + 1)
+ends_on ends far queue queue' count h z e = rw e record {
   size = length-set far count (Some 0) ∙ h.size;
   once = push_once queue count h.once (λ m. let k = at_in queue count m in let t = (h.to k.0 count k.1).0 in let bad : ⊥ = omega arith in bad);
   to = λ i n a. elim (push_is queue count i n a) [
     | inl o ↦ (let t = h.to i n o in ((let y = t.0 in omega arith), t.1, kept n t.2))
-    | inr x ↦ ((let y = x.1 in omega arith), subst (λ (y : ℕ). moves_at outs y ≡ 0) x.1 z, subst (λ (y : ℕ). far_at (set far count (Some 0)) y ≡ Some 0) x.1 (far_same far count 0 lt))
+    | inr x ↦ ((let y = x.1 in omega arith), subst (λ (y : ℕ). flag_at ends y ≡ true) x.1 z, subst (λ (y : ℕ). far_at (set far count (Some 0)) y ≡ Some 0) x.1 (far_same far count 0 lt))
   ];
-  from = λ n less inn y. elim (cases_lt n count) [
-    | inl a ↦ has_left queue (count ∷ []) n (h.from n a inn y)
+  from = λ n less y. elim (cases_lt n count) [
+    | inl a ↦ has_left queue (count ∷ []) n (h.from n a y)
     | inr a ↦ (let same : count ≡ n = omega arith in subst (λ (x : ℕ). Among (queue ++ count ∷ []) x) same (has_last queue count))
   ];
   only = λ n d a. elim (far_was far count 0 n d lt a) [
@@ -304,7 +319,7 @@ ends_on outs far queue queue' count h w z e = rw e record {
 }
   where
     lt : count < length far
-    lt = let s = h.size in omega arith
+    lt = let w = flag_within ends count z in let s = h.size in omega arith
 
     kept : (n : ℕ) → far_at far n ≡ Some 0 → far_at (set far count (Some 0)) n ≡ Some 0
     kept n a = elim (same_number count n) [
@@ -312,10 +327,10 @@ ends_on outs far queue queue' count h w z e = rw e record {
       | inr ne ↦ get_or-set_other far count n (Some 0) None (λ q. ne (sym q)) ∙ a
     ]
 
-pub ends_step : (outs : List (List (List ℕ))) (far : List (Option ℕ)) (queue : List ℕ) (far' : List (Option ℕ)) (queue' : List ℕ) (count : ℕ) → AreEnds outs far queue count → count < length outs
-    → IsBegun outs count far queue far' queue' → AreEnds outs far' queue' (count + 1)
-ends_step outs far queue far' queue' count h w (Passes some ef eq) = rw (ef, eq) (ends_past outs far queue count h some)
-ends_step outs far queue far' queue' count h w (Begins z ef eq) = rw (ef) (ends_on outs far queue queue' count h w z eq)
+pub ends_step : (ends : List Bool) (far : List (Option ℕ)) (queue : List ℕ) (far' : List (Option ℕ)) (queue' : List ℕ) (count : ℕ) → AreEnds ends far queue count
+    → IsBegun ends count far queue far' queue' → AreEnds ends far' queue' (count + 1)
+ends_step ends far queue far' queue' count h (Passes some ef eq) = rw (ef, eq) (ends_past ends far queue count h some)
+ends_step ends far queue far' queue' count h (Begins z ef eq) = rw (ef) (ends_on ends far queue queue' count h z eq)
 
 -- what is read
 
@@ -329,17 +344,10 @@ pair_read row nth n p e = go (slice_get row nth) refl e
     go None g e = absurd (none-some (n, p) (sym e))
     go (Some m) g e = (m, g, ap (λ (z : ℕ × ℕ). z.0) (sym (same_Some (n, p) (m.node, m.place) e)))
 
-pub none_read : (row : List Move) (nth : ℕ) → None ≡ pair_of (slice_get row nth) → length row ≤ nth
-none_read row nth e = elim (cases_lt nth (length row)) [
+pub none_by : (row : List Move) (nth : ℕ) (o : Option (ℕ × ℕ)) → o ≡ pair_of (slice_get row nth) → ((n p : ℕ) → o ≡ Some (n, p) → ⊥) → length row ≤ nth
+none_by row nth o e none = elim (cases_lt nth (length row)) [
   | inr le ↦ le
-  | inl lt ↦ (let m = at_within row nth lt in absurd (none-some (m.0.node, m.0.place) (e ∙ ap pair_of m.1)))
-]
-
-pub leads_source : (outs : List (List (List ℕ))) (n p r : ℕ) → Leads outs n p r → n < length outs
-leads_source outs n p r h = elim (cases_lt n (length outs)) [
-  | inl a ↦ a
-  | inr a ↦ (let e = get_or_past outs n [] a in let q : get_or {A = List ℕ} [] p [] ≡ [] = get_or_past [] p [] (omega arith) in
-      let bad : Among [] r = subst (λ (z : List ℕ). Among z r) (ap (λ (z : List (List ℕ)). get_or z p []) e ∙ q) h in absurd bad)
+  | inl lt ↦ (let m = at_within row nth lt in absurd (none m.0.node m.0.place (e ∙ ap pair_of m.1)))
 ]
 
 pub none_all : (far : List (Option ℕ)) (count n : ℕ) → far ≡ replicate count None → far_at far n ≡ None
@@ -347,3 +355,20 @@ none_all far count n e = rw e (elim (cases_lt n count) [
   | inl a ↦ get_or-replicate count n None None a
   | inr a ↦ get_or_past (replicate count None) n None (let l = length-replicate {A = Option ℕ} count None in omega arith)
 ])
+
+pub flag_read : (flags : List Bool) (n : ℕ) (b : Bool) → n < length flags → b ≡ get_or flags n b → flag_at flags n ≡ b
+flag_read flags n b lt e = sym (e ∙ get_or_default flags n b false lt)
+
+-- the edges of a graph are few where each node has few
+
+pub rows_most : (intos : List (List Move)) (n : ℕ) → length (get_or intos n []) ≤ sum_by (λ (row : List Move). length row) intos
+rows_most [] n = let e : length (get_or {A = List Move} [] n []) ≡ 0 = ap (λ (z : List Move). length z) (get_or_past [] n [] (omega arith)) in omega arith
+rows_most (r ∷ rows) zero = let a = sum_by-cons (λ (row : List Move). length row) r rows in omega arith
+rows_most (r ∷ rows) (suc n) = let a = sum_by-cons (λ (row : List Move). length row) r rows in let b = rows_most rows n in omega arith
+
+pub edges_few : (outs : List (List (List ℕ))) → ((n : ℕ) → sum_by (λ (results : List ℕ). length results) (get_or outs n []) ≤ 65537) → edges_in outs ≤ 65537 * length outs
+edges_few [] few = omega arith
+edges_few (moves ∷ outs) few =
+    let a = sum_by-cons (λ (ms : List (List ℕ)). sum_by (λ (results : List ℕ). length results) ms) moves outs in
+    let b = few 0 in
+    let c = edges_few outs (λ n. few (suc n)) in omega arith

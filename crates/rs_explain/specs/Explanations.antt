@@ -1,8 +1,9 @@
 -- Public: why the start doesn't survive.
-use Rattle.std.specs.Prelude.{ℕ, List}
+use Rattle.std.specs.Prelude.{ℕ, ◌≤◌, List}
 use Rattle.rs_model.specs.Data.{Machine_data}
 use Rattle.rs_derive.specs.Moves.{Spot}
 use Rattle.rs_search.specs.Candidates.{MeetsACut, start_spot}
+use Rattle.rs_search.specs.Survives.{Survives}
 use Rattle.rs_explain.specs.Obstacles.{IsObstacle}
 use Rattle.rs_explain.specs.Walks.{IsFirstWalk, WalkStep_data, end_of}
 use Rattle.rs_explain.specs.declared.explaining.Ending.{Ending}
@@ -22,3 +23,9 @@ EndsBy sub above bound p Cut = MeetsACut sub above bound p
 pub record IsExplanation (sub above : Machine_data) (bound : ℕ) (e : Explanation_data) : Type 0 where
   pub first : IsFirstWalk sub above bound (start_spot sub above) e.steps
   pub ending : EndsBy sub above bound (end_of (start_spot sub above) e.steps) e.ending
+
+-- the start survives within a greater bound
+pub record AGreaterBoundHelps (sub above : Machine_data) (bound : ℕ) : Type 0 where
+  pub greater : ℕ
+  pub more : bound ≤ greater
+  pub survives : Survives sub above greater (start_spot sub above)

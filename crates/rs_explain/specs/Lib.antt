@@ -2,5 +2,8 @@ pub mod Obstacles
 pub mod OnWay
 pub mod Distances
 pub mod ObstacleAt
+pub mod Forcing
 pub mod Walks
 pub mod Explanations
+pub mod Forgetting
+pub mod KeptNodes

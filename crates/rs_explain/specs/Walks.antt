@@ -1,9 +1,9 @@
--- Public: walks by moves through spots that don't survive, to one that has no move within the bound.
+-- Public: walks by moves through spots that don't survive, to one that has no move within the bound, or that meets a cut.
 use Rattle.std.specs.Prelude.{◌≡◌, ◌⊎◌, ℕ, ◌<◌, ◌≤◌, List, [], ◌∷◌, length, slice_get, Option, Some}
 use Rattle.rs_model.specs.Data.{Machine_data}
 use Rattle.rs_derive.specs.Moves.{Spot, HasMove}
 use Rattle.rs_graph.specs.Lists.{Among}
-use Rattle.rs_search.specs.Candidates.{MoveWithin}
+use Rattle.rs_search.specs.Candidates.{MeetsACut, MoveWithin}
 use Rattle.rs_search.specs.Survives.{Survives}
 use Rattle.rs_search.specs.Turns.{nexts_within}
 
@@ -40,11 +40,11 @@ AllDie sub above bound p (s ∷ later) = Dies sub above bound p × AllDie sub ab
 abbrev pub IsDeadEnd : Machine_data → Machine_data → ℕ → Spot → Type 0
 IsDeadEnd sub above bound p = (results : List Spot) → MoveWithin sub above bound p results → ⊥
 
--- a walk from p through spots that don't survive to a dead end
-pub record IsLostWalk (sub above : Machine_data) (bound : ℕ) (p : Spot) (steps : List WalkStep_data) : Type 0 where
+-- a walk from p through spots that don't survive to one of these ends
+pub record IsLostWalk (sub above : Machine_data) (bound : ℕ) (Ends : Spot → Type 0) (p : Spot) (steps : List WalkStep_data) : Type 0 where
   pub walk : IsWalk sub above bound p steps
   pub dies : AllDie sub above bound p steps
-  pub ends : IsDeadEnd sub above bound (end_of p steps)
+  pub ends : Ends (end_of p steps)
 
 -- where the walks first differ, the first goes by a lesser place
 abbrev pub IsNoLater : List WalkStep_data → List WalkStep_data → Type 0
@@ -52,11 +52,19 @@ IsNoLater [] others = Unit {0}
 IsNoLater (s ∷ later) [] = ⊥
 IsNoLater (s ∷ later) (o ∷ others) = (s.place < o.place) ⊎ ((s.place ≡ o.place) × IsNoLater later others)
 
--- such a walk, as short as there is, and of least places among those as short
-pub record IsFirstWalk (sub above : Machine_data) (bound : ℕ) (p : Spot) (steps : List WalkStep_data) : Type 0 where
-  pub lost : IsLostWalk sub above bound p steps
-  pub shortest : (others : List WalkStep_data) → IsLostWalk sub above bound p others → length steps ≤ length others
-  pub least : (others : List WalkStep_data) → IsLostWalk sub above bound p others → length others ≡ length steps → IsNoLater steps others
+-- of these walks one as short as there is, and of least places among those as short
+pub record IsFirst (Walks : List WalkStep_data → Type 0) (steps : List WalkStep_data) : Type 0 where
+  pub is : Walks steps
+  pub shortest : (others : List WalkStep_data) → Walks others → length steps ≤ length others
+  pub least : (others : List WalkStep_data) → Walks others → length others ≡ length steps → IsNoLater steps others
+
+-- the first of the walks from p through spots that don't survive to a dead end
+abbrev pub IsFirstWalk : Machine_data → Machine_data → ℕ → Spot → List WalkStep_data → Type 0
+IsFirstWalk sub above bound p steps = IsFirst (IsLostWalk sub above bound (IsDeadEnd sub above bound) p) steps
+
+-- the first of the walks from p through spots that don't survive to one that meets a cut
+abbrev pub IsFirstCutWalk : Machine_data → Machine_data → ℕ → Spot → List WalkStep_data → Type 0
+IsFirstCutWalk sub above bound p steps = IsFirst (IsLostWalk sub above bound (MeetsACut sub above bound) p) steps
 
 -- whichever move a spot of the walk makes, of whatever bound, it leads to the next spot, too
 abbrev pub IsForced : Machine_data → Machine_data → Spot → List WalkStep_data → Type 0

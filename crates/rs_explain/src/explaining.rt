@@ -1,18 +1,20 @@
 //! Why a machine has no derivation within a bound.
 ghost use Rattle.std.specs.Prelude.{◌≡◌, ◌<◌, ◌≤◌, Bool, IfOk, length};
 ghost use Rattle.rs_derive.specs.Derivations.{IsProper, spot_of};
-ghost use Rattle.rs_explain.specs.Explanations.{IsExplanation};
-ghost use Rattle.rs_explain.specs.OnWay.{AreCharted, ending_at};
+ghost use Rattle.rs_explain.specs.Explanations.{AGreaterBoundHelps, IsExplanation};
+ghost use Rattle.rs_explain.specs.OnWay.{IsWholeWay, ending_at};
+ghost use Rattle.rs_explain.specs.Walks.{IsDeadEnd, IsFirstCutWalk};
 ghost use Rattle.rs_model.specs.declared.limits.TheConstants.{MOST_CANDIDATES};
+ghost use Rattle.rs_search.specs.Candidates.{MeetsACut, start_spot};
 ghost use Rattle.rs_search.specs.Canonical.{IsNotFound};
 ghost use Rattle.rs_search.specs.Found.{AreFoundCandidates};
 
 use crate::Obstacle;
 use crate::distances::distances;
+use crate::lost::{cuts, dead_ends, lost_graph};
 use crate::obstacles::obstacle_at;
-use crate::walking::walk;
+use crate::walking::{Way, walk};
 use rs_derive::DNode;
-use rs_graph::{graph_of, remove_uncounted};
 use rs_model::{Machine, NoMemory};
 use rs_prefix::Pending;
 use rs_search::{Candidates, candidates_of};
@@ -66,27 +68,8 @@ impl Model for Explanation {
     ghost view = { λ e. record { steps = e.steps.items; ending = e.ending } };
 }
 
-// Of each candidate that doesn't survive how many steps it is from a dead end.
-fn far_of(
-    alloc: Global,
-    sub: &Machine,
-    above: &Machine,
-    bound: u8,
-    found: &Candidates,
-) -> Result<Vec<Option<u32>>, NoMemory>
-    requires found { AreFoundCandidates sub.now above.now bound found.now }
-    requires bounded { length found.now.table.spots ≤ MOST_CANDIDATES }
-    ensures { IfOk result (λ far. AreCharted sub.now above.now bound found.now.table.spots found.now.table.rows far.items) }
-{
-    let rows = found.table.copy_rows(alloc)?;
-    let graph = graph_of(alloc, found.anys.as_slice(), rows.as_slice())?;
-    let left = remove_uncounted(alloc, &graph)?;
-    let far = distances(alloc, &graph, left.current.as_slice())?;
-    Ok(far)
-}
-
-// Why a dead end has no move within the bound.
-fn ending_of(sub: &Machine, above: &Machine, node: &DNode) -> Ending
+/// Why a dead end has no move within the bound.
+pub fn ending_of(sub: &Machine, above: &Machine, node: &DNode) -> Ending
     requires state { node.now.state < length sub.now.states }
     requires present { node.now.above < length above.now.states }
     ensures { result ≡ ending_at sub.now above.now (spot_of node.now) }
@@ -97,6 +80,49 @@ fn ending_of(sub: &Machine, above: &Machine, node: &DNode) -> Ending
         Some(obstacle) => Ending::Blocked(obstacle),
         None => Ending::Cut,
     }
+}
+
+// The first walk to a dead end.
+fn way_to_dead_end(
+    alloc: Global,
+    sub: &Machine,
+    above: &Machine,
+    bound: u8,
+    found: &Candidates,
+) -> Result<Way, NoMemory>
+    requires found { AreFoundCandidates sub.now above.now bound found.now }
+    requires bounded { length found.now.table.spots ≤ MOST_CANDIDATES }
+    requires refused { (cut : Bool) × IsNotFound sub.now above.now bound cut }
+    ensures { IfOk result (λ w. IsWholeWay sub.now above.now bound (IsDeadEnd sub.now above.now bound) found.now.table.spots w.steps.items w.node) }
+{
+    let lost = lost_graph(alloc, sub, above, bound, found)?;
+    let ends = dead_ends(alloc, sub, above, bound, found, &lost)?;
+    let far = distances(alloc, &lost.graph, lost.gone.as_slice(), ends.as_slice())?;
+    let way = walk(alloc, &found.table, far.as_slice())?;
+    Ok(way)
+}
+
+// The first walk to a spot that meets a cut.
+fn way_to_cut(
+    alloc: Global,
+    sub: &Machine,
+    above: &Machine,
+    bound: u8,
+    found: &Candidates,
+) -> Result<Way, NoMemory>
+    requires ours { IsProper sub.now }
+    requires theirs { IsProper above.now }
+    requires found { AreFoundCandidates sub.now above.now bound found.now }
+    requires bounded { length found.now.table.spots ≤ MOST_CANDIDATES }
+    requires refused { (cut : Bool) × IsNotFound sub.now above.now bound cut }
+    requires helps { AGreaterBoundHelps sub.now above.now bound }
+    ensures { IfOk result (λ w. IsWholeWay sub.now above.now bound (MeetsACut sub.now above.now bound) found.now.table.spots w.steps.items w.node) }
+{
+    let lost = lost_graph(alloc, sub, above, bound, found)?;
+    let ends = cuts(alloc, sub, above, bound, found, &lost)?;
+    let far = distances(alloc, &lost.graph, lost.gone.as_slice(), ends.as_slice())?;
+    let way = walk(alloc, &found.table, far.as_slice())?;
+    Ok(way)
 }
 
 /// Why the search finds no derivation of the machine `sub` from its projection `above` within the bound, where it doesn't.
@@ -116,11 +142,32 @@ pub fn explain(
         Ok(found) => found,
         Err(_) => return Err(NoMemory),
     };
-    let far = far_of(alloc, sub, above, bound, &found)?;
-    let way = walk(alloc, sub, above, bound, &found.table, far.as_slice())?;
+    let way = way_to_dead_end(alloc, sub, above, bound, &found)?;
     let ending = ending_of(sub, above, found.table.node(way.node));
     Ok(Explanation {
         steps: way.steps,
         ending,
     })
+}
+
+/// Where a greater bound helps: the first walk from the start, through spots that don't survive within this bound, to one
+/// that meets a cut.
+pub fn explain_cut(
+    alloc: Global,
+    sub: &Machine,
+    above: &Machine,
+    bound: u8,
+) -> Result<Vec<WalkStep>, NoMemory>
+    requires ours { IsProper sub.now }
+    requires theirs { IsProper above.now }
+    requires refused { (cut : Bool) × IsNotFound sub.now above.now bound cut }
+    requires helps { AGreaterBoundHelps sub.now above.now bound }
+    ensures { IfOk result (λ steps. IsFirstCutWalk sub.now above.now bound (start_spot sub.now above.now) steps.items) }
+{
+    let found = match candidates_of(alloc, sub, above, bound) {
+        Ok(found) => found,
+        Err(_) => return Err(NoMemory),
+    };
+    let way = way_to_cut(alloc, sub, above, bound, &found)?;
+    Ok(way.steps)
 }

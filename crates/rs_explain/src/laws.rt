@@ -1,18 +1,21 @@
 //! Laws over the definitions that the contracts cite. The functions do nothing: the contract is the law.
-ghost use Rattle.std.specs.Prelude.{[], ◌≡◌, ◌≢◌, ◌<◌, ◌≤◌, ℕ, List, length, Bool, false, slice_get, Some};
+ghost use Rattle.std.specs.Prelude.{[], ◌≡◌, ◌≢◌, ◌<◌, ◌≤◌, ℕ, List, length, Bool, false, slice_get, Some, true};
 ghost use Rattle.rs_derive.specs.Data.{Derivation_data};
 ghost use Rattle.rs_derive.specs.Derivations.{IsDerivation, IsProper};
 ghost use Rattle.rs_derive.specs.Moves.{Spot};
-ghost use Rattle.rs_explain.specs.Explanations.{Explanation_data, IsExplanation};
+ghost use Rattle.rs_explain.specs.Explanations.{AGreaterBoundHelps, Explanation_data, IsExplanation};
+ghost use Rattle.rs_explain.specs.Forgetting.{Forgetting_data, IsForgetting};
 ghost use Rattle.rs_explain.specs.Obstacles.{HasNoMove, IsObstacle};
-ghost use Rattle.rs_explain.specs.Walks.{IsFirstWalk, IsForced, LeadsBy, WalkStep_data, end_of};
+ghost use Rattle.rs_explain.specs.Forcing.{is_forced};
+ghost use Rattle.rs_explain.specs.Walks.{IsFirstCutWalk, IsFirstWalk, IsForced, IsWalk, LeadsBy, WalkStep_data, end_of};
 ghost use Rattle.rs_explain.specs.declared.explaining.Ending.TheVariants.{Blocked, Cut};
 ghost use Rattle.rs_explain.specs.declared.obstacles.Obstacle.{Obstacle};
 ghost use Rattle.rs_explain.specs.declared.obstacles.Obstacle.TheVariants.{EndTooEarly};
 ghost use Rattle.rs_graph.specs.Lists.{Among};
 ghost use Rattle.rs_model.specs.Data.{Machine_data};
+ghost use Rattle.rs_model.specs.declared.machines.Act.{Act};
 ghost use Rattle.rs_search.specs.Candidates.{MoveWithin, start_spot};
-ghost use Rattle.rs_search.specs.Canonical.{IsNotFound};
+ghost use Rattle.rs_search.specs.Canonical.{IsCanonical, IsForgets, IsNotFound};
 ghost use Rattle.rs_search.specs.Examples.{ended_machine, waiting};
 
 /// Exactly where a spot has no move there is an obstacle, and one only. The spot stands at states of both machines, and
@@ -42,6 +45,30 @@ pub fn one_explanation_where_not_found()
     ensures uncut { (sub above : Machine_data) (bound : ℕ) (e : Explanation_data) → IsNotFound sub above bound false → IsExplanation sub above bound e → e.ending ≢ Cut }
 {}
 
+/// Where the start survives within a greater bound only, a walk leads from it through spots that don't survive to one that
+/// meets a cut, and there is one first such walk. A greater bound helps where the search finds a derivation within it.
+pub fn one_cut_walk_where_a_greater_bound_helps()
+    ensures some { (sub above : Machine_data) (bound : ℕ) (cut : Bool) → IsNotFound sub above bound cut → AGreaterBoundHelps sub above bound
+        → (steps : List WalkStep_data) × IsFirstCutWalk sub above bound (start_spot sub above) steps }
+    ensures one { (sub above : Machine_data) (bound : ℕ) (steps others : List WalkStep_data) → IsFirstCutWalk sub above bound (start_spot sub above) steps
+        → IsFirstCutWalk sub above bound (start_spot sub above) others → steps ≡ others }
+    ensures helps { (sub above : Machine_data) (bound greater : ℕ) (d : Derivation_data) → bound ≤ greater → IsCanonical sub above greater d → AGreaterBoundHelps sub above bound }
+{}
+
+/// Where the canonical derivation forgets an act that is owed there is a first way round on which it is never made, and one
+/// only.
+pub fn one_way_round_where_it_forgets()
+    ensures some { (sub above : Machine_data) (bound node : ℕ) → IsForgets sub above bound node → (f : Forgetting_data) × IsForgetting sub above bound node f }
+    ensures one { (sub above : Machine_data) (bound node : ℕ) (f other : Forgetting_data) → IsForgetting sub above bound node f → IsForgetting sub above bound node other → f ≡ other }
+{}
+
+/// An act is owed where a way round begins, and on the whole way the oldest act stays the same, so it is never made.
+pub fn the_oldest_act_is_never_made()
+    ensures owed { (sub above : Machine_data) (bound node : ℕ) (f : Forgetting_data) → IsForgetting sub above bound node f → (a : Act) × (slice_get f.spot.pending 0 ≡ Some a) }
+    ensures stays { (sub above : Machine_data) (bound node : ℕ) (f : Forgetting_data) → IsForgetting sub above bound node f → (i : ℕ) (s : WalkStep_data) → slice_get f.steps i ≡ Some s
+        → slice_get s.spot.pending 0 ≡ slice_get f.spot.pending 0 }
+{}
+
 /// Where there is an explanation there is no derivation within the bound. A walk that no other move leaves, to a spot that
 /// has no move, needs no search to be believed: where there is such a walk there is no derivation of whatever bound.
 pub fn explanations_certify()
@@ -49,6 +76,12 @@ pub fn explanations_certify()
         → IsDerivation d sub above → d.bound ≤ bound → ⊥ }
     ensures forced { (sub above : Machine_data) (steps : List WalkStep_data) (d : Derivation_data) → IsForced sub above (start_spot sub above) steps
         → HasNoMove sub above (end_of (start_spot sub above) steps) → IsDerivation d sub above → ⊥ }
+{}
+
+/// A walk without a guess among several arms is forced: whichever move a spot of it makes, it leads to the next spot, too.
+/// What `explanations_certify` says of forced walks holds of it.
+pub fn forced_walks_have_no_other_way()
+    ensures { (sub above : Machine_data) (bound : ℕ) (p : Spot) (steps : List WalkStep_data) → IsWalk sub above bound p steps → is_forced sub above p steps ≡ true → IsForced sub above p steps }
 {}
 
 /// A machine that has ended, while its projection waits for a message, has an explanation: it ends too early, at the start.

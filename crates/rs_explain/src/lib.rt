@@ -1,11 +1,18 @@
-//! Why a machine has no derivation: a walk to where it has no move, and what stands in its way there.
+//! Why a machine has no derivation: a walk to where it has no move, and what stands in its way there; a walk to a cut, where
+//! a greater bound helps; or a way round on which an act that is owed is never made.
 #![tactic(auto)]
 
 mod distances;
 mod explaining;
+mod forcing;
+mod kept;
 pub mod laws;
+mod lost;
 mod obstacles;
+mod rounds;
 mod walking;
 
-pub use explaining::{Ending, Explanation, WalkStep, explain};
+pub use explaining::{Ending, Explanation, WalkStep, explain, explain_cut};
+pub use forcing::is_forced;
 pub use obstacles::{Obstacle, obstacle_at};
+pub use rounds::{Forgetting, explain_forgets};

@@ -1,13 +1,13 @@
-//! The first walk from the start through candidates that don't survive.
+//! Walks along the numbers of spots that go nearer to an end with each step.
 ghost use Rattle.std.specs.Prelude.{◌≡◌, ◌<◌, ◌≤◌, ◌^◌, [], ℕ, IfOk, length, slice_index_or, Some, true, false};
 ghost use Rattle.rs_derive.specs.Derivations.{spot_of};
 ghost use Rattle.rs_explain.specs.Distances.{far_at};
-ghost use Rattle.rs_explain.specs.OnWay.{AreCharted, IsFirstAt, IsWholeWay};
+ghost use Rattle.rs_explain.specs.OnWay.{AreDownhill, GoNearer, IsFirstAt};
 ghost use Rattle.rs_graph.specs.Lists.{Among};
 
 use crate::explaining::WalkStep;
 use rs_derive::DNode;
-use rs_model::{Machine, NoMemory};
+use rs_model::NoMemory;
 use rs_search::SpotTable;
 use std::alloc::Global;
 
@@ -28,8 +28,8 @@ fn is_at(far: Option<u32>, distance: u32) -> bool
     }
 }
 
-// The first place of the row whose number has the distance.
-fn first_at(row: &[u32], far: &[Option<u32>], distance: u32) -> usize
+/// The first place of the row whose number has the distance.
+pub fn first_at(row: &[u32], far: &[Option<u32>], distance: u32) -> usize
     requires within { (r : ℕ) → Among row.now r → r < length far.now }
     requires some { (r : ℕ) × Among row.now r × (far_at far.now r ≡ Some distance) }
     ensures { IsFirstAt far.now row.now distance result }
@@ -42,7 +42,7 @@ fn first_at(row: &[u32], far: &[Option<u32>], distance: u32) -> usize
     unreachable!()
 }
 
-fn step_to(alloc: Global, place: u32, node: &DNode) -> Result<WalkStep, NoMemory>
+pub fn step_to(alloc: Global, place: u32, node: &DNode) -> Result<WalkStep, NoMemory>
     ensures { IfOk result (λ s. s ≡ record { place = place; spot = spot_of node.now }) }
 {
     Ok(WalkStep {
@@ -53,19 +53,12 @@ fn step_to(alloc: Global, place: u32, node: &DNode) -> Result<WalkStep, NoMemory
     })
 }
 
-/// The first walk from the start to a dead end: each step goes one nearer to one, by the first place that does.
-pub fn walk(
-    alloc: Global,
-    sub: &Machine,
-    above: &Machine,
-    bound: u8,
-    table: &SpotTable,
-    far: &[Option<u32>],
-) -> Result<Way, NoMemory>
-    requires charted { AreCharted sub.now above.now bound table.now.spots table.now.rows far.now }
+/// The walk from the start on which each step goes one nearer to an end, by the first place that does.
+pub fn walk(alloc: Global, table: &SpotTable, far: &[Option<u32>]) -> Result<Way, NoMemory>
+    requires downhill { AreDownhill (length table.now.spots) table.now.rows far.now }
     requires short { (n : ℕ) → length (slice_index_or table.now.rows n []) ≤ 2 ^ 16 }
-    requires lost { (d : ℕ) × (far_at far.now 0 ≡ Some d) }
-    ensures { IfOk result (λ w. IsWholeWay sub.now above.now bound table.now.spots w.steps.items w.node) }
+    requires known { (d : ℕ) × (far_at far.now 0 ≡ Some d) }
+    ensures { IfOk result (λ w. GoNearer table.now.spots (λ (n : ℕ). 0) table.now.rows far.now 0 w.steps.items w.node) }
 {
     let mut steps = Vec::new(alloc);
     let mut node: usize = 0;

@@ -9,14 +9,14 @@ begin-requires-clause-none g c = λ n.
 
 pub loop-told-init : goal.loop-told-init
 loop-told-init g c =
-    let s = spread_begins c.args.graph.now.outs c.args.current.now c.begin.new.far.items c.begin.new.queue.items c.requires.within c.in_ok-begin.ensures in
-    (s, queue_few c.args.graph.now.outs c.args.current.now c.begin.new.far.items c.begin.new.queue.items 0 s)
+    let s = spread_begins c.args.graph.now.outs c.args.inside.now c.args.ends.now c.begin.new.far.items c.begin.new.queue.items c.requires.ends c.requires.within c.in_ok-begin.ensures in
+    (s, queue_few c.args.graph.now.outs c.args.inside.now c.args.ends.now c.begin.new.far.items c.begin.new.queue.items 0 s)
 
 pub loop-told-preserved : goal.loop-told-preserved
 loop-told-preserved g c =
     let s = c.in_ok-tell.ensures in
-    (s, queue_few c.args.graph.now.outs c.args.current.now c.tell.new.far.items c.tell.new.queue.items (c.loop-told.told + 1) s)
+    (s, queue_few c.args.graph.now.outs c.args.inside.now c.args.ends.now c.tell.new.far.items c.tell.new.queue.items (c.loop-told.told + 1) s)
 
 pub returns : goal.returns
 returns g c =
-    spread_ends c.args.graph.now.outs c.args.current.now c.loop-told.far.items c.loop-told.queue.items c.loop-told.told c.loop-told.invariant.0 (grind arith)
+    spread_ends c.args.graph.now.outs c.args.inside.now c.args.ends.now c.loop-told.far.items c.loop-told.queue.items c.loop-told.told c.loop-told.invariant.0 (grind arith)

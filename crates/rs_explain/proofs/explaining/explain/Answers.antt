@@ -1,20 +1,10 @@
-use Rattle.std.proofs.Common.{List, ℕ, Option, subst, sym}
 use Rattle.rs_derive.specs.Derivations.{spot_of}
 use Rattle.rs_graph.proofs.Growth.{at_short}
 use Rattle.rs_search.proofs.Staying.{stays_within}
 use Rattle.rs_search.specs.Candidates.{start_spot}
-use Rattle.rs_explain.specs.OnWay.{AreCharted}
 use Rattle.rs_explain.specs.Walks.{end_of}
-use Rattle.rs_explain.proofs.Existing.{walk_from_start}
-use Rattle.rs_explain.proofs.Nearest.{end_spot, start_far, whole_explains}
+use Rattle.rs_explain.proofs.Nearest.{end_spot, whole_explains}
 use Rattle.rs_explain.proofs.explaining.explain.Goals as goal
-
-pub walk-requires-clause-lost : goal.walk-requires-clause-lost
-walk-requires-clause-lost c =
-    let f = walk_from_start c.args.sub.now c.args.above.now c.args.bound c.requires.refused.0 c.requires.refused.1 in
-    let k : AreCharted c.args.sub.now c.args.above.now c.args.bound c.in-Ok.found.table.spots c.in-Ok.found.table.rows c.as_slice.result.now
-    = subst (λ (z : List (Option ℕ)). AreCharted c.args.sub.now c.args.above.now c.args.bound c.in-Ok.found.table.spots c.in-Ok.found.table.rows z) (sym c.as_slice.ensures.value) c.in_ok-far.ensures in
-    start_far c.args.sub.now c.args.above.now c.args.bound c.in-Ok.found.table.spots c.in-Ok.found.table.rows c.as_slice.result.now k f.0 f.1
 
 pub node-requires : goal.node-requires
 node-requires c = at_short c.in-Ok.found.table.spots c.in_ok-way.way.node (end_of (start_spot c.args.sub.now c.args.above.now) c.in_ok-way.way.steps.items) c.in_ok-way.ensures.stands

@@ -1,0 +1,5 @@
+pub mod Partings
+pub mod Waiting
+pub mod Flags
+pub mod Rows
+pub mod Searching

@@ -1,0 +1,17 @@
+pub mod Positions
+pub mod Standing
+pub mod OneList
+pub mod Turns
+pub mod Known
+pub mod Trios
+pub mod Talks
+pub mod TalkPlaces
+pub mod Walks
+pub mod BodyWalks
+pub mod RowWalks
+pub mod Spots
+pub mod Shows
+pub mod PartWalks
+pub mod StatePlaces
+pub mod NoArrows
+pub mod OnlyTalks

@@ -1,0 +1,76 @@
+-- Public: labels of the machine that may be misspelt ones of the protocol.
+use Rattle.std.specs.Prelude.{ℕ, List, [], ◌++◌, codes, map, slice_get, Bool, ◌==◌, ◌&&◌, if◌then◌else◌, Option, Some, None}
+use Rattle.std.specs.List.{find, flat_map}
+use Rattle.rs_derive.specs.Moves.{Spot}
+use Rattle.rs_derive.specs.Rules.{arms_of}
+use Rattle.rs_explain.specs.declared.explaining.Ending.{Ending}
+use Rattle.rs_explain.specs.declared.explaining.Ending.TheVariants.{Blocked}
+use Rattle.rs_explain.specs.declared.obstacles.Obstacle.TheVariants as told
+use Rattle.rs_model.specs.Data.{Names_data}
+use Rattle.rs_model.specs.declared.graph.Arm.{Arm}
+use Rattle.rs_model.specs.declared.graph.Label.{Label}
+use Rattle.rs_model.specs.declared.graph.Node.{Node}
+use Rattle.rs_model.specs.declared.graph.Node.TheVariants.{Finished, Talk}
+use Rattle.rs_model.specs.declared.graph.Role.{Role}
+use Rattle.rs_model.specs.declared.machines.Act.{Act}
+use Rattle.rs_model.specs.declared.machines.Act.TheVariants as act
+use Rattle.rs_model.specs.declared.machines.State.{State}
+use Rattle.rs_model.specs.declared.machines.State.TheVariants.{Puts}
+use Rattle.rs_text.specs.NamePlaces.{name_at}
+use Rattle.rs_walk_texts.specs.Data.{WalkSource_data}
+use Rattle.rs_walk_texts.specs.Nearness.{is_near}
+use Rattle.rs_walk_texts.specs.Walks.{state_at}
+use Rattle.rs_walk_texts.specs.declared.alike.LabelPair.{LabelPair}
+
+-- a label of the machine, and one of the protocol
+abbrev pub label_pair : Label → Label → LabelPair
+label_pair own theirs = record { own = own; theirs = theirs }
+
+-- the names of both are near each other
+abbrev pub are_alike : Names_data → LabelPair → Bool
+are_alike names pair = is_near (name_at names.labels pair.own.0) (name_at names.labels pair.theirs.0)
+
+-- the label beside that of each arm of a node, where it is a talk from the sender to the receiver
+abbrev pub pairs_with : Role → Role → Label → Node → List LabelPair
+pairs_with sender receiver own Finished = []
+pairs_with sender receiver own (Talk s r arms) = if (s.0 == sender.0) && (r.0 == receiver.0) then map (λ a. label_pair own a.label) arms else []
+
+-- the label of an act
+abbrev pub label_of : Act → Label
+label_of (act.Puts peer label sort) = label
+label_of (act.Takes peer label sort) = label
+
+-- the label beside each that the protocol sends from the sender to the receiver
+abbrev pub pairs_between : List Node → Role → Role → Label → List LabelPair
+pairs_between nodes sender receiver own = flat_map (pairs_with sender receiver own) nodes
+
+-- the label of the arm, where there is one, beside each that the protocol sends from the machine's role to the peer
+abbrev pub pairs_to : WalkSource_data → Role → Option Arm → List LabelPair
+pairs_to source peer None = []
+pairs_to source peer (Some a) = pairs_between source.protocol.nodes source.machine.role peer a.label
+
+-- the same of the arm at the place of a state that sends
+abbrev pub pairs_sent : WalkSource_data → Option State → ℕ → List LabelPair
+pairs_sent source (Some (Puts peer arms)) place = pairs_to source peer (slice_get arms place)
+pairs_sent source _ place = []
+
+-- the label of each arm beside that of the act that is owed
+abbrev pub pairs_owed : List Arm → Option Act → List LabelPair
+pairs_owed arms None = []
+pairs_owed arms (Some a) = map (λ b. label_pair b.label (label_of a)) arms
+
+-- the pairs of which one may explain that the machine has no move
+abbrev pub pairs_at : WalkSource_data → Spot → Ending → List LabelPair
+pairs_at source p (Blocked (told.UnknownSend place)) = pairs_sent source (state_at source p) place
+pairs_at source p (Blocked (told.SendBeforeSend place)) = pairs_owed (arms_of (state_at source p)) (slice_get p.pending place)
+pairs_at source p (Blocked (told.ReceiveBeforeReceive place)) = pairs_owed (arms_of (state_at source p)) (slice_get p.pending place)
+pairs_at source p _ = []
+
+-- the first of them that are alike
+abbrev pub nearest : WalkSource_data → Spot → Ending → Option LabelPair
+nearest source p ending = find (are_alike source.names) (pairs_at source p ending)
+
+-- `nearest: own for theirs`, a line, where there is such a pair
+abbrev pub nearest_text : Names_data → Option LabelPair → List ℕ
+nearest_text names None = []
+nearest_text names (Some pair) = codes "nearest: " ++ name_at names.labels pair.own.0 ++ codes " for " ++ name_at names.labels pair.theirs.0 ++ codes "\n"

@@ -1,0 +1,7 @@
+pub mod Data
+pub mod Heads
+pub mod Passed
+pub mod Walks
+pub mod Nearness
+pub mod Alike
+pub mod Stops

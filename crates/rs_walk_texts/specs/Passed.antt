@@ -1,0 +1,44 @@
+-- Public: the talks that a state of a projection stands for, and what they say of one of its acts.
+use Rattle.std.specs.Prelude.{ℕ, List, [], ◌∷◌, ◌++◌, codes, slice_get, slice_index_or, option_map, Option, Some, None}
+use Rattle.rs_derive.specs.Moves.{arm_of}
+use Rattle.rs_model.specs.FirstFailed.{or_later}
+use Rattle.rs_model.specs.declared.graph.Arm.{Arm}
+use Rattle.rs_model.specs.declared.graph.Label.{Label}
+use Rattle.rs_model.specs.declared.graph.Node.{Node}
+use Rattle.rs_model.specs.declared.graph.Node.TheVariants.{Talk}
+use Rattle.rs_model.specs.declared.graph.Role.{Role}
+use Rattle.rs_walk_texts.specs.Data.{WalkSource_data}
+use Rattle.rs_walk_texts.specs.Heads.{at_text, placed_talk_text, talk_by_text, with_commas}
+use Rattle.rs_walk_texts.specs.declared.passed.TalkArm.{TalkArm}
+
+-- the talks for which the state of the projection stands
+abbrev pub talks_of : WalkSource_data → ℕ → List ℕ
+talks_of source above = slice_index_or source.projection.sets above []
+
+-- a talk by that arm
+abbrev pub talk_arm : ℕ → Role → Role → Arm → TalkArm
+talk_arm number sender receiver arm = record { number = number; sender = sender; receiver = receiver; arm = arm }
+
+-- the talk that stands at the node with the number, by its arm with the label, where it has one
+abbrev pub talk_with : ℕ → Label → Option Node → Option TalkArm
+talk_with number label (Some (Talk sender receiver arms)) = option_map (talk_arm number sender receiver) (arm_of arms label)
+talk_with number label _ = None
+
+-- the first of these talks that has an arm with the label, by that arm
+abbrev pub first_talk : List Node → Label → List ℕ → Option TalkArm
+first_talk nodes label [] = None
+first_talk nodes label (n ∷ later) = or_later (talk_with n label (slice_get nodes n)) (first_talk nodes label later)
+
+-- `A->B:x(sort) at L:C`, where there is such a talk
+abbrev pub talk_arm_text : WalkSource_data → Option TalkArm → List ℕ
+talk_arm_text source None = []
+talk_arm_text source (Some t) = talk_by_text source.names t.sender t.receiver t.arm ++ at_text (slice_get source.talks t.number)
+
+-- an act of the projection at its state, by the first talk for which the state stands and that has the act's label
+abbrev pub passed_text : WalkSource_data → ℕ → Label → List ℕ
+passed_text source above label = talk_arm_text source (first_talk source.protocol.nodes label (talks_of source above))
+
+-- these talks, each with its position; where there is none the protocol has come to its end
+abbrev pub talks_text : WalkSource_data → List ℕ → List ℕ
+talks_text source [] = codes "the end"
+talks_text source (n ∷ later) = with_commas (placed_talk_text source.names source.protocol.nodes source.talks) (n ∷ later)

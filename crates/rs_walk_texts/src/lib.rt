@@ -1,0 +1,22 @@
+//! How a machine's walk beside its projection is written: its acts, what it owes, and why it can't go on.
+#![tactic(auto)]
+
+mod acts;
+mod alike;
+mod heads;
+mod nearness;
+mod passed;
+mod positions;
+mod sources;
+mod stops;
+mod talks;
+mod walks;
+
+pub use acts::{push_act, push_acts, push_maybe_act, push_owed_line};
+pub use heads::{act_by, push_head, push_placed_head};
+pub use nearness::is_near;
+pub use positions::{push_at, push_position};
+pub use sources::{SpotRef, WalkSource};
+pub use stops::push_stop;
+pub use talks::{push_placed_talk, push_talk, push_talk_by};
+pub use walks::{push_steps, push_walk, spot_behind};

@@ -1,0 +1,52 @@
+//! Names that are near each other, so that the one may be meant for the other.
+ghost use Rattle.std.specs.Prelude.{◌≡◌, ◌↔◌, ◌&&◌, IsTrue, length, nat_lt};
+ghost use Rattle.std.specs.Str.{bytes_eq};
+ghost use Rattle.rs_walk_texts.specs.Nearness as spec;
+
+/// Whether the names differ, and are the same but for the case of their letters or, where one of them has three bytes at
+/// least, differ by one byte.
+pub fn is_near(one: &[u8], other: &[u8]) -> bool
+    ensures test { result ≡ spec.is_near one.now other.now }
+    ensures told { IsTrue result ↔ spec.IsNear one.now other.now }
+{
+    if are_same(one, other) {
+        return false;
+    }
+    if one.eq_ignore_ascii_case(other) {
+        return true;
+    }
+    if are_short(one, other) {
+        return false;
+    }
+    differ_by_one(one, other)
+}
+
+// Whether both names have fewer than three bytes.
+fn are_short(one: &[u8], other: &[u8]) -> bool
+    ensures { result ≡ (nat_lt (length one.now) 3 && nat_lt (length other.now) 3) }
+{
+    one.len() < 3 && other.len() < 3
+}
+
+fn are_same(one: &[u8], other: &[u8]) -> bool
+    ensures { result ≡ bytes_eq one.now other.now }
+{
+    one == other
+}
+
+// Whether the rests from the first difference on differ by one byte.
+fn differ_by_one(one: &[u8], other: &[u8]) -> bool
+    ensures { result ≡ spec.differ_by_one one.now other.now }
+{
+    match (one, other) {
+        ([], []) => false,
+        ([], [_, rest @ ..]) => rest.is_empty(),
+        ([_, rest @ ..], []) => rest.is_empty(),
+        ([first, ours @ ..], [second, theirs @ ..]) => {
+            if first == second {
+                return differ_by_one(ours, theirs);
+            }
+            are_same(ours, theirs) || are_same(ours, other) || are_same(one, theirs)
+        }
+    }
+}

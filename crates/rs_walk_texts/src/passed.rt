@@ -1,0 +1,140 @@
+//! The talks that a state of a projection stands for, and what they say of one of its acts.
+
+ghost use Rattle.std.specs.Prelude.{◌≡◌, ◌++◌, OnOk, slice_get};
+ghost use Rattle.std.specs.List.{flat_map};
+ghost use Rattle.rs_walk_texts.specs.Heads.{behind_comma, placed_talk_text};
+ghost use Rattle.rs_walk_texts.specs.Passed as spec;
+
+use crate::positions::{position_of, push_at};
+use crate::sources::WalkSource;
+use crate::talks::{push_placed_talk, push_talk_by};
+use rs_derive::arm_of;
+use rs_model::{Arm, Label, NoMemory, Node, Role};
+use rs_text::Text;
+
+/// A talk by one of its arms, and the number of its node.
+#[derive(Clone, Copy, Debug)]
+pub(crate) struct TalkArm {
+    pub number: u32,
+    pub sender: Role,
+    pub receiver: Role,
+    pub arm: Arm,
+}
+
+/// The talks for which the state of the projection stands.
+pub(crate) fn talks_of<'a>(source: &WalkSource<'a>, above: u32) -> &'a [u32]
+    ensures { result.now ≡ spec.talks_of source.now above }
+{
+    let projection = source.projection;
+    match projection.sets.get(above as usize) {
+        Some(set) => set.as_slice(),
+        None => &[],
+    }
+}
+
+// What stands at the node by its arm with the label, where it is a talk that has one.
+fn talk_with(number: u32, label: Label, node: &Node) -> Option<TalkArm>
+    ensures { result ≡ spec.talk_with number label (Some node.now) }
+{
+    match node {
+        Node::Finished => None,
+        Node::Talk {
+            sender,
+            receiver,
+            arms,
+        } => {
+            let arm = arm_of(arms.as_slice(), label)?;
+            Some(TalkArm {
+                number,
+                sender: *sender,
+                receiver: *receiver,
+                arm,
+            })
+        }
+    }
+}
+
+fn talk_at(nodes: &[Node], label: Label, number: u32) -> Option<TalkArm>
+    ensures { result ≡ spec.talk_with number label (slice_get nodes.now number) }
+{
+    match nodes.get(number as usize) {
+        Some(node) => talk_with(number, label, node),
+        None => None,
+    }
+}
+
+// The first of these talks that has an arm with the label, by that arm.
+fn first_talk(nodes: &[Node], label: Label, numbers: &[u32]) -> Option<TalkArm>
+    ensures { result ≡ spec.first_talk nodes.now label numbers.now }
+{
+    for number in numbers {
+        let found = talk_at(nodes, label, *number);
+        if found.is_some() {
+            return found;
+        }
+    }
+    None
+}
+
+fn push_talk_arm(
+    text: &mut Text,
+    source: &WalkSource,
+    talk: Option<TalkArm>,
+) -> Result<(), NoMemory>
+    ensures { OnOk result (text.new ≡ text.old ++ spec.talk_arm_text source.now talk) }
+{
+    let Some(talk) = talk else {
+        return Ok(());
+    };
+    push_talk_by(text, source.names, talk.sender, talk.receiver, talk.arm)?;
+    push_at(text, position_of(source.talks, talk.number))
+}
+
+/// Writes an act of the projection at its state as `A->B:x(sort) at L:C`, by the first talk for which the state stands and
+/// that has the act's label.
+pub(crate) fn push_passed(
+    text: &mut Text,
+    source: &WalkSource,
+    above: u32,
+    label: Label,
+) -> Result<(), NoMemory>
+    ensures { OnOk result (text.new ≡ text.old ++ spec.passed_text source.now above label) }
+{
+    let protocol = source.protocol;
+    let talk = first_talk(&protocol.nodes, label, talks_of(source, above));
+    push_talk_arm(text, source, talk)
+}
+
+/// Writes these talks, each with its position, or that the protocol has come to its end.
+pub(crate) fn push_talks(
+    text: &mut Text,
+    source: &WalkSource,
+    numbers: &[u32],
+) -> Result<(), NoMemory>
+    ensures { OnOk result (text.new ≡ text.old ++ spec.talks_text source.now numbers.now) }
+{
+    match numbers {
+        [] => text.push(b"the end"),
+        [first, later @ ..] => {
+            push_talk_of_walk(text, source, *first)?;
+            push_later_talks(text, source, later)
+        }
+    }
+}
+
+fn push_talk_of_walk(text: &mut Text, source: &WalkSource, number: u32) -> Result<(), NoMemory>
+    ensures { OnOk result (text.new ≡ text.old ++ placed_talk_text source.now.names source.now.protocol.nodes source.now.talks number) }
+{
+    let protocol = source.protocol;
+    push_placed_talk(text, source.names, &protocol.nodes, source.talks, number)
+}
+
+fn push_later_talks(text: &mut Text, source: &WalkSource, numbers: &[u32]) -> Result<(), NoMemory>
+    ensures { OnOk result (text.new ≡ text.old ++ flat_map (behind_comma (placed_talk_text source.now.names source.now.protocol.nodes source.now.talks)) numbers.now) }
+{
+    for number in numbers {
+        text.push(b", ")?;
+        push_talk_of_walk(text, source, *number)?;
+    }
+    Ok(())
+}

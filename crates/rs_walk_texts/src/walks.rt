@@ -1,0 +1,199 @@
+//! How a walk of a machine beside its projection is told: a line for each step.
+
+ghost use Rattle.std.specs.Prelude.{◌≡◌, ◌++◌, OnOk, slice_get};
+ghost use Rattle.rs_derive.specs.Rules.{arms_of};
+ghost use Rattle.rs_walk_texts.specs.Walks as spec;
+
+use crate::acts::{push_maybe_act, push_role};
+use crate::heads::act_by;
+use crate::passed::push_passed;
+use crate::positions::{position_of, push_at};
+use crate::sources::{SpotRef, WalkSource};
+use rs_derive::{Rule, arms_at, rule_at};
+use rs_explain::WalkStep;
+use rs_model::{Act, Arm, NoMemory, State};
+use rs_prefix::Pending;
+use rs_text::Text;
+use std::alloc::Global;
+
+// The rule that applies at the spot.
+fn rule_of(source: &WalkSource, spot: &SpotRef) -> Option<Rule>
+    ensures { result ≡ spec.rule_of source.now spot.now }
+{
+    let machine = source.machine;
+    let projection = source.projection;
+    let state = machine.states.get(spot.state as usize)?;
+    let there = projection.machine.states.get(spot.above as usize)?;
+    rule_at(spot.pending, state, there)
+}
+
+/// The arm at the place of the state with that number.
+pub(crate) fn arm_at(states: &[State], number: u32, place: usize) -> Option<Arm>
+    ensures { result ≡ slice_get (arms_of (slice_get states.now number)) place }
+{
+    let state = states.get(number as usize)?;
+    arms_at(state).get(place).copied()
+}
+
+/// The act of the state with that number by the arm.
+pub(crate) fn act_of(states: &[State], number: u32, arm: Option<Arm>) -> Option<Act>
+    ensures { result ≡ spec.act_of (slice_get states.now number) arm }
+{
+    let state = states.get(number as usize)?;
+    act_by(state, arm?)
+}
+
+// The machine's act by its arm, with the position of its state.
+fn push_own(text: &mut Text, source: &WalkSource, spot: &SpotRef, arm: Arm) -> Result<(), NoMemory>
+    ensures { OnOk result (text.new ≡ text.old ++ spec.own_text source.now spot.now (Some arm)) }
+{
+    let machine = source.machine;
+    let act = act_of(&machine.states, spot.state, Some(arm));
+    push_maybe_act(text, source.names, act)?;
+    push_at(text, position_of(source.states, spot.state))
+}
+
+// Both send, the machine by that arm of its own.
+fn push_both(
+    text: &mut Text,
+    source: &WalkSource,
+    spot: &SpotRef,
+    arm: Option<Arm>,
+) -> Result<(), NoMemory>
+    ensures { OnOk result (text.new ≡ text.old ++ spec.both_text source.now spot.now arm) }
+{
+    let Some(arm) = arm else {
+        return Ok(());
+    };
+    push_own(text, source, spot, arm)?;
+    text.push(b", as ")?;
+    push_passed(text, source, spot.above, arm.label)
+}
+
+// The machine passes the act of the projection by that arm.
+fn push_due(
+    text: &mut Text,
+    source: &WalkSource,
+    spot: &SpotRef,
+    arm: Option<Arm>,
+) -> Result<(), NoMemory>
+    ensures { OnOk result (text.new ≡ text.old ++ spec.due_text source.now spot.now arm) }
+{
+    let Some(arm) = arm else {
+        return Ok(());
+    };
+    text.push(b"due: ")?;
+    push_passed(text, source, spot.above, arm.label)
+}
+
+// What is done at the spot by the rule, by the arm at the place.
+fn push_deed(
+    text: &mut Text,
+    source: &WalkSource,
+    spot: &SpotRef,
+    place: u32,
+    rule: Option<Rule>,
+) -> Result<(), NoMemory>
+    ensures { OnOk result (text.new ≡ text.old ++ spec.deed_text source.now spot.now place rule) }
+{
+    match rule {
+        Some(Rule::Pays { arm, .. }) => { push_own(text, source, spot, arm) }
+        Some(Rule::SendsBoth) => {
+            let machine = source.machine;
+            let arm = arm_at(&machine.states, spot.state, place as usize);
+            push_both(text, source, spot, arm)
+        }
+        Some(Rule::Guesses { .. } | Rule::Follows { .. }) => {
+            let projection = source.projection;
+            let arm = arm_at(&projection.machine.states, spot.above, place as usize);
+            push_due(text, source, spot, arm)
+        }
+        Some(Rule::Stops) | None => Ok(()),
+    }
+}
+
+// What is done at the spot, by the arm at the place.
+fn push_deed_at(
+    text: &mut Text,
+    source: &WalkSource,
+    spot: &SpotRef,
+    place: u32,
+) -> Result<(), NoMemory>
+    ensures { OnOk result (text.new ≡ text.old ++ spec.deed_text source.now spot.now place (spec.rule_of source.now spot.now)) }
+{
+    push_deed(text, source, spot, place, rule_of(source, spot))
+}
+
+// A line: what is done at the spot.
+fn push_step(
+    text: &mut Text,
+    source: &WalkSource,
+    spot: &SpotRef,
+    step: &WalkStep,
+) -> Result<(), NoMemory>
+    ensures { OnOk result (text.new ≡ text.old ++ spec.step_text source.now spot.now step.now) }
+{
+    text.push(b"- ")?;
+    push_deed_at(text, source, spot, step.place)?;
+    text.push(b"\n")
+}
+
+/// Writes a line for each step of a walk that begins at the spot. Refused memory is the only error.
+pub fn push_steps<'a>(
+    text: &mut Text,
+    source: &WalkSource,
+    first: &SpotRef<'a>,
+    steps: &'a [WalkStep],
+) -> Result<(), NoMemory>
+    ensures { OnOk result (text.new ≡ text.old ++ spec.steps_text source.now first.now steps.now) }
+{
+    let mut state = first.state;
+    let mut pending = first.pending;
+    let mut above = first.above;
+    for step in steps {
+        let spot = SpotRef {
+            state,
+            pending,
+            above,
+        };
+        push_step(text, source, &spot, step)?;
+        state = step.state;
+        pending = &step.pending;
+        above = step.above;
+    }
+    Ok(())
+}
+
+/// The spot behind a step.
+pub fn spot_behind(step: &WalkStep) -> SpotRef<'_>
+    ensures { result ≡ step.now.spot }
+{
+    SpotRef {
+        state: step.state,
+        pending: &step.pending,
+        above: step.above,
+    }
+}
+
+/// Writes a walk from the start: a line that leads to the steps, and a line for each step. Refused memory is the only
+/// error.
+pub fn push_walk(
+    alloc: Global,
+    text: &mut Text,
+    source: &WalkSource,
+    steps: &[WalkStep],
+) -> Result<(), NoMemory>
+    ensures { OnOk result (text.new ≡ text.old ++ spec.walk_text source.now steps.now) }
+{
+    let machine = source.machine;
+    let projection = source.projection;
+    push_role(text, source.names, machine.role)?;
+    text.push(b", act by act:\n")?;
+    let pending = Pending::new(alloc);
+    let start = SpotRef {
+        state: machine.start,
+        pending: &pending,
+        above: projection.machine.start,
+    };
+    push_steps(text, source, &start, steps)
+}
