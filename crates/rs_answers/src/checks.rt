@@ -8,7 +8,7 @@ ghost use Rattle.rs_documents.specs.Ready.{DocumentIsReady};
 use crate::answers::Answer;
 use crate::derivations::derived_session;
 use crate::refusals::refusal_answer;
-use crate::report::report;
+use crate::reports::report;
 use crate::shown::show;
 use rs_derive::Derivation;
 use rs_documents::Document;

@@ -14,7 +14,7 @@ mod migrating;
 mod ready;
 mod refusal_texts;
 mod refusals;
-mod report;
+mod reports;
 mod running;
 mod runs;
 mod sessions;
@@ -38,9 +38,10 @@ pub use refusal_texts::{
     answer_to_fault, label_name, line_of_answer, role_name, too_large, too_small, usage,
 };
 pub use refusals::{Refusal, refusal_answer};
+pub use reports::report;
 pub use running::{run_alone, run_by_crew};
 pub use runs::{outcome_answer, ready_run};
-pub use sessions::{ProjectedSession, first_refusal, machines_of, projections_of, session_of};
+pub use sessions::{ProjectedSession, machines_of, projections_of, session_of};
 pub use shown::show;
 pub use tables::project_all;
 pub use texts::Piece;

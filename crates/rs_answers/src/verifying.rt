@@ -15,7 +15,7 @@ ghost use Rattle.rs_answers.specs.Verifying.{AreCheckable, IsCheckable, IsUnveri
 use crate::accepting::{AcceptedDocument, RefusedDocument};
 use crate::answers::Answer;
 use crate::refusals::Refusal;
-use crate::report::report;
+use crate::reports::report;
 use crate::sessions::{ProjectedSession, session_of};
 use rs_derive::{Derivation, DeriveFault, check};
 use rs_documents::Document;

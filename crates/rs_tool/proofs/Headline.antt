@@ -36,6 +36,8 @@ use Rattle.rs_answers.specs.Sessions.{HasMachines}
 use Rattle.rs_model.specs.declared.limits.TheConstants.{DEFAULT_BOUND}
 use Rattle.rs_answers.specs.declared.refusals.Refusal.{Refusal}
 use Rattle.rs_derive.specs.Data.{Derivation_data}
+use Rattle.rs_reasons.specs.Explains.{Explains}
+use Rattle.rs_reasons.proofs.OneExplanation.{explains_as_check}
 use Rattle.rs_model.specs.Data.{Machine_data, Names_data}
 use Rattle.rs_model.specs.Limits.{IsBound}
 use Rattle.rs_project.specs.Data.{Projection_data}
@@ -49,7 +51,7 @@ use Rattle.rs_answers.specs.Runs.{Runs}
 use Rattle.rs_model.specs.declared.runs.RunOptions.{RunOptions}
 use Rattle.rs_model.specs.declared.runs.Workers.{Workers}
 use Rattle.rs_model.specs.declared.runs.Workers.TheVariants.{One, Several}
-use Rattle.rs_tool.specs.Tasks.{ReadTheInput, ReadsTheInput, SpellsCheck, SpellsImprove, SpellsMigrate, SpellsRun, SpellsVerify}
+use Rattle.rs_tool.specs.Tasks.{ReadTheInput, ReadsTheInput, SpellsCheck, SpellsExplain, SpellsImprove, SpellsMigrate, SpellsRun, SpellsVerify}
 use Rattle.rs_words.specs.Meaning.{SpellsTask}
 use Rattle.rs_words.proofs.Exact.{words_spell_one_task}
 use Rattle.rs_words.proofs.Ranges.{spelt_numbers_are_in_range}
@@ -108,6 +110,12 @@ checked_is_safe : (bound : ℕ) (asked : Bool) (bytes : List ℕ) (d : Document_
 checked_is_safe bound asked bytes d a doc (checks.IsRefused r h is) run = absurd (no_run a _ is (refusal_is_no_run d.names r) run)
 checked_is_safe bound asked bytes d a doc (checks.IsAccepted projections machines derivations h found is) run = derived_is_safe bound bytes d projections machines derivations doc h found
 
+-- `explain` answers with the status of `check`
+explained_is_safe : (bound : ℕ) (bytes : List ℕ) (d : Document_data) (a : Answer_data) → SpellsDocument bytes d → Explains bound bytes d a → IsOfRun (status_of a.verdict) → SpellsSafeMachines bytes
+explained_is_safe bound bytes d a doc h run =
+    let c = explains_as_check bound bytes d a h in
+    checked_is_safe bound false bytes d c.checked doc c.checks (subst (λ (v : Verdict). IsOfRun (status_of v)) c.verdict run)
+
 run_is_safe : (options : RunOptions) (bytes : List ℕ) (d : Document_data) (a : Answer_data) → SpellsDocument bytes d → Runs options d a → IsOfRun (status_of a.verdict) → SpellsSafeMachines bytes
 run_is_safe options bytes d a doc (runs.IsRefused r h is) run = absurd (no_run a _ is (refusal_is_no_run d.names r) run)
 run_is_safe options bytes d a doc (runs.IsRun projections machines derivations h found tells) run = derived_is_safe options.bound bytes d projections machines derivations doc h found
@@ -150,7 +158,7 @@ migrate_is_safe bytes d a doc (migrating.IsMigrated ps ms h shows) run = own_is_
 
 -- what a task answers to a document tells that its machines are safe
 abbrev TellsSafe : DocumentTask → List ℕ → Answer_data → Type 0
-TellsSafe t bytes a = (d : Document_data) → SpellsDocument bytes d → AnswersDocument t d a → IsOfRun (status_of a.verdict) → SpellsSafeMachines bytes
+TellsSafe t bytes a = (d : Document_data) → SpellsDocument bytes d → AnswersDocument t bytes d a → IsOfRun (status_of a.verdict) → SpellsSafeMachines bytes
 
 text_is_safe : (t : DocumentTask) (bytes : List ℕ) (a : Answer_data) → TellsSafe t bytes a → AnswersText t bytes a → IsOfRun (status_of a.verdict) → SpellsSafeMachines bytes
 text_is_safe t bytes a safe (IsDocument short d h answers) run = safe d h answers run
@@ -161,6 +169,9 @@ text_is_safe t bytes a safe (IsFaulty short k at h is) run = absurd (no_run a _ 
 checks_safely : (bound : ℕ) (asked : Bool) (bytes : List ℕ) (a : Answer_data) → AnswersText (on_document.Check (record { bound = bound; derivations = asked })) bytes a → IsOfRun (status_of a.verdict)
     → SpellsSafeMachines bytes
 checks_safely bound asked bytes a h run = text_is_safe (on_document.Check (record { bound = bound; derivations = asked })) bytes a (λ d doc k is. checked_is_safe bound asked bytes d a doc k is) h run
+
+explains_safely : (bound : ℕ) (bytes : List ℕ) (a : Answer_data) → AnswersText (on_document.Explain bound) bytes a → IsOfRun (status_of a.verdict) → SpellsSafeMachines bytes
+explains_safely bound bytes a h run = text_is_safe (on_document.Explain bound) bytes a (λ d doc k is. explained_is_safe bound bytes d a doc k is) h run
 
 verifies_safely : (bytes : List ℕ) (a : Answer_data) → AnswersText on_document.Verify bytes a → IsOfRun (status_of a.verdict) → SpellsSafeMachines bytes
 verifies_safely bytes a h run = text_is_safe on_document.Verify bytes a (λ d doc k is. verify_is_safe bytes d a doc k is) h run
@@ -232,6 +243,11 @@ module _ {S K : Type 0} (call : Call S K) (reply : Reply) (ends : Ends call repl
   fine_is_safe bound check = if_told call.input.left _ _ (λ bytes told fine.
       let is = told_is_run call.words (task.OnDocument (on_document.Check (record { bound = bound; derivations = check.0 }))) bytes call.output reply check.1 told (fine_is_run reply.status fine) in
       checks_safely bound check.0 bytes is.0 is.1 is.2) ends.answer.told
+
+  pub explained_is_fine : (bound : ℕ) → SpellsExplain call.words bound → IfSome call.input.left (λ bytes. reply.status ≡ status.Fine → SpellsSafeMachines bytes)
+  explained_is_fine bound spells = if_told call.input.left _ _ (λ bytes told fine.
+      let is = told_is_run call.words (task.OnDocument (on_document.Explain bound)) bytes call.output reply spells told (fine_is_run reply.status fine) in
+      explains_safely bound bytes is.0 is.1 is.2) ends.answer.told
 
   pub verified_is_safe : SpellsVerify call.words → IfSome call.input.left (λ bytes. reply.status ≡ status.Fine → SpellsSafeMachines bytes)
   verified_is_safe spells = if_told call.input.left _ _ (λ bytes told fine.

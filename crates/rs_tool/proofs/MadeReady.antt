@@ -70,19 +70,19 @@ fault_alone t bytes f a h given same none = (
 
 -- it spells a document, and nothing is run
 pub document_alone : (t : DocumentTask) (bytes : List ℕ) (d : Document_data) (a : Answer_data) → length bytes ≤ MOST_BYTES → SpellsDocument bytes d → (RunsASession (task.OnDocument t) → ⊥)
-    → AnswersDocument t d a
+    → AnswersDocument t bytes d a
     → HoldsAlone (Gives (task.OnDocument t) bytes) a
 document_alone t bytes d a short doc never h given same none =
-    (IsDocument short d doc (subst (AnswersDocument t d) (sym same) h), not_there _ _ given.closed none (λ due. never due.0))
+    (IsDocument short d doc (subst (AnswersDocument t bytes d) (sym same) h), not_there _ _ given.closed none (λ due. never due.0))
 
 -- what was answered to a document, and is given alone, leads to what is due
 pub document_leads : (t u : DocumentTask) (bytes : List ℕ) (d : Document_data) (r : Result Answer_data NoMemory) (s : Result Prepared NoMemory) → t ≡ u → length bytes ≤ MOST_BYTES
     → SpellsDocument bytes d
-    → (RunsASession (task.OnDocument u) → ⊥) → IfOk s (λ p. (a : Answer_data) × (r ≡ Ok a) × (p ≡ Answered a)) → IfOk r (AnswersDocument u d)
+    → (RunsASession (task.OnDocument u) → ⊥) → IfOk s (λ p. (a : Answer_data) × (r ≡ Ok a) × (p ≡ Answered a)) → IfOk r (AnswersDocument u bytes d)
     → IfOk s (λ p. Warrants (workers_of (task.OnDocument t)) p (Gives (task.OnDocument t) bytes))
 document_leads t u bytes d r s e short doc never made h =
     subst (λ (x : DocumentTask). IfOk s (λ p. Warrants (workers_of (task.OnDocument x)) p (Gives (task.OnDocument x) bytes))) (sym e)
-    (made_leads (workers_of (task.OnDocument u)) (AnswersDocument u d) (Gives (task.OnDocument u) bytes) r s made h (λ a k. document_alone u bytes d a short doc never k))
+    (made_leads (workers_of (task.OnDocument u)) (AnswersDocument u bytes d) (Gives (task.OnDocument u) bytes) r s made h (λ a k. document_alone u bytes d a short doc never k))
 
 -- a session that is run on a document leads to what is due
 pub run_gives : (options : RunOptions) (workers : Workers) (bytes : List ℕ) (d : Document_data) (g : AnswerWithSession) → length bytes ≤ MOST_BYTES → SpellsDocument bytes d

@@ -31,6 +31,7 @@ use Rattle.rs_answers.specs.RefusalTexts.{usage, too_large, fault_answer, wf_ans
 use Rattle.rs_answers.specs.Refusals.{IsWithoutSession, HasNoDerivation, refusal_answer}
 use Rattle.rs_answers.specs.Report.{report}
 use Rattle.rs_answers.proofs.OneImproved.{some_improving}
+use Rattle.rs_reasons.proofs.OneExplanation.{some_explaining}
 use Rattle.rs_answers.proofs.PoolAnswers.{some_with}
 use Rattle.rs_answers.specs.Shown.{Shows}
 use Rattle.rs_documents.specs.Canonical.{derivations_text}
@@ -45,27 +46,27 @@ use Rattle.rs_answers.specs.Verifying.{HasNone, those_there}
 use Rattle.rs_answers.proofs.Verified.{Fails, Passes, Tested, tested_by}
 use Rattle.rs_answers.proofs.SomeSession.{Decision, AllProject, OneDoesnt, first_ones, Prepared, NotSo, Derived, prepared}
 
-record Some_for (t : DocumentTask) (d : Document_data) : Type 0 where
+record Some_for (t : DocumentTask) (bytes : List ℕ) (d : Document_data) : Type 0 where
   answer : Answer_data
-  answers : AnswersDocument t d answer
+  answers : AnswersDocument t bytes d answer
 
 tested : (d : Document_data) → Prepared 1 d → Tested d
 tested d (NotSo why (IsWithoutSession r h)) = Fails r (HasNone r h)
 tested d (NotSo why (HasNoDerivation ps ms h role fault u)) = tested_by d ps ms h
 tested d (Derived ps ms ds h found) = tested_by d ps ms h
 
-verified : (d : Document_data) → Tested d → Some_for on_document.Verify d
-verified d (Fails why h) = record { answer = refusal_answer d.names why; answers = verifying.IsRefused why h refl }
-verified d (Passes ps ms h) = record { answer = report d.names.roles (those_there d.derivations); answers = verifying.IsReported ps ms h refl }
+verified : (bytes : List ℕ) (d : Document_data) → Tested d → Some_for on_document.Verify bytes d
+verified bytes d (Fails why h) = record { answer = refusal_answer d.names why; answers = verifying.IsRefused why h refl }
+verified bytes d (Passes ps ms h) = record { answer = report d.names.roles (those_there d.derivations); answers = verifying.IsReported ps ms h refl }
 
-tabled : (d : Document_data) → first_fault d.protocol ≡ None → Decision d.protocol d.protocol.roles → Some_for on_document.Project d
-tabled d none (OneDoesnt role fault h) = record { answer = proj_answer d.names fault; answers = tables.HasNoProjection none role fault h refl }
-tabled d none (AllProject projections h) =
+tabled : (bytes : List ℕ) (d : Document_data) → first_fault d.protocol ≡ None → Decision d.protocol d.protocol.roles → Some_for on_document.Project bytes d
+tabled bytes d none (OneDoesnt role fault h) = record { answer = proj_answer d.names fault; answers = tables.HasNoProjection none role fault h refl }
+tabled bytes d none (AllProject projections h) =
     record { answer = record { text = tables_text d.names projections; verdict = Fine }; answers = tables.HasTables projections (record { well_formed = none; projected = h }) refl }
 
-some_tables : (d : Document_data) → (o : Option WfFault) → first_fault d.protocol ≡ o → Some_for on_document.Project d
-some_tables d (Some f) e = record { answer = wf_answer d.names f; answers = tables.IsIllFormed f e refl }
-some_tables d None e = tabled d e (first_ones d.protocol (no_fault d.protocol e) d.protocol.roles (omega arith))
+some_tables : (bytes : List ℕ) (d : Document_data) → (o : Option WfFault) → first_fault d.protocol ≡ o → Some_for on_document.Project bytes d
+some_tables bytes d (Some f) e = record { answer = wf_answer d.names f; answers = tables.IsIllFormed f e refl }
+some_tables bytes d None e = tabled bytes d e (first_ones d.protocol (no_fault d.protocol e) d.protocol.roles (omega arith))
 
 shown_with : (bytes : List ℕ) (d : Document_data) (derivations : List (Option Derivation_data)) → SpellsDocument bytes d → (a : Answer_data) × Shows (record d { derivations = derivations }) a
 shown_with bytes d derivations h =
@@ -80,10 +81,10 @@ shown_with bytes d derivations h =
       },
     )
 
-shown : (bytes : List ℕ) (d : Document_data) → SpellsDocument bytes d → Some_for on_document.Show d
+shown : (bytes : List ℕ) (d : Document_data) → SpellsDocument bytes d → Some_for on_document.Show bytes d
 shown bytes d h = let s = shown_with bytes d d.derivations h in record { answer = s.0; answers = s.1 }
 
-migrated : (bytes : List ℕ) (d : Document_data) → SpellsDocument bytes d → Tested d → Some_for on_document.Migrate d
+migrated : (bytes : List ℕ) (d : Document_data) → SpellsDocument bytes d → Tested d → Some_for on_document.Migrate bytes d
 migrated bytes d doc (Fails why h) = record { answer = refusal_answer d.names why; answers = migrating.IsRefused why h refl }
 migrated bytes d doc (Passes ps ms h) = let s = shown bytes d doc in record { answer = s.answer; answers = migrating.IsMigrated ps ms h s.answers }
 
@@ -93,21 +94,24 @@ pub some_telling : (asked : Bool) (bytes : List ℕ) (d : Document_data) (deriva
 some_telling false bytes d derivations doc = (report d.names.roles derivations, refl, refl)
 some_telling true bytes d derivations doc = let s = shown_with bytes d (map Some derivations) doc in (s.0, s.1, s.1.fine)
 
-checked : (bound : ℕ) (asked : Bool) (bytes : List ℕ) (d : Document_data) → SpellsDocument bytes d → Prepared bound d → Some_for (on_document.Check (record { bound = bound; derivations = asked })) d
+checked : (bound : ℕ) (asked : Bool) (bytes : List ℕ) (d : Document_data) → SpellsDocument bytes d → Prepared bound d → Some_for (on_document.Check (record { bound = bound; derivations = asked })) bytes d
 checked bound asked bytes d doc (NotSo why h) = record { answer = refusal_answer d.names why; answers = checks.IsRefused why h refl }
 checked bound asked bytes d doc (Derived projections machines derivations h found) =
     let t = some_telling asked bytes d derivations doc in
     record { answer = t.0; answers = checks.IsAccepted projections machines derivations h found t.1 }
 
-document_answer : (t : DocumentTask) (bytes : List ℕ) (d : Document_data) → SpellsDocument bytes d → Some_for t d
+document_answer : (t : DocumentTask) (bytes : List ℕ) (d : Document_data) → SpellsDocument bytes d → Some_for t bytes d
 document_answer (on_document.Check options) bytes d h = checked options.bound options.derivations bytes d h (prepared options.bound bytes d h (first_fault d.protocol) refl)
-document_answer on_document.Verify bytes d h = verified d (tested d (prepared 1 bytes d h (first_fault d.protocol) refl))
+document_answer on_document.Verify bytes d h = verified bytes d (tested d (prepared 1 bytes d h (first_fault d.protocol) refl))
 document_answer on_document.Migrate bytes d h = migrated bytes d h (tested d (prepared 1 bytes d h (first_fault d.protocol) refl))
 document_answer (on_document.Improve options) bytes d h =
     let a = some_improving options.role options.bound options.swaps bytes d h in
     record { answer = a.0; answers = a.1 }
+document_answer (on_document.Explain bound) bytes d h =
+    let a = some_explaining bound bytes d h in
+    record { answer = a.0; answers = a.1 }
 document_answer on_document.Show bytes d h = shown bytes d h
-document_answer on_document.Project bytes d h = some_tables d (first_fault d.protocol) refl
+document_answer on_document.Project bytes d h = some_tables bytes d (first_fault d.protocol) refl
 document_answer (on_document.Run options workers) bytes d h =
     let r = some_with workers options bytes d h (prepared options.bound bytes d h (first_fault d.protocol) refl) in
     record { answer = r.0; answers = r.1 }

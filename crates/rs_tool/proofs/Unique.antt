@@ -13,6 +13,7 @@ use Rattle.rs_wellformed.proofs.Faults.{no_fault}
 use Rattle.rs_answers.specs.declared.verdicts.Verdict.TheVariants.{Fine, Stopped}
 use Rattle.rs_answers.proofs.OneDemo.{one_demo}
 use Rattle.rs_answers.proofs.OneImproved.{one_improving}
+use Rattle.rs_reasons.proofs.OneExplanation.{one_explaining}
 use Rattle.rs_words.specs.declared.tasks.DocumentTask.{DocumentTask}
 use Rattle.rs_words.specs.declared.tasks.DocumentTask.TheVariants as on_document
 use Rattle.rs_words.specs.declared.tasks.Task.{Task}
@@ -117,12 +118,13 @@ one_with options (Several n) bytes d a b doc h k = elim (one_by_workers options 
 abbrev workers_on : DocumentTask → Workers
 workers_on t = workers_of (task.OnDocument t)
 
-one_of_document : (t : DocumentTask) (bytes : List ℕ) (d : Document_data) (a b : Answer_data) → SpellsDocument bytes d → AnswersDocument t d a → AnswersDocument t d b → AreOne (workers_on t) a b
+one_of_document : (t : DocumentTask) (bytes : List ℕ) (d : Document_data) (a b : Answer_data) → SpellsDocument bytes d → AnswersDocument t bytes d a → AnswersDocument t bytes d b → AreOne (workers_on t) a b
 one_of_document (on_document.Check options) bytes d a b doc h k = inl (one_check options.bound options.derivations bytes d a b doc h k)
 one_of_document on_document.Verify bytes d a b doc h k = inl (one_verifying d a b h k)
 one_of_document on_document.Migrate bytes d a b doc h k = inl (one_migrating bytes d a b doc h k)
 one_of_document (on_document.Run options workers) bytes d a b doc h k = one_with options workers bytes d a b doc h k
 one_of_document (on_document.Improve options) bytes d a b doc h k = inl (one_improving options.role options.bound options.swaps bytes d a b doc h k)
+one_of_document (on_document.Explain bound) bytes d a b doc h k = inl (one_explaining bound bytes d a b doc h k)
 one_of_document on_document.Show bytes d a b doc h k = inl (one_show bytes d a b doc h k)
 one_of_document on_document.Project bytes d a b doc h k = inl (one_tables d a b h k)
 
@@ -139,7 +141,7 @@ one_text t bytes a b (IsDocument s d h x) (IsTooLong m y) = absurd (short_and_lo
 one_text t bytes a b (IsDocument s d h x) (IsFaulty r k at g y) = absurd (no_text_fault bytes d k at h g)
 one_text t bytes a b (IsDocument s d h x) (IsDocument r e g y) =
     let is = one_document bytes d e h g in
-    one_of_document t bytes e a b g (subst (λ (z : Document_data). AnswersDocument t z a) is x) y
+    one_of_document t bytes e a b g (subst (λ (z : Document_data). AnswersDocument t bytes z a) is x) y
 
 one_pipeline : (number : ℕ) (a b : Answer_data) → AnswersPipeline number a → AnswersPipeline number b → a ≡ b
 one_pipeline number a b h k =

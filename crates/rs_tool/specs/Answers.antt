@@ -15,6 +15,7 @@ use Rattle.rs_documents.specs.Documents.{FirstFault, SpellsDocument}
 use Rattle.rs_model.specs.declared.demos.Demo.{Demo}
 use Rattle.rs_model.specs.declared.limits.TheConstants.{DEFAULT_BOUND, MOST_BYTES}
 use Rattle.rs_tool.specs.Pipelines.{pipeline_text, pipeline_of, pipeline_summary}
+use Rattle.rs_reasons.specs.Explains.{Explains}
 use Rattle.rs_text.specs.declared.faults.TextKind.{TextKind}
 use Rattle.rs_words.specs.Meaning.{IsMeaning, SpellsTask}
 use Rattle.rs_words.specs.declared.tasks.DocumentTask.{DocumentTask}
@@ -22,15 +23,16 @@ use Rattle.rs_words.specs.declared.tasks.DocumentTask.TheVariants as on_document
 use Rattle.rs_words.specs.declared.tasks.Task.{Task}
 use Rattle.rs_words.specs.declared.tasks.Task.TheVariants as task
 
--- the answer of the task to a document
-abbrev pub AnswersDocument : DocumentTask → Document_data → Answer_data → Type 0
-AnswersDocument (on_document.Check options) d answer = Checks options.bound options.derivations d answer
-AnswersDocument on_document.Verify d answer = Verifies d answer
-AnswersDocument on_document.Migrate d answer = Migrates d answer
-AnswersDocument on_document.Show d answer = Shows d answer
-AnswersDocument on_document.Project d answer = Projects d answer
-AnswersDocument (on_document.Run options workers) d answer = RunsWith workers options d answer
-AnswersDocument (on_document.Improve options) d answer = Improves options.role options.bound options.swaps d answer
+-- the answer of the task to bytes that spell this document
+abbrev pub AnswersDocument : DocumentTask → List ℕ → Document_data → Answer_data → Type 0
+AnswersDocument (on_document.Check options) bytes d answer = Checks options.bound options.derivations d answer
+AnswersDocument on_document.Verify bytes d answer = Verifies d answer
+AnswersDocument on_document.Migrate bytes d answer = Migrates d answer
+AnswersDocument on_document.Show bytes d answer = Shows d answer
+AnswersDocument on_document.Project bytes d answer = Projects d answer
+AnswersDocument (on_document.Run options workers) bytes d answer = RunsWith workers options d answer
+AnswersDocument (on_document.Improve options) bytes d answer = Improves options.role options.bound options.swaps d answer
+AnswersDocument (on_document.Explain bound) bytes d answer = Explains bound bytes d answer
 
 -- the answer of the task to a text
 pub data AnswersText (spelt : DocumentTask) (bytes : List ℕ) (answer : Answer_data) : Type 0 where
@@ -40,7 +42,7 @@ pub data AnswersText (spelt : DocumentTask) (bytes : List ℕ) (answer : Answer_
   IsFaulty : length bytes ≤ MOST_BYTES → (kind : TextKind) (at : ℕ) → FirstFault bytes kind at → answer ≡ fault_answer bytes kind at
       → AnswersText spelt bytes answer
   -- it spells a document
-  IsDocument : length bytes ≤ MOST_BYTES → (d : Document_data) → SpellsDocument bytes d → AnswersDocument spelt d answer
+  IsDocument : length bytes ≤ MOST_BYTES → (d : Document_data) → SpellsDocument bytes d → AnswersDocument spelt bytes d answer
       → AnswersText spelt bytes answer
 
 -- the answer of a demo to the input's data: how many workers run it changes nothing of the answer

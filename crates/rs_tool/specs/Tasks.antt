@@ -28,6 +28,10 @@ AskForWorkers words = (spelt : Task) × (crew : ℕ) × SpellsTask words spelt �
 abbrev pub SpellsCheck : List (List ℕ) → ℕ → Type 0
 SpellsCheck words bound = (derivations : Bool) × SpellsTask words (task.OnDocument (on_document.Check (record { bound = bound; derivations = derivations })))
 
+-- the words are those of an `explain` within this bound
+abbrev pub SpellsExplain : List (List ℕ) → ℕ → Type 0
+SpellsExplain words bound = SpellsTask words (task.OnDocument (on_document.Explain bound))
+
 -- the words are those of `verify`
 abbrev pub SpellsVerify : List (List ℕ) → Type 0
 SpellsVerify words = SpellsTask words (task.OnDocument on_document.Verify)

@@ -15,7 +15,7 @@ ghost use Rattle.rs_tool.specs.ImproveHeadline.{WritesSafeMachines};
 ghost use Rattle.rs_tool.specs.Preparing.{AnswersAlone, AnswersTo, Delivers};
 ghost use Rattle.rs_tool.specs.RunHeadline.{IsOfRun};
 ghost use Rattle.rs_tool.specs.Sessions.{HasItsSession};
-ghost use Rattle.rs_tool.specs.Tasks.{SpellsCheck, SpellsDemo, SpellsImprove, SpellsMigrate, SpellsRun, SpellsVerify};
+ghost use Rattle.rs_tool.specs.Tasks.{SpellsCheck, SpellsDemo, SpellsExplain, SpellsImprove, SpellsMigrate, SpellsRun, SpellsVerify};
 ghost use Rattle.rs_words.specs.Meaning.{SpellsTask};
 ghost use Rattle.rs_words.specs.Words.{bytes_of_words};
 
@@ -121,7 +121,7 @@ fn deliver<K: Sink>(given: Result<AnswerWithSession, CallStop>, sink: &mut K) ->
 
 /// Carries out the words, as the program does, without threads.
 ///
-/// `check`, `verify`, `migrate`, `show`, `project`, `run`, `improve` and `demo` read the source to its end and write their answer. The text of an answer is made
+/// `check`, `explain`, `verify`, `migrate`, `show`, `project`, `run`, `improve` and `demo` read the source to its end and write their answer. The text of an answer is made
 /// whole before its first byte is written: with the statuses `ReadFault` and `NoMemory` nothing is written, with `WriteFault`
 /// a first part of the text. `gen` and words that spell no task read nothing. That workers are needed is told exactly where the
 /// words are a `run` or a `demo` by several, and nothing was then read or written; only want of memory goes before it.
@@ -133,6 +133,8 @@ pub fn command_serial<S: Source, K: Sink>(
 ) -> Serial
     ensures ends { EndsAlone (call_of (bytes_of_words words.now) (input_of S.left S.faults S.last source.old source.new) (output_of K.written K.faults K.last sink.old sink.new)) result }
     ensures headline { IfAnswered result (λ reply. (bound : ℕ) → SpellsCheck (bytes_of_words words.now) bound
+        → IfSome (S.left source.old) (λ bytes. reply.status ≡ Status.Fine → SpellsSafeMachines bytes)) }
+    ensures explained { IfAnswered result (λ reply. (bound : ℕ) → SpellsExplain (bytes_of_words words.now) bound
         → IfSome (S.left source.old) (λ bytes. reply.status ≡ Status.Fine → SpellsSafeMachines bytes)) }
     ensures verified { IfAnswered result (λ reply. SpellsVerify (bytes_of_words words.now)
         → IfSome (S.left source.old) (λ bytes. reply.status ≡ Status.Fine → SpellsSafeMachines bytes)) }
@@ -200,6 +202,8 @@ pub fn command<R: Threads + Wait + Sync, S: Source, K: Sink, G: Gate + Sync>(
 ) -> Reply
     ensures ends { Ends (call_of (bytes_of_words words.now) (input_of S.left S.faults S.last source.old source.new) (output_of K.written K.faults K.last sink.old sink.new)) result }
     ensures headline { (bound : ℕ) → SpellsCheck (bytes_of_words words.now) bound
+        → IfSome (S.left source.old) (λ bytes. result.status ≡ Status.Fine → SpellsSafeMachines bytes) }
+    ensures explained { (bound : ℕ) → SpellsExplain (bytes_of_words words.now) bound
         → IfSome (S.left source.old) (λ bytes. result.status ≡ Status.Fine → SpellsSafeMachines bytes) }
     ensures verified { SpellsVerify (bytes_of_words words.now)
         → IfSome (S.left source.old) (λ bytes. result.status ≡ Status.Fine → SpellsSafeMachines bytes) }

@@ -23,6 +23,7 @@ use rs_answers::{
 use rs_documents::read_document;
 use rs_io::{ReadStop, Source, read_all};
 use rs_model::{MOST_BYTES, NoMemory};
+use rs_reasons::explain;
 use rs_words::{DocumentTask, Task};
 use std::alloc::Global;
 
@@ -70,6 +71,9 @@ fn on_text(alloc: Global, task: DocumentTask, bytes: &[u8]) -> Result<Prepared, 
             options.bound,
             options.swaps,
         )),
+        DocumentTask::Explain { bound } => {
+            Prepared::answered(explain(alloc, &document, bytes, bound))
+        }
     }
 }
 

@@ -15,7 +15,7 @@ use Rattle.rs_words.specs.declared.tasks.Task.{Task}
 use Rattle.rs_words.specs.declared.tasks.DocumentTask.TheVariants as on_document
 use Rattle.rs_words.specs.declared.tasks.Task.TheVariants as task
 use Rattle.rs_words.specs.Grammar.{Bytes}
-use Rattle.rs_words.specs.Meaning.{AreWorkers, IsInRange, SpellsTask, bound_of_option, check_task, demo_of_name, demo_task, gen_task, improve_task, limit_in, number_from_to, number_or_else, optional_in, ring_in}
+use Rattle.rs_words.specs.Meaning.{AreWorkers, IsInRange, SpellsTask, bound_of_option, check_task, demo_of_name, demo_task, explain_task, gen_task, improve_task, limit_in, number_from_to, number_or_else, optional_in, ring_in}
 use Rattle.rs_words.specs.Meaning.{run_task, seed_in, swaps_in, task_of, text_of_use, workers_in, workers_of_number}
 
 -- numbers
@@ -101,6 +101,10 @@ gen_is_in : (number : Option Bytes) → IfSome (gen_task number) IsInRange
 gen_is_in None = tt
 gen_is_in (Some text) = map_is_in (IsFromTo 0 MOST_GEN) (λ n. task.Gen n) (number_from_to 0 MOST_GEN text) (number_is_in 0 MOST_GEN text) (λ n h. h)
 
+explain_is_in : (bound : Option Bytes) → IfSome (explain_task bound) IsInRange
+explain_is_in bound = map_is_in (IsFromTo 1 MOST_BOUND) (λ k. task.OnDocument (on_document.Explain k)) (bound_of_option bound)
+    (number_or_is_in DEFAULT_BOUND 1 MOST_BOUND bound (omega arith, omega arith)) (λ k h. h)
+
 either_is_in : (b : Bool) (x y : Option Task) → IfSome x IsInRange → IfSome y IsInRange → IfSome (cond b x y) IsInRange
 either_is_in true x y h k = h
 either_is_in false x y h k = k
@@ -115,7 +119,8 @@ task_is_in name value =
     either_is_in (bytes_eq name (codes "run")) _ _ (run_is_in (value (codes "bound")) (value (codes "ring")) (value (codes "workers")) (value (codes "limit")) (value (codes "seed"))) (
     either_is_in (bytes_eq name (codes "demo")) _ _ (demo_is_in (value (codes "name")) (value (codes "ring")) (value (codes "workers"))) (
     either_is_in (bytes_eq name (codes "gen")) _ _ (gen_is_in (value (codes "number"))) (
-    either_is_in (bytes_eq name (codes "improve")) _ None (improve_is_in (value (codes "role")) (value (codes "swaps")) (value (codes "bound"))) tt))))))))
+    either_is_in (bytes_eq name (codes "improve")) _ _ (improve_is_in (value (codes "role")) (value (codes "swaps")) (value (codes "bound"))) (
+    either_is_in (bytes_eq name (codes "explain")) _ None (explain_is_in (value (codes "bound"))) tt)))))))))
 
 pub spelt_numbers_are_in_range : (words : List Bytes) (t : Task) → SpellsTask words t → IsInRange t
 spelt_numbers_are_in_range words t s = go (task_of s.form.name (λ id. text_of_use id s.uses)) s.task_is (task_is_in s.form.name (λ id. text_of_use id s.uses))

@@ -46,9 +46,13 @@ gen_form = record { name = codes "gen"; choices = []; word = Some (codes "number
 abbrev pub improve_form : Form
 improve_form = record { name = codes "improve"; choices = with_values (codes "swaps" ∷ codes "bound" ∷ []); word = Some (codes "role") }
 
+-- explain [--bound K]
+abbrev pub explain_form : Form
+explain_form = record { name = codes "explain"; choices = with_values (codes "bound" ∷ []); word = None }
+
 -- all commands
 abbrev pub forms : List Form
-forms = check_form ∷ bare_form (codes "verify") ∷ bare_form (codes "migrate") ∷ bare_form (codes "show") ∷ bare_form (codes "project") ∷ run_form ∷ demo_form ∷ gen_form ∷ improve_form ∷ []
+forms = check_form ∷ bare_form (codes "verify") ∷ bare_form (codes "migrate") ∷ bare_form (codes "show") ∷ bare_form (codes "project") ∷ run_form ∷ demo_form ∷ gen_form ∷ improve_form ∷ explain_form ∷ []
 
 -- the bytes begin with `-`
 abbrev pub begins_with_dash : Bytes → Bool

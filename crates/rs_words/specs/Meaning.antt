@@ -92,6 +92,10 @@ improve_task role swaps bound =
     option_and_then (λ r. option_and_then (λ n. option_map (λ k. task.OnDocument (on_document.Improve (record { role = r; bound = k; swaps = n })))
     (bound_of_option bound)) (swaps_in swaps)) role
 
+-- what `explain` asks for, by the text of its bound
+abbrev pub explain_task : Option Bytes → Option Task
+explain_task bound = option_map (λ k. task.OnDocument (on_document.Explain k)) (bound_of_option bound)
+
 -- what `gen` asks for, by the text of its number
 abbrev pub gen_task : Option Bytes → Option Task
 gen_task number = option_map (λ n. task.Gen n) (option_and_then (number_from_to 0 MOST_GEN) number)
@@ -108,6 +112,7 @@ task_of name value =
     else if bytes_eq name (codes "demo") then demo_task (value (codes "name")) (value (codes "ring")) (value (codes "workers"))
     else if bytes_eq name (codes "gen") then gen_task (value (codes "number"))
     else if bytes_eq name (codes "improve") then improve_task (value (codes "role")) (value (codes "swaps")) (value (codes "bound"))
+    else if bytes_eq name (codes "explain") then explain_task (value (codes "bound"))
     else None
 
 -- the words spell the task: a command's name, and behind it uses of what the command takes, whose texts ask for the task
@@ -136,6 +141,7 @@ IsInRange (task.OnDocument (on_document.Check options)) = IsBound options.bound
 IsInRange (task.OnDocument (on_document.Run options workers)) =
     IsBound options.bound × IfSome options.ring IsCapacity × AreWorkers workers × IsFromTo 1 MOST_LIMIT options.limit × IsFromTo 0 MOST_SEED options.seed
 IsInRange (task.OnDocument (on_document.Improve options)) = IsBound options.bound × IsFromTo 1 MOST_SWAPS options.swaps
+IsInRange (task.OnDocument (on_document.Explain bound)) = IsBound bound
 IsInRange (task.OnData demo) = IfSome demo.ring IsCapacity × AreWorkers demo.workers
 IsInRange (task.Gen number) = IsFromTo 0 MOST_GEN number
 IsInRange _ = Unit {0}

@@ -134,6 +134,16 @@ fn improve_task(
     Ok(Some(Task::OnDocument(DocumentTask::Improve(options))))
 }
 
+/// What `explain` asks for, by the text of its bound.
+fn explain_task(alloc: Global, bound: Option<&str>) -> Result<Option<Task>, AllocError>
+    ensures { IfOk result (λ r. r ≡ spec.explain_task (option_map (λ s. s.now) bound.entry)) }
+{
+    let Some(bound) = bound_in(alloc, bound)? else {
+        return Ok(None);
+    };
+    Ok(Some(Task::OnDocument(DocumentTask::Explain { bound })))
+}
+
 /// What `gen` asks for, by the text of its number.
 fn gen_task(alloc: Global, number: Option<&str>) -> Result<Option<Task>, AllocError>
     ensures { IfOk result (λ r. r ≡ spec.gen_task (option_map (λ s. s.now) number.entry)) }
@@ -228,6 +238,8 @@ fn task_of(alloc: Global, name: &str, found: &ArgMatches<'_>) -> Result<Option<T
         Ok(gen_task(alloc, text_found(found, "number"))?)
     } else if name == "improve" {
         improve_task_in(alloc, found)
+    } else if name == "explain" {
+        Ok(explain_task(alloc, text_found(found, "bound"))?)
     } else {
         Ok(None)
     }

@@ -41,6 +41,11 @@ pub enum DocumentTask {
     },
     /// The machine of one role is improved, and the document is printed with derivations of all machines.
     Improve(ImproveOptions),
+    /// It is checked; where it is refused, more lines tell why.
+    Explain {
+        /// The bound of the search for derivations.
+        bound: Bound,
+    },
 }
 
 /// How a document is checked.

@@ -78,3 +78,8 @@ pub returns-in-Improve : goal.returns-in-Improve
 returns-in-Improve c =
     document_leads c.args.task (on_document.Improve c.in-Improve.options) c.args.bytes.now c.in-Ok.document c.improve_role.result c.answered-in-Improve.result c.in-Improve.is c.requires.short c.in-Ok.ensures.ok
     (λ h. h) c.answered-in-Improve.ensures c.improve_role.ensures
+
+pub returns-in-Explain : goal.returns-in-Explain
+returns-in-Explain c =
+    document_leads c.args.task (on_document.Explain c.in-Explain.bound) c.args.bytes.now c.in-Ok.document c.explain.result c.answered-in-Explain.result c.in-Explain.is c.requires.short c.in-Ok.ensures.ok (λ h. h)
+    c.answered-in-Explain.ensures c.explain.ensures

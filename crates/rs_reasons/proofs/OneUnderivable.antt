@@ -1,0 +1,51 @@
+-- One is told of a machine of which no derivation is found.
+use Rattle.std.proofs.Common.{◌≡◌, ◌++◌, ◌∙◌, ℕ, List, Bool, true, false, sym, ap}
+use Rattle.rs_explain.proofs.Existing.{one_cut_walk, one_explanation}
+use Rattle.rs_explain.proofs.Forgetful.{one_forgetting}
+use Rattle.rs_explain.specs.Explanations.{Explanation_data, IsExplanation}
+use Rattle.rs_explain.specs.Walks.{WalkStep_data}
+use Rattle.rs_explain.specs.declared.explaining.Ending.TheVariants.{Cut}
+use Rattle.rs_model.specs.declared.limits.TheConstants.{MOST_BOUND}
+use Rattle.rs_search.proofs.Determined.{not_both_ways}
+use Rattle.rs_search.proofs.Determined as searched
+use Rattle.rs_search.specs.declared.faults.SearchFault.{SearchFault}
+use Rattle.rs_search.specs.declared.faults.SearchFault.TheVariants as search
+use Rattle.rs_walk_texts.specs.Data.{WalkSource_data}
+use Rattle.rs_reasons.specs.Underivable.{GreatestHelps, GreatestRefuses, NoneHelps, TellsForgets, TellsNotFound, TellsUnderivable, helped_line, hopeless_line, is_hopeless, refusing_line, round_text, way_text}
+
+-- one explanation is hopeless or isn't
+both : (source : WalkSource_data) (bound : ℕ) (cut : Bool) (e f : Explanation_data) → IsExplanation source.machine source.projection.machine bound e
+    → IsExplanation source.machine source.projection.machine bound f → is_hopeless source cut e ≡ true → is_hopeless source cut f ≡ false → ⊥
+both source bound cut e f h k x y =
+    let same : e ≡ f = one_explanation source.machine source.projection.machine bound e f h k in
+    let bad : true ≡ false = sym x ∙ ap (is_hopeless source cut) same ∙ y in
+    cc bad
+
+one_not_found : (source : WalkSource_data) (bound : ℕ) (cut : Bool) (lines others : List ℕ) → TellsNotFound source bound cut lines → TellsNotFound source bound cut others → lines ≡ others
+one_not_found source bound cut lines others (NoneHelps e h x p) (NoneHelps f k y q) =
+    p ∙ ap (λ (z : Explanation_data). way_text source bound z.steps z.ending ++ hopeless_line) (one_explanation source.machine source.projection.machine bound e f h k) ∙ sym q
+one_not_found source bound cut lines others (NoneHelps e h x p) (GreatestRefuses f k y fault n r q) = absurd (both source bound cut e f h k x y)
+one_not_found source bound cut lines others (NoneHelps e h x p) (GreatestHelps f k y d c steps w q) = absurd (both source bound cut e f h k x y)
+one_not_found source bound cut lines others (GreatestRefuses e h x fault n r p) (NoneHelps f k y q) = absurd (both source bound cut f e k h y x)
+one_not_found source bound cut lines others (GreatestRefuses e h x fault n r p) (GreatestRefuses f k y other m s q) =
+    p ∙ ap (λ (z : Explanation_data). way_text source bound z.steps z.ending ++ refusing_line fault) (one_explanation source.machine source.projection.machine bound e f h k)
+    ∙ ap (λ (z : SearchFault). way_text source bound f.steps f.ending ++ refusing_line z) (searched.one_refusal source.machine source.projection.machine MOST_BOUND fault other n m r s) ∙ sym q
+one_not_found source bound cut lines others (GreatestRefuses e h x fault n r p) (GreatestHelps f k y d c steps w q) =
+    absurd (n (not_both_ways source.machine source.projection.machine MOST_BOUND d fault c r))
+one_not_found source bound cut lines others (GreatestHelps e h x d c steps w p) (NoneHelps f k y q) = absurd (both source bound cut f e k h y x)
+one_not_found source bound cut lines others (GreatestHelps e h x d c steps w p) (GreatestRefuses f k y fault n r q) =
+    absurd (n (not_both_ways source.machine source.projection.machine MOST_BOUND d fault c r))
+one_not_found source bound cut lines others (GreatestHelps e h x d c steps w p) (GreatestHelps f k y g b ways v q) =
+    p ∙ ap (λ (z : List WalkStep_data). way_text source bound z Cut ++ helped_line) (one_cut_walk source.machine source.projection.machine bound steps ways w v) ∙ sym q
+
+one_forgets : (source : WalkSource_data) (bound node : ℕ) (lines others : List ℕ) → TellsForgets source bound node lines → TellsForgets source bound node others → lines ≡ others
+one_forgets source bound node lines others h k =
+    h.text
+    ∙ ap (round_text source) (one_forgetting source.machine source.projection.machine bound node h.forgetting k.forgetting h.is_forgetting k.is_forgetting) ∙ sym k.text
+
+pub one_underivable : (source : WalkSource_data) (bound : ℕ) (fault : SearchFault) (lines others : List ℕ) → TellsUnderivable source bound fault lines → TellsUnderivable source bound fault others
+    → lines ≡ others
+one_underivable source bound (search.NotFound cut) lines others h k = one_not_found source bound cut lines others h k
+one_underivable source bound (search.Forgets node) lines others h k = one_forgets source bound node lines others h k
+one_underivable source bound search.TooLarge lines others h k = h ∙ sym k
+one_underivable source bound search.NoMemory lines others h k = h ∙ sym k

@@ -1,0 +1,54 @@
+-- Something is told of each machine of which no derivation is found.
+use Rattle.std.proofs.Common.{◌≡◌, ◌++◌, ℕ, List, [], Bool, true, false, refl, inl, inr, arith}
+use Rattle.std.proofs.lemmas.Bool.Decides.{leb_tells}
+use Rattle.rs_derive.specs.Data.{Derivation_data}
+use Rattle.rs_derive.specs.Derivations.{IsProper}
+use Rattle.rs_explain.proofs.Existing.{canonical_helps, cut_from_start, none_within, some_explanation}
+use Rattle.rs_explain.proofs.Forgetful.{some_forgetting}
+use Rattle.rs_explain.specs.Explanations.{AGreaterBoundHelps, Explanation_data, IsExplanation}
+use Rattle.rs_explain.specs.declared.explaining.Ending.TheVariants.{Cut}
+use Rattle.rs_model.specs.declared.limits.TheConstants.{MOST_BOUND}
+use Rattle.rs_search.proofs.Accepted.{derives}
+use Rattle.rs_search.proofs.Deciding as searching
+use Rattle.rs_search.specs.Canonical.{IsCanonical, IsNotFound, SearchRefuses}
+use Rattle.rs_search.specs.declared.faults.SearchFault.{SearchFault}
+use Rattle.rs_search.specs.declared.faults.SearchFault.TheVariants as search
+use Rattle.rs_walk_texts.specs.Data.{WalkSource_data}
+use Rattle.rs_reasons.specs.Underivable.{GreatestHelps, GreatestRefuses, NoneHelps, TellsNotFound, TellsUnderivable, helped_line, hopeless_line, is_hopeless, refusing_line, round_text, way_text}
+
+-- where the search finds a derivation within the greatest bound and none within this one, the greatest helps
+pub greatest_helps : (source : WalkSource_data) (bound : ℕ) (e : Explanation_data) (d : Derivation_data) → IsProper source.machine → IsProper source.projection.machine
+    → IsExplanation source.machine source.projection.machine bound e → IsCanonical source.machine source.projection.machine MOST_BOUND d
+    → AGreaterBoundHelps source.machine source.projection.machine bound
+greatest_helps source bound e d ours theirs h c = elim (leb_tells bound MOST_BOUND) [
+  | inl le ↦ canonical_helps source.machine source.projection.machine bound MOST_BOUND d le.1 c
+  | inr more ↦ (
+      let m = more.1 in
+      let b = c.canonical.bound' in
+      absurd (none_within source.machine source.projection.machine bound e d h (derives source.machine source.projection.machine MOST_BOUND d ours theirs c.canonical) (omega (arith, m, b))))
+]
+
+some_not_found : (source : WalkSource_data) (bound : ℕ) (cut : Bool) → IsProper source.machine → IsProper source.projection.machine → IsNotFound source.machine source.projection.machine bound cut
+    → (lines : List ℕ) × TellsNotFound source bound cut lines
+some_not_found source bound cut ours theirs h = by (is_hopeless source cut e.0) refl
+  where
+    e : (e : Explanation_data) × IsExplanation source.machine source.projection.machine bound e
+    e = some_explanation source.machine source.projection.machine bound cut ours theirs h
+
+    by : (b : Bool) → is_hopeless source cut e.0 ≡ b → (lines : List ℕ) × TellsNotFound source bound cut lines
+    by true k = (way_text source bound e.0.steps e.0.ending ++ hopeless_line, NoneHelps e.0 e.1 k refl)
+    by false k = elim (searching.decided source.machine source.projection.machine MOST_BOUND ours theirs) [
+      | inl d ↦ (
+          let walk = cut_from_start source.machine source.projection.machine bound cut h (greatest_helps source bound e.0 d.0 ours theirs e.1 d.1) in
+          (way_text source bound walk.0 Cut ++ helped_line, GreatestHelps e.0 e.1 k d.0 d.1 walk.0 walk.1 refl))
+      | inr f ↦ (way_text source bound e.0.steps e.0.ending ++ refusing_line f.0, GreatestRefuses e.0 e.1 k f.0 f.1 f.2 refl)
+    ]
+
+pub some_underivable : (source : WalkSource_data) (bound : ℕ) (fault : SearchFault) → IsProper source.machine → IsProper source.projection.machine
+    → SearchRefuses source.machine source.projection.machine bound fault → (lines : List ℕ) × TellsUnderivable source bound fault lines
+some_underivable source bound (search.NotFound cut) ours theirs h = some_not_found source bound cut ours theirs h
+some_underivable source bound (search.Forgets node) ours theirs h =
+    let f = some_forgetting source.machine source.projection.machine bound node h in
+    (round_text source f.0, record { forgetting = f.0; is_forgetting = f.1; text = refl })
+some_underivable source bound search.TooLarge ours theirs h = ([], refl)
+some_underivable source bound search.NoMemory ours theirs h = ([], refl)

@@ -1,0 +1,9 @@
+pub mod Accepted
+pub mod Ahead
+pub mod Explains
+pub mod Faults
+pub mod Flagged
+pub mod Marks
+pub mod Underivable
+pub mod Unprojectable
+pub mod Uses

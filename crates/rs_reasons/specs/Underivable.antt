@@ -1,0 +1,94 @@
+-- Public: what is told of a machine of which no derivation is found.
+use Rattle.std.specs.Prelude.{◌≡◌, ◌≢◌, ℕ, List, [], ◌++◌, codes, Bool, true, false, not, ◌&&◌, ◌||◌, slice_get}
+use Rattle.std.specs.Fmt.{decimal}
+use Rattle.rs_derive.specs.Data.{Derivation_data}
+use Rattle.rs_explain.specs.Explanations.{Explanation_data, IsExplanation}
+use Rattle.rs_explain.specs.Forcing.{is_forced}
+use Rattle.rs_explain.specs.Forgetting.{Forgetting_data, IsForgetting}
+use Rattle.rs_explain.specs.Walks.{IsFirstCutWalk, WalkStep_data, end_of}
+use Rattle.rs_explain.specs.declared.explaining.Ending.{Ending}
+use Rattle.rs_explain.specs.declared.explaining.Ending.TheVariants.{Blocked, Cut}
+use Rattle.rs_model.specs.Data.{Names_data}
+use Rattle.rs_model.specs.declared.machines.Act.{Act}
+use Rattle.rs_model.specs.declared.limits.TheConstants.{MOST_BOUND}
+use Rattle.rs_search.specs.Candidates.{start_spot}
+use Rattle.rs_search.specs.Canonical.{IsCanonical, SearchRefuses}
+use Rattle.rs_search.specs.declared.faults.SearchFault.{SearchFault}
+use Rattle.rs_search.specs.declared.faults.SearchFault.TheVariants as search
+use Rattle.rs_text.specs.NamePlaces.{name_at}
+use Rattle.rs_walk_texts.specs.Data.{WalkSource_data}
+use Rattle.rs_walk_texts.specs.Heads.{maybe_act_text, owed_line}
+use Rattle.rs_walk_texts.specs.Stops.{stop_text}
+use Rattle.rs_walk_texts.specs.Walks.{steps_text, walk_text}
+
+-- the steps of a walk from the start, and why it ends
+abbrev pub way_text : WalkSource_data → ℕ → List WalkStep_data → Ending → List ℕ
+way_text source bound steps ending =
+    walk_text source steps ++ stop_text source (end_of (start_spot source.machine source.projection.machine) steps) ending bound
+
+-- an obstacle stands at the end
+abbrev pub is_blocked : Ending → Bool
+is_blocked (Blocked o) = true
+is_blocked Cut = false
+
+-- no greater bound helps: no candidate meets a cut, or at an obstacle ends a way that no other move leaves
+abbrev pub is_hopeless : WalkSource_data → Bool → Explanation_data → Bool
+is_hopeless source cut e = not cut || (is_blocked e.ending && is_forced source.machine source.projection.machine (start_spot source.machine source.projection.machine) e.steps)
+
+-- the last line, where no greater bound helps
+abbrev pub hopeless_line : List ℕ
+hopeless_line = codes "no bound helps\n"
+
+-- what the search within the greatest bound comes to, a line
+abbrev pub within_line : List ℕ → List ℕ
+within_line what = codes "within " ++ decimal MOST_BOUND ++ codes " acts: " ++ what ++ codes "\n"
+
+-- the last line, where the search within the greatest bound finds one
+abbrev pub helped_line : List ℕ
+helped_line = within_line (codes "found")
+
+-- the last line, where the search within the greatest bound finds none either
+abbrev pub refusing_line : SearchFault → List ℕ
+refusing_line (search.NotFound false) = hopeless_line
+refusing_line (search.NotFound true) = within_line (codes "not found, cut yes")
+refusing_line (search.Forgets node) = within_line (codes "forgets at node " ++ decimal node)
+refusing_line search.TooLarge = within_line (codes "too large: candidates")
+refusing_line search.NoMemory = []
+
+-- the search finds none within the bound
+pub data TellsNotFound (source : WalkSource_data) (bound : ℕ) (cut : Bool) (lines : List ℕ) : Type 0 where
+  -- no greater bound helps: a way leads to where the machine can't go on
+  NoneHelps : (e : Explanation_data) → IsExplanation source.machine source.projection.machine bound e → is_hopeless source cut e ≡ true
+      → lines ≡ way_text source bound e.steps e.ending ++ hopeless_line → TellsNotFound source bound cut lines
+  -- it finds none within the greatest bound either: a way leads to where the machine can't go on
+  GreatestRefuses : (e : Explanation_data) → IsExplanation source.machine source.projection.machine bound e → is_hopeless source cut e ≡ false
+      → (fault : SearchFault) → fault ≢ search.NoMemory → SearchRefuses source.machine source.projection.machine MOST_BOUND fault
+      → lines ≡ way_text source bound e.steps e.ending ++ refusing_line fault → TellsNotFound source bound cut lines
+  -- it finds one within the greatest bound: a way leads to where that is needed
+  GreatestHelps : (e : Explanation_data) → IsExplanation source.machine source.projection.machine bound e → is_hopeless source cut e ≡ false
+      → (d : Derivation_data) → IsCanonical source.machine source.projection.machine MOST_BOUND d
+      → (steps : List WalkStep_data) → IsFirstCutWalk source.machine source.projection.machine bound (start_spot source.machine source.projection.machine) steps
+      → lines ≡ way_text source bound steps Cut ++ helped_line → TellsNotFound source bound cut lines
+
+-- `why: Q!x(sort) is never done`, a line: of the oldest act that is owed
+abbrev pub never_line : Names_data → List Act → List ℕ
+never_line names pending = codes "why: " ++ maybe_act_text names (slice_get pending 0) ++ codes " is never done\n"
+
+-- a way round from a spot, what is owed there, and what is never done
+abbrev pub round_text : WalkSource_data → Forgetting_data → List ℕ
+round_text source f =
+    name_at source.names.roles source.machine.role.0 ++ codes ", round and round:\n" ++ steps_text source f.spot f.steps ++ owed_line source.names f.spot.pending
+    ++ never_line source.names f.spot.pending
+
+-- the derivation that the search finds forgets an act: a way leads round on which it stays owed
+pub record TellsForgets (source : WalkSource_data) (bound node : ℕ) (lines : List ℕ) : Type 0 where
+  pub forgetting : Forgetting_data
+  pub is_forgetting : IsForgetting source.machine source.projection.machine bound node forgetting
+  pub text : lines ≡ round_text source forgetting
+
+-- what is told, by the reason; of too many candidates nothing more
+abbrev pub TellsUnderivable : WalkSource_data → ℕ → SearchFault → List ℕ → Type 0
+TellsUnderivable source bound (search.NotFound cut) lines = TellsNotFound source bound cut lines
+TellsUnderivable source bound (search.Forgets node) lines = TellsForgets source bound node lines
+TellsUnderivable source bound search.TooLarge lines = lines ≡ []
+TellsUnderivable source bound search.NoMemory lines = lines ≡ []

@@ -1,0 +1,79 @@
+-- Public: what is told of a protocol that has no projection onto a role.
+use Rattle.std.specs.Prelude.{◌≡◌, ℕ, List, [], ◌++◌, codes, slice_get, Option, Some, None}
+use Rattle.std.specs.List.{flat_map}
+use Rattle.rs_model.specs.Data.{Names_data, Protocol_data}
+use Rattle.rs_model.specs.declared.graph.Arm.{Arm}
+use Rattle.rs_model.specs.declared.graph.Node.{Node}
+use Rattle.rs_model.specs.declared.graph.Node.TheVariants.{Talk}
+use Rattle.rs_model.specs.declared.graph.Role.{Role}
+use Rattle.rs_partings.specs.Partings.{IsParting, PartNowhere}
+use Rattle.rs_partings.specs.Waiting.{AreWaitingRound}
+use Rattle.rs_partings.specs.declared.searching.Parting.{Parting}
+use Rattle.rs_places.specs.declared.places.Position.{Position}
+use Rattle.rs_project.specs.declared.projecting.ProjFault.{ProjFault}
+use Rattle.rs_project.specs.declared.projecting.ProjFault.TheVariants as proj
+use Rattle.rs_text.specs.NamePlaces.{name_at}
+use Rattle.rs_walk_texts.specs.Heads.{placed_talk_text}
+
+-- `- A->B:x(sort) at L:C`, a line: a talk by its number
+abbrev pub talk_item : Names_data → Protocol_data → List Position → ℕ → List ℕ
+talk_item names protocol talks node = codes "- " ++ placed_talk_text names protocol.nodes talks node ++ codes "\n"
+
+-- the line of a member of a front: a talk, or the end
+abbrev pub member_item : Names_data → Protocol_data → List Position → Option ℕ → List ℕ
+member_item names protocol talks (Some node) = talk_item names protocol talks node
+member_item names protocol talks None = codes "- the end\n"
+
+-- the two members that the role can't tell apart, a line each
+abbrev pub clash_lines : Names_data → Protocol_data → List Position → Role → ℕ → Option ℕ → List ℕ
+clash_lines names protocol talks role a b =
+    name_at names.roles role.0 ++ codes " can't tell which comes next:\n" ++ talk_item names protocol talks a ++ member_item names protocol talks b
+
+-- the label of the arm at the place, where there is one
+abbrev pub arm_label : Names_data → Option Arm → List ℕ
+arm_label names None = []
+arm_label names (Some a) = name_at names.labels a.label.0
+
+-- the label of the node's arm at the place
+abbrev pub label_at : Names_data → Option Node → ℕ → List ℕ
+label_at names (Some (Talk sender receiver arms)) place = arm_label names (slice_get arms place)
+label_at names _ place = []
+
+-- `they part at A->B{x(), y()} at L:C, by x and y`, a line
+abbrev pub parting_line : Names_data → Protocol_data → List Position → Parting → List ℕ
+parting_line names protocol talks p =
+    codes "they part at " ++ placed_talk_text names protocol.nodes talks p.talk ++ codes ", by " ++ label_at names (slice_get protocol.nodes p.talk) p.one
+    ++ codes " and " ++ label_at names (slice_get protocol.nodes p.talk) p.other ++ codes "\n"
+
+-- the line where the ways to both part nowhere
+abbrev pub nowhere_line : List ℕ
+nowhere_line = codes "both stand behind the same messages\n"
+
+-- the first place at which the ways to both part, or that there is none
+abbrev pub IsWhereTheyPart : Protocol_data → Role → ℕ → Option ℕ → Option Parting → Type 0
+IsWhereTheyPart protocol role a b (Some p) = IsParting protocol role a b p
+IsWhereTheyPart protocol role a b None = PartNowhere protocol role a b
+
+-- the line of that place, or that there is none
+abbrev pub where_line : Names_data → Protocol_data → List Position → Option Parting → List ℕ
+where_line names protocol talks (Some p) = parting_line names protocol talks p
+where_line names protocol talks None = nowhere_line
+
+-- the role can't tell apart a talk, and another one or the end: where the ways to both part
+pub record TellsClash (names : Names_data) (protocol : Protocol_data) (talks : List Position) (role : Role) (a : ℕ) (b : Option ℕ) (lines : List ℕ) : Type 0 where
+  pub parting : Option Parting
+  pub is_where : IsWhereTheyPart protocol role a b parting
+  pub text : lines ≡ clash_lines names protocol talks role a b ++ where_line names protocol talks parting
+
+-- the talks that can go round while the role is left waiting at a node, a line each
+pub record TellsWaiting (names : Names_data) (protocol : Protocol_data) (talks : List Position) (role : Role) (node : ℕ) (lines : List ℕ) : Type 0 where
+  pub round : List ℕ
+  pub is_round : AreWaitingRound protocol role node round
+  pub text : lines ≡ name_at names.roles role.0 ++ codes " may be left waiting while these go round:\n" ++ flat_map (talk_item names protocol talks) round
+
+-- what is told, by the reason; of too many states nothing more
+abbrev pub TellsUnprojectable : Names_data → Protocol_data → List Position → ProjFault → List ℕ → Type 0
+TellsUnprojectable names protocol talks (proj.Unmergeable role a b) lines = TellsClash names protocol talks role a b lines
+TellsUnprojectable names protocol talks (proj.Unreached role node) lines = TellsWaiting names protocol talks role node lines
+TellsUnprojectable names protocol talks (proj.TooManyStates role) lines = lines ≡ []
+TellsUnprojectable names protocol talks proj.NoMemory lines = lines ≡ []

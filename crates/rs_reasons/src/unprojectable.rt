@@ -1,0 +1,208 @@
+//! What is told of a protocol that has no projection onto a role.
+
+ghost use Rattle.std.specs.Prelude.{◌≡◌, ◌++◌, ◌<◌, ◌^◌, IfOk, OnOk, length, slice_get};
+ghost use Rattle.std.specs.List.{flat_map};
+ghost use Rattle.rs_reasons.specs.Unprojectable as spec;
+ghost use Rattle.rs_wellformed.specs.WellFormed.{IsWellFormed};
+
+use rs_model::{Arm, Names, NoMemory, Node, Protocol, Role};
+use rs_partings::{Parting, parting, waiting_round};
+use rs_places::Position;
+use rs_project::ProjFault;
+use rs_text::Text;
+use rs_text::shown::push_name;
+use rs_walk_texts::push_placed_talk;
+use std::alloc::Global;
+
+// `- A->B:x(sort) at L:C`, a line.
+fn push_talk_item(
+    text: &mut Text,
+    names: &Names,
+    protocol: &Protocol,
+    talks: &[Position],
+    node: u32,
+) -> Result<(), NoMemory>
+    ensures { OnOk result (text.new ≡ text.old ++ spec.talk_item names.now protocol.now talks.now node) }
+{
+    text.push(b"- ")?;
+    push_placed_talk(text, names, protocol.nodes.as_slice(), talks, node)?;
+    text.push(b"\n")
+}
+
+// The line of a member of a front.
+fn push_member_item(
+    text: &mut Text,
+    names: &Names,
+    protocol: &Protocol,
+    talks: &[Position],
+    member: Option<u32>,
+) -> Result<(), NoMemory>
+    ensures { OnOk result (text.new ≡ text.old ++ spec.member_item names.now protocol.now talks.now member) }
+{
+    match member {
+        Some(node) => push_talk_item(text, names, protocol, talks, node),
+        None => text.push(b"- the end\n"),
+    }
+}
+
+// The lines of the two members that the role can't tell apart.
+fn push_clash(
+    text: &mut Text,
+    names: &Names,
+    protocol: &Protocol,
+    talks: &[Position],
+    role: Role,
+    a: u32,
+    b: Option<u32>,
+) -> Result<(), NoMemory>
+    ensures { OnOk result (text.new ≡ text.old ++ spec.clash_lines names.now protocol.now talks.now role a b) }
+{
+    push_name(text, names.roles.as_slice(), usize::from(role.0))?;
+    text.push(b" can't tell which comes next:\n")?;
+    push_talk_item(text, names, protocol, talks, a)?;
+    push_member_item(text, names, protocol, talks, b)
+}
+
+// The label of the arm at the place.
+fn push_label(text: &mut Text, names: &Names, arms: &[Arm], place: u32) -> Result<(), NoMemory>
+    ensures { OnOk result (text.new ≡ text.old ++ spec.arm_label names.now (slice_get arms.now place)) }
+{
+    match arms.get(place as usize) {
+        Some(arm) => push_name(text, names.labels.as_slice(), usize::from(arm.label.0)),
+        None => Ok(()),
+    }
+}
+
+// The label of the node's arm at the place.
+fn push_label_at(
+    text: &mut Text,
+    names: &Names,
+    nodes: &[Node],
+    node: u32,
+    place: u32,
+) -> Result<(), NoMemory>
+    ensures { OnOk result (text.new ≡ text.old ++ spec.label_at names.now (slice_get nodes.now node) place) }
+{
+    match nodes.get(node as usize) {
+        Some(Node::Talk { arms, .. }) => push_label(text, names, arms.as_slice(), place),
+        Some(Node::Finished) | None => Ok(()),
+    }
+}
+
+// Where the ways part, and by which labels.
+fn push_parting(
+    text: &mut Text,
+    names: &Names,
+    protocol: &Protocol,
+    talks: &[Position],
+    parting: Parting,
+) -> Result<(), NoMemory>
+    ensures { OnOk result (text.new ≡ text.old ++ spec.parting_line names.now protocol.now talks.now parting) }
+{
+    let nodes = protocol.nodes.as_slice();
+    text.push(b"they part at ")?;
+    push_placed_talk(text, names, nodes, talks, parting.talk)?;
+    text.push(b", by ")?;
+    push_label_at(text, names, nodes, parting.talk, parting.one)?;
+    text.push(b" and ")?;
+    push_label_at(text, names, nodes, parting.talk, parting.other)?;
+    text.push(b"\n")
+}
+
+// The line of where the ways part, if anywhere.
+fn push_where(
+    text: &mut Text,
+    names: &Names,
+    protocol: &Protocol,
+    talks: &[Position],
+    parting: Option<Parting>,
+) -> Result<(), NoMemory>
+    ensures { OnOk result (text.new ≡ text.old ++ spec.where_line names.now protocol.now talks.now parting) }
+{
+    match parting {
+        Some(parting) => push_parting(text, names, protocol, talks, parting),
+        None => text.push(b"both stand behind the same messages\n"),
+    }
+}
+
+/// What is told where the role can't tell apart a talk, and another one or the end. Refused memory is the only error.
+fn clash_text(
+    alloc: Global,
+    names: &Names,
+    protocol: &Protocol,
+    talks: &[Position],
+    role: Role,
+    a: u32,
+    b: Option<u32>,
+) -> Result<Text, NoMemory>
+    requires well_formed { IsWellFormed protocol.now }
+    requires bounded { length protocol.now.nodes < 2 ^ 32 }
+    ensures { IfOk result (spec.TellsClash names.now protocol.now talks.now role a b) }
+{
+    let parting = parting(alloc, protocol, role, a, b)?;
+    let mut text = Text::new(alloc);
+    push_clash(&mut text, names, protocol, talks, role, a, b)?;
+    push_where(&mut text, names, protocol, talks, parting)?;
+    Ok(text)
+}
+
+// The lines of talks.
+fn push_talk_items(
+    text: &mut Text,
+    names: &Names,
+    protocol: &Protocol,
+    talks: &[Position],
+    nodes: &[u32],
+) -> Result<(), NoMemory>
+    ensures { OnOk result (text.new ≡ text.old ++ flat_map (spec.talk_item names.now protocol.now talks.now) nodes.now) }
+{
+    for node in nodes {
+        push_talk_item(text, names, protocol, talks, *node)?;
+    }
+    Ok(())
+}
+
+/// What is told where the role is left waiting at the node. Refused memory is the only error.
+fn waiting_text(
+    alloc: Global,
+    names: &Names,
+    protocol: &Protocol,
+    talks: &[Position],
+    role: Role,
+    node: u32,
+) -> Result<Text, NoMemory>
+    requires well_formed { IsWellFormed protocol.now }
+    requires bounded { length protocol.now.nodes < 2 ^ 32 }
+    ensures { IfOk result (spec.TellsWaiting names.now protocol.now talks.now role node) }
+{
+    let round = waiting_round(alloc, protocol, role, node)?;
+    let mut text = Text::new(alloc);
+    push_name(&mut text, names.roles.as_slice(), usize::from(role.0))?;
+    text.push(b" may be left waiting while these go round:\n")?;
+    push_talk_items(&mut text, names, protocol, talks, round.as_slice())?;
+    Ok(text)
+}
+
+/// What is told of a protocol that has no projection onto a role, by the reason. Refused memory is the only error.
+pub fn unprojectable_text(
+    alloc: Global,
+    names: &Names,
+    protocol: &Protocol,
+    talks: &[Position],
+    fault: &ProjFault,
+) -> Result<Text, NoMemory>
+    requires well_formed { IsWellFormed protocol.now }
+    requires bounded { length protocol.now.nodes < 2 ^ 32 }
+    ensures { IfOk result (spec.TellsUnprojectable names.now protocol.now talks.now fault.now) }
+{
+    match fault {
+        ProjFault::Unmergeable { role, a, b } => {
+            clash_text(alloc, names, protocol, talks, *role, *a, *b)
+        }
+        ProjFault::Unreached { role, node } => {
+            waiting_text(alloc, names, protocol, talks, *role, *node)
+        }
+        ProjFault::TooManyStates { .. } => Ok(Text::new(alloc)),
+        ProjFault::NoMemory => Err(NoMemory),
+    }
+}
