@@ -1,4 +1,4 @@
--- Steps: why a session isn't given up yet.
+-- Public: why a session isn't given up yet.
 use Rattle.std.specs.Prelude.{◌≡◌, List, length}
 use Rattle.rs_rings.specs.Passes.{Rings_data}
 use Rattle.rs_session.specs.Data.{Stage_data}
