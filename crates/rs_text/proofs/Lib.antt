@@ -20,5 +20,8 @@ pub mod MessageLaws
 pub mod Comments
 pub mod PlainNames
 pub mod Sameness
+pub mod Eights
+pub mod KindTable
+pub mod WordLanes
 pub mod Cutting
 pub mod Taking

@@ -1,6 +1,9 @@
 pub mod Data
 pub mod Bytes
+pub mod ByteKinds
+pub mod WordLanes
 pub mod Words
+pub mod Eights
 pub mod Signs
 pub mod Lexemes
 pub mod Tokens

@@ -1,12 +1,14 @@
 //! The lexer, which cuts a text into tokens.
 
-ghost use Rattle.std.specs.Prelude.{◌≡◌, ℕ, List, ◌+◌, ◌-◌, ◌*◌, ◌<◌, ◌≤◌, ◌∷◌, [], length, take, drop, nat_lt, if◌then◌else◌, Some, None, OnErr, IfErr, IfOk, IfSome, IfNone, false, true};
+ghost use Rattle.std.specs.Prelude.{◌≡◌, ◌+◌, ◌-◌, ◌*◌, ◌<◌, ◌≤◌, [], length, take, drop, if◌then◌else◌, Some, None, OnErr, IfErr, IfOk, IfSome, IfNone, false, true};
 ghost use Rattle.rs_text.specs.Bytes as bytes;
-ghost use Rattle.rs_text.specs.Lexemes.{value_behind, value_of};
-ghost use Rattle.rs_text.specs.Lexing.{front, front_of, mark_front, word_front, number_front, length_of_blanks, word_length, number_length, next_lexeme, lexeme_of, broken_at};
-ghost use Rattle.rs_text.specs.Signs.{word_sign};
+ghost use Rattle.rs_text.specs.ByteKinds.{front_by};
+ghost use Rattle.rs_text.specs.Lexing.{front, front_of, word_front, number_front, length_of_blanks, word_length, number_length, next_lexeme, lexeme_of, broken_at};
+ghost use Rattle.rs_text.specs.Signs.{broken, number, word_sign};
 ghost use Rattle.rs_text.specs.Terminals.{terminal_sign};
 
+use crate::byte_kinds::{ByteKind, kind_of};
+use crate::word_lanes::{LANES, word_run};
 use crate::{FaultKind, Terminal, TextToken, Token, TokenFault};
 use memchr::memchr;
 use rs_model::MOST_NAME_BYTES;
@@ -104,16 +106,17 @@ fn behind_gap(bytes: &[u8]) -> &[u8]
     ensures within { length result.now ≤ length bytes.now }
 {
     let mut rest = bytes;
-    loop {
-        match rest {
-            [b'#', behind @ ..] => {
+    while let [first, behind @ ..] = rest {
+        match kind_of(*first) {
+            ByteKind::Gap if *first == b'#' => {
                 let (_, next) = behind.split_at(comment_size(behind));
                 rest = next;
             }
-            [first, behind @ ..] if is_blank(*first) => rest = behind,
+            ByteKind::Gap => rest = behind,
             _ => return rest,
         }
     }
+    rest
 }
 
 /// The count of bytes in front that an open comment holds, as far as the end of its line.
@@ -136,15 +139,36 @@ fn terminal_in_front(bytes: &[u8]) -> (Terminal<'_>, usize)
 {
     match bytes {
         [] => (Terminal::Finish, 0),
-        [first, behind @ ..] => match mark(*first) {
-            Some(terminal) => (terminal, 1),
-            None if is_letter(*first) => word_in_front(bytes, 1 + word_size(behind)),
-            None if is_digit(*first) => number_in_front(bytes),
-            None => match bytes {
-                [b'-', b'>', ..] => (Terminal::Arrow, 2),
-                _ => (Terminal::Faulty(FaultKind::BadByte), 0),
-            },
+        [first, behind @ ..] => begun_by(kind_of(*first), bytes, behind),
+    }
+}
+
+/// What begins with a byte of this kind, and its size.
+#[inline(always)]
+fn begun_by<'a>(kind: ByteKind, bytes: &'a [u8], behind: &'a [u8]) -> (Terminal<'a>, usize)
+    requires { length bytes.now ≡ 1 + length behind.now }
+    ensures front { front_by kind bytes.now behind.now ≡ front (terminal_sign result.0) result.1 }
+    ensures within { result.1 ≤ length bytes.now }
+{
+    match kind {
+        ByteKind::Letter => word_in_front(bytes, 1 + word_size(behind)),
+        ByteKind::Digit => number_in_front(bytes),
+        ByteKind::Dash => match behind {
+            [b'>', ..] => (Terminal::Arrow, 2),
+            _ => (Terminal::Faulty(FaultKind::BadByte), 0),
         },
+        ByteKind::Bang => (Terminal::Bang, 1),
+        ByteKind::Question => (Terminal::Question, 1),
+        ByteKind::Colon => (Terminal::Colon, 1),
+        ByteKind::Dot => (Terminal::Dot, 1),
+        ByteKind::Comma => (Terminal::Comma, 1),
+        ByteKind::OpenBrace => (Terminal::OpenBrace, 1),
+        ByteKind::CloseBrace => (Terminal::CloseBrace, 1),
+        ByteKind::OpenParen => (Terminal::OpenParen, 1),
+        ByteKind::CloseParen => (Terminal::CloseParen, 1),
+        ByteKind::OpenBracket => (Terminal::OpenBracket, 1),
+        ByteKind::CloseBracket => (Terminal::CloseBracket, 1),
+        ByteKind::Other | ByteKind::Gap => (Terminal::Faulty(FaultKind::BadByte), 0),
     }
 }
 
@@ -175,53 +199,116 @@ fn word(text: &[u8]) -> Terminal<'_>
 }
 
 /// The number whose digits are in front.
-#[inline(never)]
+#[inline(always)]
 fn number_in_front(bytes: &[u8]) -> (Terminal<'_>, usize)
     ensures front { number_front bytes.now (number_length bytes.now) ≡ front (terminal_sign result.0) result.1 }
     ensures within { result.1 ≤ length bytes.now }
 {
+    match digits_in_front(bytes) {
+        Some(digits) => (Terminal::Number(digits.value), digits.count),
+        None => (Terminal::Faulty(FaultKind::NumberTooLarge), 0),
+    }
+}
+
+/// Digits of a number that is not too large.
+#[derive(Clone, Copy)]
+struct Digits {
+    value: u32,
+    count: usize,
+}
+
+// Apart from `number_in_front`, so that the token stays in registers.
+#[inline(never)]
+fn digits_in_front(bytes: &[u8]) -> Option<Digits>
+    ensures some { IfSome result (λ digits. number_front bytes.now (number_length bytes.now) ≡ front (number digits.value) digits.count) }
+    ensures within { IfSome result (λ digits. digits.count ≤ length bytes.now) }
+    ensures none { IfNone result (number_front bytes.now (number_length bytes.now) ≡ front (broken FaultKind.NumberTooLarge) 0) }
+{
     let mut value: u32 = 0;
     for (place, digit) in bytes.iter().enumerate() {
         if !is_digit(*digit) {
-            return (Terminal::Number(value), place);
+            return Some(Digits {
+                value,
+                count: place,
+            });
         }
-        match with_digit(value, *digit) {
-            Some(next) => value = next,
-            None => return (Terminal::Faulty(FaultKind::NumberTooLarge), 0),
-        }
+        value = with_digit(value, *digit)?;
     }
-    (Terminal::Number(value), bytes.len())
+    Some(Digits {
+        value,
+        count: bytes.len(),
+    })
 }
 
-/// The mark of one byte that the byte is.
-#[inline(always)]
-fn mark(byte: u8) -> Option<Terminal<'static>>
-    ensures some { IfSome result (λ terminal. (behind : List ℕ) → front_of (byte ∷ behind) ≡ front (terminal_sign terminal) 1) }
-    ensures none { IfNone result (mark_front byte ≡ front (terminal_sign (Terminal.Faulty FaultKind.BadByte)) 0) }
-{
-    match byte {
-        b'!' => Some(Terminal::Bang),
-        b'?' => Some(Terminal::Question),
-        b':' => Some(Terminal::Colon),
-        b'.' => Some(Terminal::Dot),
-        b',' => Some(Terminal::Comma),
-        b'{' => Some(Terminal::OpenBrace),
-        b'}' => Some(Terminal::CloseBrace),
-        b'(' => Some(Terminal::OpenParen),
-        b')' => Some(Terminal::CloseParen),
-        b'[' => Some(Terminal::OpenBracket),
-        b']' => Some(Terminal::CloseBracket),
-        _ => None,
-    }
-}
-
+/// The count of bytes in front that words are made of. Most words are short.
 #[inline(always)]
 fn word_size(bytes: &[u8]) -> usize
     ensures count { result ≡ word_length bytes.now }
     ensures within { result ≤ length bytes.now }
 {
+    let first = run_of_four(bytes);
+    if first < 4 {
+        return first;
+    }
+    let (_, behind) = bytes.split_at(4);
+    let second = run_of_four(behind);
+    if second < 4 {
+        return 4 + second;
+    }
+    let (_, rest) = behind.split_at(4);
+    8 + long_word_size(rest)
+}
+
+/// The same of the first four bytes alone.
+#[inline(always)]
+fn run_of_four(bytes: &[u8]) -> usize
+    ensures count { result ≡ word_length (take 4 bytes.now) }
+    ensures within { result ≤ length bytes.now }
+{
+    match bytes {
+        [first, second, third, fourth, ..] => {
+            if !is_of_word(*first) {
+                0
+            } else if !is_of_word(*second) {
+                1
+            } else if !is_of_word(*third) {
+                2
+            } else if !is_of_word(*fourth) {
+                3
+            } else {
+                4
+            }
+        }
+        _ => short_word_size(bytes),
+    }
+}
+
+/// The same of all bytes, sixteen at a time.
+#[inline(never)]
+fn long_word_size(bytes: &[u8]) -> usize
+    ensures count { result ≡ word_length bytes.now }
+    ensures within { result ≤ length bytes.now }
+{
+    let mut rest = bytes;
+    while rest.len() >= LANES {
+        let run = word_run(rest);
+        if run < LANES {
+            return bytes.len() - rest.len() + run;
+        }
+        let (_, behind) = rest.split_at(LANES);
+        rest = behind;
+    }
+    bytes.len() - rest.len() + short_word_size(rest)
+}
+
+/// The same, byte by byte.
+#[inline(always)]
+fn short_word_size(bytes: &[u8]) -> usize
+    ensures count { result ≡ word_length bytes.now }
+    ensures within { result ≤ length bytes.now }
+{
     for (place, byte) in bytes.iter().enumerate() {
-        if !is_letter(*byte) && !is_digit(*byte) {
+        if !is_of_word(*byte) {
             return place;
         }
     }
@@ -229,10 +316,10 @@ fn word_size(bytes: &[u8]) -> usize
 }
 
 #[inline(always)]
-fn is_blank(byte: u8) -> bool
-    ensures { result ≡ bytes.is_blank byte }
+fn is_of_word(byte: u8) -> bool
+    ensures { result ≡ bytes.is_word_byte byte }
 {
-    byte == b' ' || byte == b'\t' || byte == b'\r' || byte == b'\n'
+    matches!(kind_of(byte), ByteKind::Letter | ByteKind::Digit)
 }
 
 #[inline(always)]

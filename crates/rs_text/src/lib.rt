@@ -2,6 +2,7 @@
 #![tactic(auto)]
 
 mod bound;
+mod byte_kinds;
 mod faults;
 pub mod laws;
 mod lexing;
@@ -17,6 +18,7 @@ mod terminals;
 mod token_readers;
 mod token_tests;
 mod tokens;
+mod word_lanes;
 
 pub use bound::{Binding, bound_number, unbind};
 pub use faults::{TextFault, TextKind, Wanted};

@@ -1,6 +1,6 @@
 //! Names and their places in a list.
 
-ghost use Rattle.std.specs.Prelude.{◌≡◌, ◌≤◌, ◌↔◌, IsTrue, ◌++◌, ◌∷◌, [], length, OnOk, OnErr, IfOk, IfSome, IfNone, Some, None};
+ghost use Rattle.std.specs.Prelude.{◌≡◌, ◌≤◌, ◌+◌, ◌↔◌, IsTrue, ◌++◌, ◌∷◌, [], length, OnOk, OnErr, IfOk, IfSome, IfNone, Some, None};
 ghost use Rattle.std.specs.List.{list_all};
 ghost use Rattle.std.specs.Str.{bytes_eq};
 ghost use Rattle.rs_model.specs.declared.limits.TheConstants.{MOST_ROLES};
@@ -9,6 +9,7 @@ ghost use Rattle.rs_text.specs.Names as naming;
 ghost use Rattle.rs_text.specs.Bytes as bytes;
 ghost use Rattle.rs_text.specs.Words as words;
 ghost use Rattle.rs_text.specs.Bytes.{begins};
+ghost use Rattle.rs_text.specs.Eights.{half_at, word_at};
 ghost use Rattle.rs_text.specs.Sound as spec;
 
 use crate::lexing::{is_digit, is_letter};
@@ -39,7 +40,7 @@ pub fn find_role(roles: &[Name], word: &[u8]) -> Option<Role>
     Some(Role(place as u8))
 }
 
-/// Whether two texts are equal, byte by byte.
+/// Whether two texts are equal. Long ones are compared from the end, since names often begin alike.
 #[inline(always)]
 pub(crate) fn are_equal(one: &[u8], other: &[u8]) -> bool
     ensures { IsTrue result ↔ (one.now ≡ other.now) }
@@ -47,12 +48,87 @@ pub(crate) fn are_equal(one: &[u8], other: &[u8]) -> bool
     if one.len() != other.len() {
         return false;
     }
-    for place in 0..one.len() {
-        if one[place] != other[place] {
+    match one.len() {
+        0 => true,
+        1..=3 => are_bytes_equal(one, other),
+        4..=7 => are_halves_equal(one, other),
+        _ => are_words_equal(one, other),
+    }
+}
+
+// By the last, the middle and the first byte.
+#[inline(always)]
+#[tactic(auto, using(crate::proofs::Eights::few_all))]
+fn are_bytes_equal(one: &[u8], other: &[u8]) -> bool
+    requires size { length one.now ≡ length other.now }
+    requires some { 1 ≤ length one.now }
+    requires few { length one.now ≤ 3 }
+    ensures { IsTrue result ↔ (one.now ≡ other.now) }
+{
+    let last = one.len() - 1;
+    let middle = one.len() / 2;
+    one[last] == other[last] && one[middle] == other[middle] && one[0] == other[0]
+}
+
+// By halves of words, which may overlap.
+#[inline(always)]
+fn are_halves_equal(one: &[u8], other: &[u8]) -> bool
+    requires size { length one.now ≡ length other.now }
+    requires many { 4 ≤ length one.now }
+    requires few { length one.now ≤ 8 }
+    ensures { IsTrue result ↔ (one.now ≡ other.now) }
+{
+    let end = one.len() - 4;
+    half_at(one, end) == half_at(other, end) && half_at(one, 0) == half_at(other, 0)
+}
+
+// By words of eight bytes; the last two may overlap.
+#[inline(always)]
+fn are_words_equal(one: &[u8], other: &[u8]) -> bool
+    requires size { length one.now ≡ length other.now }
+    requires many { 8 ≤ length one.now }
+    ensures { IsTrue result ↔ (one.now ≡ other.now) }
+{
+    let mut left = one.len();
+    while left > 8 {
+        left -= 8;
+        if word_at(one, left) != word_at(other, left) {
             return false;
         }
     }
-    true
+    word_at(one, 0) == word_at(other, 0)
+}
+
+/// The four bytes from this place on as a number.
+#[inline(always)]
+pub(crate) fn half_at(bytes: &[u8], place: usize) -> u32
+    requires { place + 4 ≤ length bytes.now }
+    ensures { result ≡ half_at bytes.now place }
+{
+    u32::from_le_bytes([
+        bytes[place],
+        bytes[place + 1],
+        bytes[place + 2],
+        bytes[place + 3],
+    ])
+}
+
+/// The eight bytes from this place on as a number.
+#[inline(always)]
+pub(crate) fn word_at(bytes: &[u8], place: usize) -> u64
+    requires { place + 8 ≤ length bytes.now }
+    ensures { result ≡ word_at bytes.now place }
+{
+    u64::from_le_bytes([
+        bytes[place],
+        bytes[place + 1],
+        bytes[place + 2],
+        bytes[place + 3],
+        bytes[place + 4],
+        bytes[place + 5],
+        bytes[place + 6],
+        bytes[place + 7],
+    ])
 }
 
 /// The same, as the definition tells it.

@@ -1,19 +1,22 @@
 //! Names with an index by which one is found.
 
-ghost use Rattle.std.specs.Prelude.{◌≡◌, ◌⊎◌, ◌<◌, ◌≤◌, ◌++◌, ◌∷◌, [], ℕ, true, false, length, slice_get, Some, None, IfOk, IfSome, IfNone, OnOk, OnErr, MatchOption};
+ghost use Rattle.std.specs.Prelude.{◌≡◌, ◌+◌, ◌*◌, ◌^◌, ◌<◌, ◌≤◌, ◌++◌, ◌∷◌, [], ℕ, true, false, length, slice_get, Some, None, IfOk, IfSome, IfNone, OnOk, OnErr, MatchOption};
 ghost use Rattle.rs_text.specs.Names.{place_of};
 ghost use Rattle.rs_model.specs.declared.limits.TheConstants.{MOST_ROLES};
-ghost use Rattle.rs_model.specs.Chains.{IsChained, bucket_on};
-ghost use Rattle.rs_text.specs.Tables.{AreFiled, AreFiledIn, bucket_of};
+ghost use Rattle.rs_model.specs.Chains.{IsChained};
+ghost use Rattle.rs_text.specs.Tables.{AreFiled, AreFiledIn, bucket_of, last_word};
 ghost use Rattle.rs_text.specs.declared.tables.TheConstants.{BUCKETS};
 
-use crate::names::{are_equal, find};
+use crate::names::{are_equal, find, half_at, word_at};
 use rs_model::{Name, NoMemory, Role};
 use std::alloc::Global;
 use std::marker::Model;
 
 // The buckets of the index; no limit of what is filed.
 const BUCKETS: usize = 256;
+
+// Odd, and about 2^64 over the golden ratio: words that are alike fall into buckets far apart.
+const SPREAD: u64 = 0x9E37_79B9_7F4A_7C15;
 
 // Fewer names are found as fast without an index.
 const FEW: usize = 8;
@@ -163,23 +166,40 @@ fn index_of(alloc: Global, names: &[Name]) -> Result<Index, NoMemory>
     Ok(Index { heads, links })
 }
 
+// The top eight bits of a product, which depend on each byte of the word.
+#[inline(always)]
 fn bucket_of(name: &[u8]) -> usize
     ensures bucket { result ≡ bucket_of name.now }
     ensures within { result < BUCKETS }
 {
-    let (_, end) = name.split_at(name.len().saturating_sub(8));
-    bucket_on(end)
+    (last_word(name).wrapping_mul(SPREAD) >> 56) as usize
 }
 
-fn bucket_on(bytes: &[u8]) -> usize
-    ensures bucket { result ≡ bucket_on BUCKETS 0 bytes.now }
-    ensures within { result < BUCKETS }
+// The last bytes of a name as one number, eight at most.
+#[inline(always)]
+fn last_word(name: &[u8]) -> u64
+    ensures { result ≡ last_word name.now }
 {
-    let mut bucket = 0;
-    for byte in bytes {
-        bucket = (bucket * 31 + *byte as usize) % BUCKETS;
+    match name.len() {
+        0 => 0,
+        1..=3 => three_bytes(name[0], name[name.len() / 2], name[name.len() - 1]),
+        4..=7 => two_halves(half_at(name, 0), half_at(name, name.len() - 4)),
+        _ => word_at(name, name.len() - 8),
     }
-    bucket
+}
+
+#[inline(always)]
+fn three_bytes(first: u8, middle: u8, last: u8) -> u64
+    ensures { result ≡ (first * 256 + middle) * 256 + last }
+{
+    (u64::from(first) * 256 + u64::from(middle)) * 256 + u64::from(last)
+}
+
+#[inline(always)]
+fn two_halves(first: u32, last: u32) -> u64
+    ensures { result ≡ first * 2 ^ 32 + last }
+{
+    u64::from(first) * 0x1_0000_0000 + u64::from(last)
 }
 
 // The least place along a chain at which the word stands.
@@ -203,13 +223,11 @@ fn place_along(names: &[Name], links: &[usize], head: usize, word: &[u8]) -> Opt
 }
 
 fn is_at(names: &[Name], place: usize, word: &[u8]) -> bool
+    requires { place < length names.now }
     ensures sound { result ≡ true → slice_get names.now place ≡ Some word.now }
     ensures whole { result ≡ false → slice_get names.now place ≡ Some word.now → ⊥ }
 {
-    match names.get(place) {
-        Some(name) => is_same(name.as_slice(), word),
-        None => false,
-    }
+    is_same(names[place].as_slice(), word)
 }
 
 fn is_same(one: &[u8], other: &[u8]) -> bool

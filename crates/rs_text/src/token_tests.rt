@@ -19,6 +19,7 @@ impl<'a> TextToken<'a> {
     }
 
     /// Whether it is the word `end`.
+    #[inline(always)]
     pub fn is_end(&self) -> bool
         ensures { result ≡ spec.is_end self.now.sign }
     {
@@ -29,6 +30,7 @@ impl<'a> TextToken<'a> {
     }
 
     /// The value of a number.
+    #[inline(always)]
     pub fn value(&self) -> Option<u32>
         ensures { result ≡ spec.number_value self.now.sign }
     {
@@ -39,6 +41,7 @@ impl<'a> TextToken<'a> {
     }
 
     /// Whether it is `:`.
+    #[inline(always)]
     pub fn is_colon(&self) -> bool
         ensures { result ≡ spec.is_colon self.now.sign }
     {
@@ -49,6 +52,7 @@ impl<'a> TextToken<'a> {
     }
 
     /// Whether it is `,`.
+    #[inline(always)]
     pub fn is_comma(&self) -> bool
         ensures { result ≡ spec.is_comma self.now.sign }
     {
@@ -59,6 +63,7 @@ impl<'a> TextToken<'a> {
     }
 
     /// Whether it is `{`.
+    #[inline(always)]
     pub fn is_open_brace(&self) -> bool
         ensures { result ≡ spec.is_open_brace self.now.sign }
     {
@@ -69,6 +74,7 @@ impl<'a> TextToken<'a> {
     }
 
     /// Whether it is `}`.
+    #[inline(always)]
     pub fn is_close_brace(&self) -> bool
         ensures { result ≡ spec.is_close_brace self.now.sign }
     {
@@ -79,6 +85,7 @@ impl<'a> TextToken<'a> {
     }
 
     /// Whether it is `[`.
+    #[inline(always)]
     pub fn is_open_bracket(&self) -> bool
         ensures { result ≡ spec.is_open_bracket self.now.sign }
     {
@@ -89,6 +96,7 @@ impl<'a> TextToken<'a> {
     }
 
     /// Whether it is `]`.
+    #[inline(always)]
     pub fn is_close_bracket(&self) -> bool
         ensures { result ≡ spec.is_close_bracket self.now.sign }
     {
