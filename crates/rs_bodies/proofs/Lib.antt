@@ -50,3 +50,7 @@ pub mod WrittenNames
 pub mod PlacesLead
 pub mod GraphsAgain
 pub mod CanonNumbers
+pub mod MarksPassed
+pub mod TurnsSeen
+pub mod RolesTold
+pub mod MarksFed

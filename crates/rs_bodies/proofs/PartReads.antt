@@ -29,7 +29,7 @@ in_reading d (Err e) = Err e
 in_reading d (Ok x) = Ok (record { reader = record { dialect = d; reader = x.reader }; until = x.until })
 
 -- a token leads the reader of a part where it leads the dialect's
-fed_same : (t : Sign) (at : ℕ) (n : Lexeme) (p : PartReader) → feed_sign feeding_part t at n p ≡ in_dialect p.dialect (feed_sign (feeding p.dialect) t at n p.reader)
+pub fed_same : (t : Sign) (at : ℕ) (n : Lexeme) (p : PartReader) → feed_sign feeding_part t at n p ≡ in_dialect p.dialect (feed_sign (feeding p.dialect) t at n p.reader)
 fed_same (broken k) at n p = refl
 fed_same t at n p = refl
 
@@ -83,7 +83,7 @@ names_same o bytes at found b = record { before = b.before; others = b.others; l
 
 -- ---- a step
 
-fails_same : (d : Dialect) (s : Stop) (x : Fed) → Fails s x → Fails s (in_dialect d x)
+pub fails_same : (d : Dialect) (s : Stop) (x : Fed) → Fails s x → Fails s (in_dialect d x)
 fails_same d stops.Memory x h = tt
 fails_same d (stops.Fault f) x h = ap (in_dialect d) h
 

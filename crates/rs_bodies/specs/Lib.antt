@@ -27,3 +27,6 @@ pub mod Drafts
 pub mod Feeding
 pub mod PartFeeding
 pub mod Ends
+pub mod Turns
+pub mod Marks
+pub mod Ahead

@@ -1,10 +1,12 @@
 //! The bodies of protocols and machines: one grammar in two dialects.
 #![tactic(auto)]
 
+mod ahead;
 pub mod canonical_laws;
 mod dialects;
 mod drafts;
 pub mod laws;
+mod marks;
 mod parts;
 mod places;
 mod points;

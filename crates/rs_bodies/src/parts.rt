@@ -1,19 +1,22 @@
 //! The reader of a part of either dialect.
 
-ghost use Rattle.std.specs.Prelude.{◌≡◌, ◌≤◌, length, IfOk, IfErr};
+ghost use Rattle.std.specs.Prelude.{◌≡◌, ◌≤◌, length, IfOk, IfErr, Ok};
 ghost use Rattle.rs_text.specs.FirstFaults.{IsRefusal};
+ghost use Rattle.rs_text.specs.Readings.{AreNamesBehind, Leaves, ReadsBy, StopsBy};
 ghost use Rattle.rs_text.specs.Sound.{AreReadable, IsSound};
 ghost use Rattle.rs_bodies.specs.Dialects.{most};
 ghost use Rattle.rs_bodies.specs.Drafts.{names_read, spelling_read};
 ghost use Rattle.rs_bodies.specs.Faults.{FirstFault, KeepsBy, LeavesBy};
 ghost use Rattle.rs_bodies.specs.Feeding.{start_of_part, first_roles, HasRead, HasStopped};
+ghost use Rattle.rs_bodies.specs.PartFeeding.{feeding_part, names_of_part};
 ghost use Rattle.rs_bodies.specs.Read.{IsPartRead};
+ghost use Rattle.rs_bodies.specs.Turns.{Passes, Refuses};
 
 use crate::dialects::Dialect;
 use crate::points::{Spelling, points, settled_number};
 use crate::reading::Reader;
 use rs_model::{Names, NoMemory};
-use rs_text::{Stop, TextFault, TextToken, TokenReader, read_tokens};
+use rs_text::{Stop, TextFault, TextToken, TokenReader, next_token};
 use std::alloc::Global;
 use std::mem;
 
@@ -42,6 +45,20 @@ impl<'a> TokenReader<'a> for PartReader<'a> {
     #[inline(always)]
     fn is_read(&self) -> bool {
         self.reader.is_read()
+    }
+}
+
+impl<'a> PartReader<'a> {
+    /// Takes the marks that stand directly at the offset, where just these are wanted, and gives the offset behind them.
+    #[inline(always)]
+    fn take_marks(&mut self, bytes: &[u8], at: usize) -> Result<usize, Stop>
+        requires at { at ≤ length bytes.now }
+        ensures passes { IfOk result (λ until. Passes feeding_part bytes.now at self.old until self.new) }
+        ensures ahead { IfOk result (λ until. at ≤ until) }
+        ensures within { IfOk result (λ until. until ≤ length bytes.now) }
+        ensures err { IfErr result (λ stop. Refuses feeding_part names_of_part stop bytes.now at self.old self.new) }
+    {
+        self.reader.take_marks(self.dialect, bytes, at)
     }
 }
 
@@ -105,6 +122,27 @@ fn read_with<'a>(
     let until = read_tokens(part, bytes, at)?;
     let spelling = spelling(alloc, &part.reader)?;
     Ok((spelling, until))
+}
+
+/// Feeds the reader the tokens from the offset `at` on until all is read, and gives the offset of the token behind. The
+/// marks directly behind a token are taken along with it.
+#[inline(always)]
+fn read_tokens<'a>(part: &mut PartReader<'a>, bytes: &'a [u8], at: usize) -> Result<usize, Stop>
+    requires at { at ≤ length bytes.now }
+    ensures ok { IfOk result (λ until. ReadsBy feeding_part part.old bytes.now at (Ok (record { reader = part.new; until = until }))) }
+    ensures within { IfOk result (λ until. until ≤ length bytes.now) }
+    ensures err { IfErr result (λ stop. StopsBy feeding_part stop part.old bytes.now at) }
+    ensures left { IfErr result (λ stop. Leaves feeding_part names_of_part stop part.old bytes.now at (names_of_part part.new)) }
+    ensures names { AreNamesBehind feeding_part names_of_part part.old bytes.now at (names_of_part part.new) }
+{
+    let mut until = at;
+    while !part.is_read() {
+        let token = next_token(bytes, until);
+        part.feed(&token, bytes)?;
+        until = part.take_marks(bytes, token.until())?;
+    }
+    let behind = next_token(bytes, until);
+    Ok(behind.from())
 }
 
 /// What was read.

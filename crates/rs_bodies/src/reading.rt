@@ -1,7 +1,7 @@
 //! The reader of bodies, token by token.
 
 ghost use Rattle.std.specs.Prelude.{◌≡◌, ◌≤◌, ◌<◌, ◌+◌, ◌++◌, ◌∷◌, [], length, OnOk, OnErr, IfOk, IfErr, IfSome, IfNone};
-ghost use Rattle.std.specs.Prelude.{Some, None, Option, Ok, Err, true, false, drop, reverse, codes, suc, nat_le, if◌then◌else◌};
+ghost use Rattle.std.specs.Prelude.{Some, None, Option, Ok, Err, true, false, ℕ, List, drop, reverse, codes, suc, nat_le, if◌then◌else◌};
 ghost use Rattle.std.specs.Option.{option_map};
 ghost use Rattle.rs_model.specs.declared.limits.TheConstants.{MOST_LABELS, MOST_ROLES, MOST_TALKS};
 ghost use Rattle.rs_text.specs.Lexing.{next_lexeme};
@@ -10,16 +10,20 @@ ghost use Rattle.rs_text.specs.Names.{nearest_binding, place_of};
 ghost use Rattle.rs_text.specs.Readings.{feed_sign};
 ghost use Rattle.rs_text.specs.Seen.{plain_text, word_text};
 ghost use Rattle.rs_text.specs.Seen.{is_text};
+ghost use Rattle.rs_text.specs.Signs.{close_brace, comma};
 ghost use Rattle.rs_bodies.specs.Drafts.{names_read};
-ghost use Rattle.rs_bodies.specs.Dialects.{most, turns};
+ghost use Rattle.rs_bodies.specs.Dialects.{most};
 ghost use Rattle.rs_bodies.specs.Feeding as spec;
+ghost use Rattle.rs_bodies.specs.Marks.{byte_of};
+ghost use Rattle.rs_bodies.specs.Turns.{Passes, Refuses};
 
+use crate::ahead::is_role;
 use crate::dialects::{Dialect, Head, Mark};
 use crate::drafts::{Draft, DraftArm, add_arm};
 use rs_model::{Label, MOST_ACTS, MOST_NESTING, MOST_ROLES, MOST_TALKS, Name, Role, Sort};
 use rs_text::{
     Binding, MessagePlace, MessageStep, NameTable, Stop, Terminal, TextKind, TextToken, Wanted,
-    bound_number, expected, fault, feed_label, feed_message, next_token, seen, unbind,
+    bound_number, expected, fault, feed_label, feed_message, seen, unbind,
 };
 use smallvec::SmallVec;
 use std::alloc::Global;
@@ -120,15 +124,18 @@ pub(crate) fn most_heads(dialect: Dialect) -> usize
     }
 }
 
-/// Whether the token behind a word makes it a role.
+/// The mark of an act, which a talk has not.
 #[inline(always)]
-fn is_turn(dialect: Dialect, token: &TextToken) -> bool
-    ensures { result ≡ turns dialect token.now.sign }
+fn act_mark(dialect: Dialect, bytes: &[u8]) -> Option<Mark>
+    ensures { IfSome result (λ mark. (dialect ≡ Dialect.Acts) × ((rest : List ℕ) × (bytes.now ≡ byte_of mark ∷ rest))) }
 {
-    match token.terminal() {
-        Terminal::Arrow => dialect == Dialect::Talks,
-        Terminal::Bang | Terminal::Question => dialect == Dialect::Acts,
-        _ => false,
+    match dialect {
+        Dialect::Talks => None,
+        Dialect::Acts => match bytes {
+            [b'!', ..] => Some(Mark::Puts),
+            [b'?', ..] => Some(Mark::Takes),
+            _ => None,
+        },
     }
 }
 
@@ -510,16 +517,16 @@ impl<'a> Reader<'a> {
                 }
                 _ => expected(Wanted::ColonOrBrace, token.from()),
             },
-            Dialect::Acts => self.first_label(act, token),
+            Dialect::Acts => self.label(Wanted::LabelOrBrace, act, token),
         }
     }
 
-    /// The label of a single arm.
+    /// The label of an arm, at a place where this is wanted.
     #[inline(always)]
-    fn first_label(&mut self, act: u32, token: &TextToken) -> Result<(), Stop>
-        ensures { spec.Feeds result (spec.in_message act (feed_label Wanted.LabelOrBrace (word_text token.now.sign) token.now.from self.old.labels) self.old) self.old self.new }
+    fn label(&mut self, wanted: Wanted, act: u32, token: &TextToken) -> Result<(), Stop>
+        ensures { spec.Feeds result (spec.in_message act (feed_label wanted (word_text token.now.sign) token.now.from self.old.labels) self.old) self.old self.new }
     {
-        let label = feed_label(Wanted::LabelOrBrace, token, self.alloc, &mut self.labels)?;
+        let label = feed_label(wanted, token, self.alloc, &mut self.labels)?;
         self.mode = Mode::InMessage {
             act,
             place: MessagePlace::Paren { label },
@@ -527,8 +534,24 @@ impl<'a> Reader<'a> {
         Ok(())
     }
 
+    // The label has a way of its own, since it is met most often.
     #[inline(always)]
     fn message(&mut self, act: u32, place: MessagePlace, token: &TextToken) -> Result<(), Stop>
+        ensures { spec.Feeds result (spec.in_message act (feed_message place token.now.sign token.now.from self.old.labels) self.old) self.old self.new }
+    {
+        match place {
+            MessagePlace::Label => self.label(Wanted::Label, act, token),
+            _ => self.message_further(act, place, token),
+        }
+    }
+
+    #[inline(always)]
+    fn message_further(
+        &mut self,
+        act: u32,
+        place: MessagePlace,
+        token: &TextToken,
+    ) -> Result<(), Stop>
         ensures { spec.Feeds result (spec.in_message act (feed_message place token.now.sign token.now.from self.old.labels) self.old) self.old self.new }
     {
         match feed_message(place, token, self.alloc, &mut self.labels)? {
@@ -561,6 +584,28 @@ impl<'a> Reader<'a> {
         self.depth = frame.depth;
     }
 
+    /// The comma before a further arm.
+    #[inline(always)]
+    fn next_arm(&mut self, frame: Frame)
+        ensures { (outer : List Frame) → self.old.frames ≡ frame ∷ outer → (at : ℕ) → spec.feed_behind comma at self.old ≡ Ok self.new }
+    {
+        self.restore(frame);
+        self.mode = Mode::InMessage {
+            act: frame.act,
+            place: MessagePlace::Label,
+        };
+    }
+
+    /// The brace behind the last arm.
+    #[inline(always)]
+    fn close(&mut self, frame: Frame)
+        ensures { (outer : List Frame) → self.old.frames ≡ frame ∷ outer → (at : ℕ) → spec.feed_behind close_brace at self.old ≡ Ok self.new }
+    {
+        let _closed = self.frames.pop();
+        self.restore(frame);
+        self.mode = Mode::Next;
+    }
+
     #[inline(always)]
     fn next(&mut self, token: &TextToken) -> Result<(), Stop>
         ensures { spec.Feeds result (spec.feed_behind token.now.sign token.now.from self.old) self.old self.new }
@@ -570,17 +615,11 @@ impl<'a> Reader<'a> {
         };
         match token.terminal() {
             Terminal::Comma => {
-                self.restore(frame);
-                self.mode = Mode::InMessage {
-                    act: frame.act,
-                    place: MessagePlace::Label,
-                };
+                self.next_arm(frame);
                 Ok(())
             }
             Terminal::CloseBrace => {
-                let _closed = self.frames.pop();
-                self.restore(frame);
-                self.mode = Mode::Next;
+                self.close(frame);
                 Ok(())
             }
             _ => expected(Wanted::CommaOrCloseBrace, token.from()),
@@ -602,8 +641,8 @@ impl<'a> Reader<'a> {
             Terminal::Rec => self.open_rec(from, token.from()),
             Terminal::End => self.end(from),
             Terminal::Plain(word) => {
-                let next = next_token(bytes, token.until());
-                self.word(dialect, from, word, token.from(), &next)
+                let is_role = is_role(dialect, bytes, token.until())?;
+                self.role_or_name(dialect, from, word, token.from(), is_role)
             }
             _ => expected(Wanted::Body, token.from()),
         }
@@ -632,35 +671,18 @@ impl<'a> Reader<'a> {
     }
 
     #[inline(always)]
-    fn word(
-        &mut self,
-        dialect: Dialect,
-        from: Link,
-        word: &[u8],
-        at: usize,
-        next: &TextToken,
-    ) -> Result<(), Stop>
-        ensures { spec.Feeds result (spec.feed_word dialect from word.now next.now.sign at next.now.from self.old) self.old self.new }
-    {
-        match next.terminal() {
-            Terminal::Faulty(kind) => fault(TextKind::from(kind), next.from()),
-            _ => self.role_or_name(dialect, from, word, at, next),
-        }
-    }
-
-    #[inline(always)]
     fn role_or_name(
         &mut self,
         dialect: Dialect,
         from: Link,
         word: &[u8],
         at: usize,
-        next: &TextToken,
+        is_role: bool,
     ) -> Result<(), Stop>
-        ensures { spec.Feeds result (if turns dialect next.now.sign then spec.feed_head_role dialect (place_of word.now self.old.roles) from at self.old else spec.feed_bound_name
+        ensures { spec.Feeds result (if is_role then spec.feed_head_role dialect (place_of word.now self.old.roles) from at self.old else spec.feed_bound_name
             (nearest_binding word.now self.old.bound) from at self.old) self.old self.new }
     {
-        if is_turn(dialect, next) {
+        if is_role {
             let first = self.roles.find_role(word);
             self.begin_head(dialect, from, first, at)
         } else {
@@ -715,6 +737,120 @@ impl<'a> Reader<'a> {
             Mode::InMessage { act, place } => self.message(act, place, token),
             Mode::ArmDot { act, label, sort } => self.arm_dot(act, label, sort, token),
             Mode::Next => self.next(token),
+        }
+    }
+
+    /// Takes the marks that stand directly at the offset, where just these are wanted, and gives the offset behind them.
+    #[inline(always)]
+    pub fn take_marks(&mut self, dialect: Dialect, bytes: &[u8], at: usize) -> Result<usize, Stop>
+        requires at { at ≤ length bytes.now }
+        ensures passes { IfOk result (λ until. Passes (spec.feeding dialect) bytes.now at self.old until self.new) }
+        ensures ahead { IfOk result (λ until. at ≤ until) }
+        ensures within { IfOk result (λ until. until ≤ length bytes.now) }
+        ensures err { IfErr result (λ stop. Refuses (spec.feeding dialect) names_read stop bytes.now at self.old self.new) }
+    {
+        let (_, here) = bytes.split_at(at);
+        match self.mode.marks(dialect, here) {
+            Some(marks) => {
+                self.mode = marks.behind;
+                Ok(at + marks.size)
+            }
+            None => self.take_mark(dialect, bytes, at),
+        }
+    }
+
+    /// The same, for one mark that changes more than the place in the grammar.
+    #[inline(always)]
+    fn take_mark(&mut self, dialect: Dialect, bytes: &[u8], at: usize) -> Result<usize, Stop>
+        requires at { at ≤ length bytes.now }
+        ensures passes { IfOk result (λ until. Passes (spec.feeding dialect) bytes.now at self.old until self.new) }
+        ensures ahead { IfOk result (λ until. at ≤ until) }
+        ensures within { IfOk result (λ until. until ≤ length bytes.now) }
+        ensures err { IfErr result (λ stop. Refuses (spec.feeding dialect) names_read stop bytes.now at self.old self.new) }
+    {
+        match self.mode {
+            Mode::AtTurn { from, first } => self.take_turn(dialect, from, first, bytes, at),
+            Mode::AtArms { act } => self.take_open_brace(dialect, act, bytes, at),
+            Mode::Next => Ok(self.take_behind(dialect, bytes, at)),
+            _ => Ok(at),
+        }
+    }
+
+    /// The mark of an act.
+    #[inline(always)]
+    fn take_turn(
+        &mut self,
+        dialect: Dialect,
+        from: Link,
+        peer: Role,
+        bytes: &[u8],
+        at: usize,
+    ) -> Result<usize, Stop>
+        requires at { at ≤ length bytes.now }
+        requires mode { self.old.mode ≡ Mode.AtTurn from peer }
+        ensures passes { IfOk result (λ until. Passes (spec.feeding dialect) bytes.now at self.old until self.new) }
+        ensures ahead { IfOk result (λ until. at ≤ until) }
+        ensures within { IfOk result (λ until. until ≤ length bytes.now) }
+        ensures err { IfErr result (λ stop. Refuses (spec.feeding dialect) names_read stop bytes.now at self.old self.new) }
+    {
+        let (_, here) = bytes.split_at(at);
+        match act_mark(dialect, here) {
+            Some(mark) => {
+                self.begin_act(Dialect::Acts, from, Head::Act { peer, mark }, at)?;
+                Ok(at + 1)
+            }
+            None => Ok(at),
+        }
+    }
+
+    #[inline(always)]
+    fn take_open_brace(
+        &mut self,
+        dialect: Dialect,
+        act: u32,
+        bytes: &[u8],
+        at: usize,
+    ) -> Result<usize, Stop>
+        requires at { at ≤ length bytes.now }
+        requires mode { self.old.mode ≡ Mode.AtArms act }
+        ensures passes { IfOk result (λ until. Passes (spec.feeding dialect) bytes.now at self.old until self.new) }
+        ensures ahead { IfOk result (λ until. at ≤ until) }
+        ensures within { IfOk result (λ until. until ≤ length bytes.now) }
+        ensures err { IfErr result (λ stop. Refuses (spec.feeding dialect) names_read stop bytes.now at self.old self.new) }
+    {
+        let (_, here) = bytes.split_at(at);
+        match here {
+            [b'{', ..] => {
+                self.open(act, at)?;
+                Ok(at + 1)
+            }
+            _ => Ok(at),
+        }
+    }
+
+    /// The mark behind a body, in braces.
+    #[inline(always)]
+    fn take_behind(&mut self, dialect: Dialect, bytes: &[u8], at: usize) -> usize
+        requires at { at ≤ length bytes.now }
+        requires mode { self.old.mode ≡ Mode.Next }
+        ensures passes { Passes (spec.feeding dialect) bytes.now at self.old result self.new }
+        ensures ahead { at ≤ result }
+        ensures within { result ≤ length bytes.now }
+    {
+        let Some(frame) = self.frames.last().copied() else {
+            return at;
+        };
+        let (_, here) = bytes.split_at(at);
+        match here {
+            [b',', ..] => {
+                self.next_arm(frame);
+                at + 1
+            }
+            [b'}', ..] => {
+                self.close(frame);
+                at + 1
+            }
+            _ => at,
         }
     }
 

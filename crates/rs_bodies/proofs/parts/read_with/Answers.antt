@@ -4,7 +4,7 @@ use Rattle.rs_bodies.proofs.parts.read_with.Goals as goal
 
 pub returns-in_err-until-clause-err : goal.returns-in_err-until-clause-err
 returns-in_err-until-clause-err c =
-    let stopped = has_stopped c.args.part.now c.read_tokens.new.reader c.in_err-until.field-0.0 c.args.bytes.now c.args.at c.requires.begun c.in_err-until.ensures.err c.in_err-until.ensures.left
+    let stopped = has_stopped c.args.part.now c.read_tokens.new.part c.in_err-until.field-0.0 c.args.bytes.now c.args.at c.requires.begun c.in_err-until.ensures.err c.in_err-until.ensures.left
     c.in_err-until.ensures.names in
     search (stopped, rules)
 
@@ -16,7 +16,7 @@ returns-in_err-until-clause-kept c = keeps_behind c.args.part.now c.args.bytes.n
 
 pub returns-in_err-spelling-clause-err : goal.returns-in_err-spelling-clause-err
 returns-in_err-spelling-clause-err c =
-    let lacks = lacks_memory c.args.part.now c.read_tokens.new.reader c.args.bytes.now c.args.at c.requires.begun c.in_ok-until.ensures.names in
+    let lacks = lacks_memory c.args.part.now c.read_tokens.new.part c.args.bytes.now c.args.at c.requires.begun c.in_ok-until.ensures.names in
     search (lacks, rules)
 
 pub returns-in_err-spelling-clause-sound : goal.returns-in_err-spelling-clause-sound
@@ -27,11 +27,11 @@ returns-in_err-spelling-clause-kept c = keeps_behind c.args.part.now c.args.byte
 
 pub returns-clause-ok : goal.returns-clause-ok
 returns-clause-ok c =
-    has_read c.args.part.now c.read_tokens.new.reader c.args.bytes.now c.args.at c.in_ok-until.until c.requires.at c.requires.begun c.requires.sound c.in_ok-until.ensures.ok c.in_ok-until.ensures.within
+    has_read c.args.part.now c.read_tokens.new.part c.args.bytes.now c.args.at c.in_ok-until.until c.requires.at c.requires.begun c.requires.sound c.in_ok-until.ensures.ok c.in_ok-until.ensures.within
 
 pub returns-clause-spelling : goal.returns-clause-spelling
 returns-clause-spelling c =
-    let read = has_read c.args.part.now c.read_tokens.new.reader c.args.bytes.now c.args.at c.in_ok-until.until c.requires.at c.requires.begun c.requires.sound c.in_ok-until.ensures.ok
+    let read = has_read c.args.part.now c.read_tokens.new.part c.args.bytes.now c.args.at c.in_ok-until.until c.requires.at c.requires.begun c.requires.sound c.in_ok-until.ensures.ok
     c.in_ok-until.ensures.within in
     let few = read.bounded in
     (c.in_ok-spelling.ensures.spelling, omega (arith, c.in_ok-spelling.ensures.count, few))
