@@ -1,14 +1,14 @@
 -- Nodes that are awaited, and never unreached, by what they lead to.
-use Rattle.std.proofs.Common.{◌≡◌, ◌↔◌, inl, inr, ℕ, Bool, true, false, List, [], ◌∷◌, get_or, set, Some, slice_get, refl, sym, subst, if◌then◌else◌}
+use Rattle.std.proofs.Common.{◌≡◌, inl, inr, ℕ, Bool, true, false, List, [], ◌∷◌, get_or, set, Some, slice_get, refl, sym, subst, if◌then◌else◌}
 use Rattle.rs_model.specs.Data.{Protocol_data}
 use Rattle.rs_model.specs.declared.graph.Arm.{Arm}
 use Rattle.rs_model.specs.declared.graph.Node.{Node}
 use Rattle.rs_model.specs.declared.graph.Node.TheVariants.{Finished, Talk}
 use Rattle.rs_model.specs.declared.graph.Role.{Role}
 use Rattle.rs_graph.specs.Lists.{Among}
-use Rattle.rs_project.specs.Awaited.{HasNoUnreached, all_on, leads_only_on}
-use Rattle.rs_project.specs.Graph.{LeadsTo, Involves, IsUnreached}
-use Rattle.rs_project.specs.Marks.{IsOn, IsSurvey, Survey_data}
+use Rattle.rs_project.specs.Awaited.{HasNoUnreached, MarksNode, all_on}
+use Rattle.rs_project.specs.Graph.{LeadsTo, Involves}
+use Rattle.rs_project.specs.Marks.{IsOn, IsSurvey, Survey_data, arms_of_node, nexts_of_node}
 use Rattle.rs_project.specs.Numbered.{nexts_of}
 use Rattle.rs_project.specs.Refusals.{NoneUnreached}
 use Rattle.rs_project.proofs.Cycles.{passes_unreached}
@@ -26,11 +26,11 @@ all_each flags (a ∷ arms) next m h = go (get_or flags a.next false) refl m h (
     go true e (inr k) g rest = rest k g
     go false e k g rest = absurd (cc (g))
 
-all_led : (pr : Protocol_data) (flags : List Bool) (n place next : ℕ) (node : Node) → slice_get pr.nodes n ≡ Some node → LeadsTo pr n place next → leads_only_on flags node ≡ true → IsOn flags next
-all_led pr flags n place next Finished is goes all = absurd (cc (all))
+all_led : (pr : Protocol_data) (flags : List Bool) (n place next : ℕ) (node : Node) → slice_get pr.nodes n ≡ Some node → LeadsTo pr n place next → all_on flags (arms_of_node node) ≡ true → IsOn flags next
+all_led pr flags n place next Finished is goes all = absurd (leads_among pr n place next Finished is goes)
 all_led pr flags n place next (Talk sender receiver arms) is goes all = all_each flags arms next (leads_among pr n place next (Talk sender receiver arms) is goes) all
 
-pub reached_more : (pr : Protocol_data) (role : Role) (flags : List Bool) (n : ℕ) (node : Node) → slice_get pr.nodes n ≡ Some node → leads_only_on flags node ≡ true → HasNoUnreached pr role flags
+reached_more : (pr : Protocol_data) (role : Role) (flags : List Bool) (n : ℕ) (node : Node) → slice_get pr.nodes n ≡ Some node → all_on flags (arms_of_node node) ≡ true → HasNoUnreached pr role flags
     → HasNoUnreached pr role (set flags n true)
 reached_more pr role flags n node is all none = λ m u on. elim (set_only flags n m on) [
   | inl k ↦ none m u k
@@ -39,9 +39,25 @@ reached_more pr role flags n node is all none = λ m u on. elim (set_only flags 
       none o.1 o.3 (all_led pr flags n o.0 o.1 node is (subst P (sym e) o.2) all))
 ]
 
+-- so no more are where a node was marked that leads to flagged ones alone
+pub reached_node : (pr : Protocol_data) (role : Role) (awaited passing : List Bool) (ends : List ℕ) (awaited' passing' : List Bool) (ends' : List ℕ) (n : ℕ) (node : Node)
+    → slice_get pr.nodes n ≡ Some node → MarksNode (arms_of_node node) n true awaited passing ends awaited' passing' ends' → HasNoUnreached pr role awaited → HasNoUnreached pr role awaited'
+reached_node pr role awaited passing ends awaited' passing' ends' n node is marks none =
+    let P : List Bool → Type 0 = λ z. HasNoUnreached pr role z in
+    subst P (sym marks.is_awaited) (reached_more pr role awaited n node is (marks.all refl) none)
+
 -- no talk of the role is unreached
-pub reached_talks : (pr : Protocol_data) (role : Role) (flags : List Bool) → ((n : ℕ) → IsOn flags n ↔ Involves pr role n) → HasNoUnreached pr role flags
-reached_talks pr role flags are = λ n u on. (passes_unreached pr role n u).uninvolved ((are n).0 on)
+pub reached_own : (pr : Protocol_data) (role : Role) (flags : List Bool) (n : ℕ) → Involves pr role n → HasNoUnreached pr role flags → HasNoUnreached pr role (set flags n true)
+reached_own pr role flags n own none = λ m u on. elim (set_only flags n m on) [
+  | inl k ↦ none m u k
+  | inr e ↦ (let P : ℕ → Type 0 = λ z. Involves pr role z in (passes_unreached pr role m u).uninvolved (subst P e own))
+]
+
+-- where a node leads to flagged nodes alone, all behind it are flagged
+pub behind_flagged : (pr : Protocol_data) (flags : List Bool) (n next : ℕ) (node : Node) → slice_get pr.nodes n ≡ Some node → all_on flags (arms_of_node node) ≡ true → Among (nexts_of_node node) next
+    → IsOn flags next
+behind_flagged pr flags n next Finished is all m = absurd m
+behind_flagged pr flags n next (Talk sender receiver arms) is all m = all_each flags arms next m all
 
 -- where no unreached node is awaited, there is none
 pub none_unreached : (pr : Protocol_data) (role : Role) (survey : Survey_data) → IsSurvey pr role survey → HasNoUnreached pr role survey.awaited → NoneUnreached pr role

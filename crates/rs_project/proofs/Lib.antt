@@ -2,14 +2,15 @@ pub mod Lists
 pub mod Written
 pub mod Handed
 pub mod Flags
+pub mod Left
 pub mod Spread
 pub mod Walks
-pub mod Surveys
 pub mod Cycles
 pub mod Peels
+pub mod Runs
+pub mod Surveys
 pub mod Awaiting
 pub mod Rows
-pub mod Runs
 pub mod Lone
 pub mod Routes
 pub mod Merged

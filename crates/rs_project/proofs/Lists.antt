@@ -1,5 +1,6 @@
 -- Members of lists, by recursion, and places in lists.
-use Rattle.std.proofs.Common.{◌≡◌, ◌⊎◌, inl, inr, ℕ, zero, suc, ◌<◌, List, [], ◌∷◌, ◌++◌, length, map, Some, slice_get, get_or, refl, sym, ap, subst, arith}
+use Rattle.std.proofs.Common.{◌≡◌, ◌⊎◌, inl, inr, ℕ, zero, suc, ◌<◌, List, [], ◌∷◌, ◌++◌, length, map, take, Some, slice_get, get_or, refl, sym, ap, ◌∙◌, subst, arith}
+use Rattle.std.proofs.Math.Seq.{take-append_seam}
 use Rattle.std.specs.List.{Contains}
 use Rattle.rs_graph.specs.Lists.{Among}
 
@@ -69,3 +70,7 @@ read_self xs i x h e = read_at xs i x x h (sym e)
 -- what was read of a list that is another one
 pub read_via : {A : Type 0} (xs ys : List A) (i : ℕ) (x : A) → ys ≡ xs → i < length xs → x ≡ get_or ys i x → slice_get xs i ≡ Some x
 read_via {A} xs ys i x e h r = let P : List A → Type 0 = λ z. x ≡ get_or z i x in read_self xs i x h (subst P e r)
+
+-- a list of that length that was written over another one
+pub written_over : {A : Type 0} (count : ℕ) (xs ys : List A) → count ≡ length xs → take count (xs ++ ys) ≡ xs
+written_over count xs ys e = ap (λ (z : ℕ). take z (xs ++ ys)) e ∙ take-append_seam xs ys

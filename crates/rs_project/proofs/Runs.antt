@@ -1,5 +1,6 @@
 -- Where the runs of nodes that pass by a role end.
-use Rattle.std.proofs.Common.{◌≡◌, ◌≢◌, inl, inr, ℕ, ◌<◌, Bool, true, false, List, [], ◌∷◌, length, set, get_or, Some, slice_get, refl, sym, ap, ◌∙◌, subst, arith, if◌then◌else◌}
+use Rattle.std.proofs.Common.{◌≡◌, ◌≢◌, inl, inr, ℕ, ◌+◌, ◌<◌, ◌≤◌, Bool, true, false, List, [], ◌∷◌, length, set, get_or, Some, slice_get, refl, sym, ap, ◌∙◌, subst, arith, if◌then◌else◌}
+use Rattle.std.proofs.lemmas.Bool.{cases_lt}
 use Rattle.std.proofs.lemmas.Bool.Decides.{eqb_tells}
 use Rattle.std.proofs.lemmas.List.{get_or-set_same, get_or-set_other, length-set}
 use Rattle.rs_model.specs.Data.{Protocol_data}
@@ -10,7 +11,7 @@ use Rattle.rs_model.specs.declared.graph.Role.{Role}
 use Rattle.rs_wellformed.specs.WellFormed.{IsWellFormed}
 use Rattle.rs_project.specs.Graph.{PathStep, LeadsTo, IsPath, Involves, PassesBy, AllPassBy, MeetsFirst, MeetsTheEnd}
 use Rattle.rs_graph.specs.Lists.{Among}
-use Rattle.rs_project.specs.Marks.{AreRunEnds, HasEnd, StandsFor, have_end, nexts_of_node}
+use Rattle.rs_project.specs.Marks.{AreRunEnds, GoesOn, HasEnd, StandsFor, arms_of_node, have_end, nexts_of_node}
 use Rattle.rs_project.specs.Numbered.{nexts_of}
 use Rattle.rs_project.proofs.Cycles.{next_within}
 use Rattle.rs_project.proofs.Spread.{among_leads, leads_among, step_of}
@@ -71,40 +72,58 @@ first_next : (arms : List Arm) → arms ≢ [] → (next : ℕ) × Among (nexts_
 first_next [] some = absurd (some refl)
 first_next (a ∷ arms) some = (a.next, inl refl)
 
-pub own_ends : (pr : Protocol_data) (role : Role) (ends : List ℕ) → length ends ≡ length pr.nodes → ((n : ℕ) → n < length pr.nodes → get_or ends n 0 ≡ n) → AreRunEnds pr role ends
-own_ends pr role ends size each = record {
+-- none is told of yet
+pub no_ends : (pr : Protocol_data) (role : Role) (ends : List ℕ) → length ends ≡ length pr.nodes → AreRunEnds pr role (length pr.nodes) ends
+no_ends pr role ends size = record {
   size = size;
-  within = λ n h. (let e = each n h in omega (arith, e, h));
-  stands = λ n h. (let P : ℕ → Type 0 = λ z. StandsFor pr role n z in subst P (sym (each n h)) (stands_itself pr role n));
+  within = λ n from h. absurd (let bad : ⊥ = omega (arith, from, h) in bad);
+  stands = λ n from h. absurd (let bad : ⊥ = omega (arith, from, h) in bad);
 }
 
-set_end : (pr : Protocol_data) (role : Role) (ends : List ℕ) (n end : ℕ) → end < length pr.nodes → StandsFor pr role n end → AreRunEnds pr role ends → AreRunEnds pr role (set ends n end)
-set_end pr role ends n end within stands runs = record {
+set_end : (pr : Protocol_data) (role : Role) (from from' : ℕ) (ends : List ℕ) (n end : ℕ) → end < length pr.nodes → StandsFor pr role n end → ((m : ℕ) → from' ≤ m → (m ≡ n → ⊥) → from ≤ m)
+    → AreRunEnds pr role from ends → AreRunEnds pr role from' (set ends n end)
+set_end pr role from from' ends n end within stands others runs = record {
   size = length-set ends n end ∙ runs.size;
-  within = λ m h. elim (eqb_tells m n) [
+  within = λ m f h. elim (eqb_tells m n) [
     | inl p ↦ (let e = here m p.1 h in omega (arith, e, within))
-    | inr p ↦ (let e = get_or-set_other ends n m end 0 p.1 in let w = runs.within m h in omega (arith, e, w))
+    | inr p ↦ (let e = get_or-set_other ends n m end 0 p.1 in let w = runs.within m (others m f p.1) h in omega (arith, e, w))
   ];
-  stands = λ m h. (let P : ℕ → Type 0 = λ z. StandsFor pr role m z in elim (eqb_tells m n) [
+  stands = λ m f h. (let P : ℕ → Type 0 = λ z. StandsFor pr role m z in elim (eqb_tells m n) [
     | inl p ↦ (let Q : ℕ → Type 0 = λ z. StandsFor pr role z end in subst P (sym (here m p.1 h)) (subst Q (sym p.1) stands))
-    | inr p ↦ subst P (sym (get_or-set_other ends n m end 0 p.1)) (runs.stands m h)
+    | inr p ↦ subst P (sym (get_or-set_other ends n m end 0 p.1)) (runs.stands m (others m f p.1) h)
   ]);
 }
   where
     here : (m : ℕ) → m ≡ n → m < length pr.nodes → get_or (set ends n end) m 0 ≡ end
     here m e h = let s = runs.size in ap (λ (z : ℕ). get_or (set ends n end) z 0) e ∙ get_or-set_same ends n end 0 (omega (arith, e, h, s))
 
+-- the run from one more node ends there
+pub own_end : (pr : Protocol_data) (role : Role) (ends : List ℕ) (n : ℕ) → n < length pr.nodes → AreRunEnds pr role (n + 1) ends → AreRunEnds pr role n (set ends n n)
+own_end pr role ends n h runs = set_end pr role (n + 1) n ends n n h (stands_itself pr role n) (λ m f ne. after m f ne) runs
+  where
+    after : (m : ℕ) → n ≤ m → (m ≡ n → ⊥) → n + 1 ≤ m
+    after m f ne = elim (cases_lt n m) [ inl k ↦ omega (arith, k) | inr k ↦ absurd (ne (omega (arith, f, k))) ]
+
 -- the run goes on behind the node
-pub run_on : (pr : Protocol_data) (role : Role) (ends : List ℕ) (n end : ℕ) (node : Node) → IsWellFormed pr → PassesBy pr role n → slice_get pr.nodes n ≡ Some node → HasEnd ends end node
-    → AreRunEnds pr role ends → AreRunEnds pr role (set ends n end)
-run_on pr role ends n end Finished wf passes is has runs = absurd has
-run_on pr role ends n end (Talk sender receiver arms) wf passes is has runs =
+run_on : (pr : Protocol_data) (role : Role) (from : ℕ) (ends : List ℕ) (n end : ℕ) (node : Node) → IsWellFormed pr → PassesBy pr role n → slice_get pr.nodes n ≡ Some node → HasEnd ends end (arms_of_node node)
+    → ((next : ℕ) → Among (nexts_of_node node) next → from ≤ next) → AreRunEnds pr role from ends → AreRunEnds pr role from (set ends n end)
+run_on pr role from ends n end Finished wf passes is has behind runs = absurd (has.0 refl)
+run_on pr role from ends n end (Talk sender receiver arms) wf passes is has behind runs =
     let node : Node = Talk sender receiver arms in
     let first = first_next arms has.0 in
     let fits : (next : ℕ) → Among (nexts_of arms) next → next < length pr.nodes = λ next m. (let g = among_leads pr n next node is m in next_within pr n g.0 next wf g.1) in
-    let w = runs.within first.0 (fits first.0 first.1) in
+    let w = runs.within first.0 (behind first.0 first.1) (fits first.0 first.1) in
     let e = same_end ends end arms has.1 first.0 first.1 in
-    set_end pr role ends n end (omega (arith, w, e))
+    set_end pr role from from ends n end (omega (arith, w, e))
     (stands_behind pr role n first.0 end node passes is first.1
-    (λ next m. (let P : ℕ → Type 0 = λ z. StandsFor pr role next z in subst P (same_end ends end arms has.1 next m) (runs.stands next (fits next m)))))
-    runs
+    (λ next m. (let P : ℕ → Type 0 = λ z. StandsFor pr role next z in subst P (same_end ends end arms has.1 next m) (runs.stands next (behind next m) (fits next m)))))
+    (λ m f ne. f) runs
+
+pub gone_on_run : (pr : Protocol_data) (role : Role) (from : ℕ) (ends ends' : List ℕ) (n : ℕ) (node : Node) → IsWellFormed pr → PassesBy pr role n → slice_get pr.nodes n ≡ Some node
+    → ((next : ℕ) → Among (nexts_of_node node) next → from ≤ next) → GoesOn (arms_of_node node) n ends ends' → AreRunEnds pr role from ends → AreRunEnds pr role from ends'
+gone_on_run pr role from ends ends' n node wf passes is behind goes runs =
+    let P : List ℕ → Type 0 = λ z. AreRunEnds pr role from z in
+    elim goes [
+      | inl e ↦ subst P (sym e) runs
+      | inr g ↦ subst P (sym g.2) (run_on pr role from ends n g.0 node wf passes is g.1 behind runs)
+    ]

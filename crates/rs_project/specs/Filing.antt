@@ -1,8 +1,10 @@
 -- Steps: how the number of a front is found again: along the chain of numbers that begins at the head of the front's bucket.
-use Rattle.std.specs.Prelude.{◌≡◌, ℕ, suc, ◌≤◌, false, List, [], ◌∷◌, length, Option, None, Some, slice_get, slice_index_or, slice_set}
+use Rattle.std.specs.Prelude.{◌≡◌, ℕ, suc, ◌<◌, ◌≤◌, false, List, [], ◌∷◌, length, Option, None, Some, slice_get, slice_index_or, slice_set}
 use Rattle.rs_model.specs.declared.limits.TheConstants.{MOST_STATES}
 use Rattle.rs_model.specs.Chains.{AreChained, bucket_on}
 use Rattle.rs_project.specs.Data.{Front_data}
+use Rattle.rs_project.specs.declared.filing.Filing.{Filing}
+use Rattle.rs_project.specs.declared.filing.Filing.TheVariants.{Lone, Shared}
 use Rattle.rs_project.specs.declared.filing.TheConstants.{BUCKETS}
 
 -- the bucket of a front: that of its talks
@@ -16,6 +18,17 @@ lone_front talk = record { talks = talk ∷ []; ends = false }
 -- the front isn't that of one talk alone
 abbrev pub IsShared : Front_data → Type 0
 IsShared front = (talk : ℕ) → front ≡ lone_front talk → ⊥
+
+-- the front isn't that of one talk alone, and this is its bucket
+pub record IsInBucket (bucket : ℕ) (front : Front_data) : Type 0 where
+  pub is : bucket ≡ bucket_of_front front
+  pub within : bucket < BUCKETS
+  pub shared : IsShared front
+
+-- the front is filed under this
+abbrev pub IsFiledUnder : Filing → Front_data → Type 0
+IsFiledUnder (Lone talk) front = front ≡ lone_front talk
+IsFiledUnder (Shared bucket) front = IsInBucket bucket front
 
 -- there are so many buckets, and each front that isn't that of one talk alone is chained by its bucket
 pub record FrontsAreFiled (fronts : List Front_data) (heads links : List ℕ) : Type 0 where

@@ -140,30 +140,40 @@ pub record StandsFor (protocol : Protocol_data) (role : Role) (n other : ℕ) : 
   pub meets : (talk : ℕ) → MeetsFirst protocol role n talk ↔ MeetsFirst protocol role other talk
   pub ends : MeetsTheEnd protocol role n ↔ MeetsTheEnd protocol role other
 
--- for each node, where the run that begins there ends: a node from which the role meets the same
-pub record AreRunEnds (protocol : Protocol_data) (role : Role) (ends : List ℕ) : Type 0 where
+-- for each node from that number on, where the run that begins there ends: a node from which the role meets the same
+pub record AreRunEnds (protocol : Protocol_data) (role : Role) (from : ℕ) (ends : List ℕ) : Type 0 where
   pub size : length ends ≡ length protocol.nodes
-  pub within : (n : ℕ) → n < length protocol.nodes → slice_index_or ends n 0 < length protocol.nodes
-  pub stands : (n : ℕ) → n < length protocol.nodes → StandsFor protocol role n (slice_index_or ends n 0)
+  pub within : (n : ℕ) → from ≤ n → n < length protocol.nodes → slice_index_or ends n 0 < length protocol.nodes
+  pub stands : (n : ℕ) → from ≤ n → n < length protocol.nodes → StandsFor protocol role n (slice_index_or ends n 0)
 
--- the flags tell which nodes involve the role, from some nodes it is known that a talk of it can be reached, those of them
--- that don't involve it are passing, and runs were followed
-pub record AreMarked (protocol : Protocol_data) (role : Role) (involved awaited passing : List Bool) (ends : List ℕ) : Type 0 where
-  pub talks : (n : ℕ) → IsOn involved n ↔ Involves protocol role n
+-- of the nodes from that number on the flags tell which involve the role, from some of them it is known that a talk of the role
+-- can be reached, those of them that don't involve it are passing, and runs were followed; no node before is flagged
+pub record AreMarked (protocol : Protocol_data) (role : Role) (from : ℕ) (involved awaited passing : List Bool) (ends : List ℕ) : Type 0 where
+  pub talks : (n : ℕ) → IsOn involved n → Involves protocol role n
+  pub whole : (n : ℕ) → from ≤ n → Involves protocol role n → IsOn involved n
   pub has : HasFlags involved awaited
   pub reaches : AllAwaited protocol role awaited
-  pub passes : (n : ℕ) → n < length involved → slice_index_or passing n false ≡ (slice_index_or awaited n false && not (slice_index_or involved n false))
-  pub runs : AreRunEnds protocol role ends
+  pub later : (n : ℕ) → IsOn awaited n → from ≤ n
+  pub passes : (n : ℕ) → slice_index_or passing n false ≡ (slice_index_or awaited n false && not (slice_index_or involved n false))
+  pub runs : AreRunEnds protocol role from ends
+
+-- of the nodes from that number on all that aren't flagged are those from the first to before the end, or some of them
+pub record AreLeft (from first end : ℕ) (flags : List Bool) : Type 0 where
+  pub within : end ≤ length flags
+  pub each : (n : ℕ) → from ≤ n → n < length flags → (IsOn flags n → ⊥) → (first ≤ n) × (n < end)
 
 -- the arms lead to nodes whose runs all end at that node
 abbrev pub have_end : List ℕ → ℕ → List Arm → Bool
 have_end ends end [] = true
 have_end ends end (a ∷ arms) = if slice_index_or ends a.next 0 == end then have_end ends end arms else false
 
--- the node has arms, and the runs behind all of them end at that one
-abbrev pub HasEnd : List ℕ → ℕ → Node → Type 0
-HasEnd ends end Finished = ⊥
-HasEnd ends end (Talk sender receiver arms) = (arms ≢ []) × (have_end ends end arms ≡ true)
+-- there are arms, and the runs behind all of them end at that node
+abbrev pub HasEnd : List ℕ → ℕ → List Arm → Type 0
+HasEnd ends end arms = (arms ≢ []) × (have_end ends end arms ≡ true)
+
+-- the run from node n, which has these arms, ends where it ended, or where the runs behind all arms do
+abbrev pub GoesOn : List Arm → ℕ → List ℕ → List ℕ → Type 0
+GoesOn arms n old new = (new ≡ old) ⊎ ((end : ℕ) × HasEnd old end arms × (new ≡ slice_set old n end))
 
 -- two flags and an end for each node
 pub record HaveNodeSizes (protocol : Protocol_data) (awaited passing : List Bool) (ends : List ℕ) : Type 0 where
@@ -196,7 +206,7 @@ pub record IsTrueSurvey (known : Survey_data) : Type 0 where
   pub well_formed : IsWellFormed known.protocol
   pub bounded : length known.protocol.nodes < 2 ^ 32
   pub survey : IsSurvey known.protocol known.role known
-  pub runs : AreRunEnds known.protocol known.role known.run_ends
+  pub runs : AreRunEnds known.protocol known.role 0 known.run_ends
 
 -- the talk involves the role, and is the one that it meets first from node n; nor does it meet the end
 pub record MeetsOnly (protocol : Protocol_data) (role : Role) (n talk : ℕ) : Type 0 where

@@ -2,7 +2,7 @@
 ghost use Rattle.std.specs.Prelude.{◌≡◌, ◌==◌, ◌<◌, ◌≤◌, ◌++◌, ◌∷◌, [], ℕ, true, false, length, slice_get, slice_index_or, Some, IfOk, IfSome, OnOk, OnErr, MatchOption};
 ghost use Rattle.rs_model.specs.declared.limits.TheConstants.{MOST_STATES};
 ghost use Rattle.rs_model.specs.Chains.{IsChained, bucket_on};
-ghost use Rattle.rs_project.specs.Filing.{IsShared, lone_front, with_number};
+ghost use Rattle.rs_project.specs.Filing.{IsFiledUnder, IsInBucket, lone_front, with_number};
 ghost use Rattle.rs_project.specs.declared.filing.TheConstants.{BUCKETS};
 ghost use Rattle.rs_project.specs.Working.{FrontIsNew};
 
@@ -13,6 +13,23 @@ use std::alloc::Global;
 use std::marker::Model;
 
 const BUCKETS: usize = 251;
+
+/// Under what a front is filed: its talk where it is that of one talk alone, else its bucket.
+#[derive(Clone, Copy)]
+pub enum Filing {
+    Lone(u32),
+    Shared(usize),
+}
+
+/// Under what the front is filed.
+pub fn filing_of(front: &Front) -> Filing
+    ensures { IsFiledUnder result front.now }
+{
+    match front.lone_talk() {
+        Some(talk) => Filing::Lone(talk),
+        None => Filing::Shared(bucket_of(front.talks.as_slice())),
+    }
+}
 
 /// Fronts in the order in which they were found, with an index by which one is found again: of each bucket the head of a
 /// chain of numbers, and of each number the next of its chain. A front of one talk alone is found by the talk, and stands
@@ -81,20 +98,21 @@ impl Fronts {
     }
 
     /// The number of the front, where it was found before.
-    pub fn number_of(&self, front: &Front) -> Option<u32>
+    pub fn number_of(&self, front: &Front, filing: Filing) -> Option<u32>
+        requires { IsFiledUnder filing front.now }
         ensures { MatchOption result (FrontIsNew self.now front.now) (λ n. slice_get self.now n ≡ Some front.now) }
     {
-        match front.lone_talk() {
-            Some(talk) => self.number_of_lone(talk),
-            None => self.number_of_shared(front),
+        match filing {
+            Filing::Lone(talk) => self.number_of_lone(talk),
+            Filing::Shared(bucket) => self.number_of_shared(front, bucket),
         }
     }
 
-    fn number_of_shared(&self, front: &Front) -> Option<u32>
-        requires { IsShared front.now }
+    fn number_of_shared(&self, front: &Front, bucket: usize) -> Option<u32>
+        requires { IsInBucket bucket front.now }
         ensures { MatchOption result (FrontIsNew self.now front.now) (λ n. slice_get self.now n ≡ Some front.now) }
     {
-        let head = self.heads[bucket_of(front.talks.as_slice())];
+        let head = self.heads[bucket];
         number_along(&self.items, &self.links, head, front)
     }
 
@@ -110,22 +128,31 @@ impl Fronts {
     }
 
     /// Adds a front at the end.
-    pub fn add(&mut self, front: Front) -> Result<(), NoMemory>
-        requires { length self.old < MOST_STATES }
+    pub fn add(&mut self, front: Front, filing: Filing) -> Result<(), NoMemory>
+        requires room { length self.old < MOST_STATES }
+        requires filing { IsFiledUnder filing front }
         ensures ok { OnOk result (self.new ≡ self.old ++ (front ∷ [])) }
         ensures err { OnErr result (self.new ≡ self.old) }
     {
-        let bucket = bucket_of(front.talks.as_slice());
+        match filing {
+            Filing::Lone(talk) => self.add_at(front, talk),
+            Filing::Shared(bucket) => self.add_shared(front, bucket),
+        }
+    }
+
+    fn add_shared(&mut self, front: Front, bucket: usize) -> Result<(), NoMemory>
+        requires room { length self.old < MOST_STATES }
+        requires bucket { IsInBucket bucket front }
+        ensures ok { OnOk result (self.new ≡ self.old ++ (front ∷ [])) }
+        ensures err { OnErr result (self.new ≡ self.old) }
+    {
         let number = self.items.len() as u32;
         let head = self.heads[bucket];
-        let talk = front.lone_talk();
-        make_room(&mut self.lone, talk)?;
         self.items.reserve(1)?;
         self.links.reserve(1)?;
         self.items.push_reserved(front);
         self.links.push_reserved(head);
         self.heads[bucket] = number + 1;
-        set_number(&mut self.lone, talk, number + 1);
         Ok(())
     }
 
@@ -135,7 +162,16 @@ impl Fronts {
         ensures ok { OnOk result (self.new ≡ self.old ++ (lone_front talk ∷ [])) }
         ensures err { OnErr result (self.new ≡ self.old) }
     {
-        let front = lone_front(alloc, talk);
+        self.add_at(lone_front(alloc, talk), talk)
+    }
+
+    #[inline(always)]
+    fn add_at(&mut self, front: Front, talk: u32) -> Result<(), NoMemory>
+        requires room { length self.old < MOST_STATES }
+        requires lone { front ≡ lone_front talk }
+        ensures ok { OnOk result (self.new ≡ self.old ++ (front ∷ [])) }
+        ensures err { OnErr result (self.new ≡ self.old) }
+    {
         let number = self.items.len() as u32;
         make_room(&mut self.lone, Some(talk))?;
         self.items.reserve(1)?;

@@ -1,6 +1,7 @@
 //! What a role may meet first, found by marks.
-ghost use Rattle.std.specs.Prelude.{◌≡◌, ◌↔◌, ◌<◌, ◌∷◌, [], ℕ, false, not, length, slice_index_or, IfOk, MatchOption};
+ghost use Rattle.std.specs.Prelude.{◌≡◌, ◌↔◌, ◌<◌, ◌∷◌, [], ℕ, false, true, not, length, slice_index_or, IfOk, MatchOption};
 ghost use Rattle.std.specs.List.{All, AllPairs, Contains, filter, list_any};
+ghost use Rattle.std.specs.List.Sorted.{IsStrictlyIncreasing};
 ghost use Rattle.rs_project.specs.Filing.{lone_front};
 ghost use Rattle.rs_project.specs.Working.{IsFrontFrom};
 
@@ -85,7 +86,30 @@ fn flagged_numbers(alloc: Global, numbers: &[u32], flags: &[bool]) -> Result<Tal
 }
 
 /// The numbers in order, each once.
-pub fn in_order(mut numbers: TalkSet) -> TalkSet
+pub fn in_order(numbers: TalkSet) -> TalkSet
+    ensures rising { AllPairs (λ (n m : ℕ). n < m) result.items }
+    ensures same { (n : ℕ) → Contains result.items n ↔ Contains numbers.items n }
+{
+    if is_rising(numbers.as_slice()) {
+        return numbers;
+    }
+    put_in_order(numbers)
+}
+
+// Whether each number is below the next.
+fn is_rising(numbers: &[u32]) -> bool
+    ensures { result ≡ true → IsStrictlyIncreasing numbers.now }
+{
+    for place in 1..numbers.len() {
+        if numbers[place - 1] >= numbers[place] {
+            return false;
+        }
+    }
+    true
+}
+
+#[inline(never)]
+fn put_in_order(mut numbers: TalkSet) -> TalkSet
     ensures rising { AllPairs (λ (n m : ℕ). n < m) result.items }
     ensures same { (n : ℕ) → Contains result.items n ↔ Contains numbers.items n }
 {

@@ -104,17 +104,17 @@ pub fn project(alloc: Global, protocol: &Protocol, role: Role) -> Result<Project
     if let Some(node) = first_unreached(alloc, &known.survey, known.has_no_rounds)? {
         return Err(ProjFault::Unreached { role, node });
     }
-    let projection = work(alloc, &known.survey)?;
+    let projection = work(alloc, &known.survey, known.usual_size)?;
     Ok(projection)
 }
 
-fn work(alloc: Global, survey: &Survey) -> Result<Projection, ProjFault>
+// The projection, with room for so many states.
+fn work(alloc: Global, survey: &Survey, room: usize) -> Result<Projection, ProjFault>
     requires reached { NoneUnreached survey.now.protocol survey.now.role }
     ensures ok { IfOk result (λ p. IsNumberedProjection survey.now.protocol survey.now.role p) }
     ensures err { IfErr result (λ e. (e ≡ ProjFault.NoMemory) ⊎ FirstRefusal survey.now.protocol survey.now.role e) }
 {
     let protocol = survey.protocol;
-    let room = usual_size(&survey.involved);
     let mut search = Search::new(alloc, survey, room)?;
     let _first = search.find_from(alloc, protocol.root)?;
     let mut states: Vec<State> = Vec::with_capacity(alloc, room)?;
@@ -130,17 +130,6 @@ fn work(alloc: Global, survey: &Survey) -> Result<Projection, ProjFault>
         start: 0,
     };
     Ok(Projection { machine, sets })
-}
-
-// How many states most projections have: one for each talk that involves the role, and the end.
-fn usual_size(involved: &[bool]) -> usize {
-    let mut size = 1;
-    for flag in involved {
-        if *flag {
-            size += 1;
-        }
-    }
-    size
 }
 
 fn state_of(alloc: Global, search: &mut Search, number: usize) -> Result<State, ProjFault>

@@ -2,12 +2,12 @@
 ghost use Rattle.std.specs.Prelude.{◌≡◌, ◌≢◌, ◌<◌, ◌≤◌, ◌∷◌, [], length, IfOk, IfErr, IfSome, OnErr};
 ghost use Rattle.std.specs.List.{All};
 ghost use Rattle.rs_model.specs.declared.limits.TheConstants.{MOST_STATES};
-ghost use Rattle.rs_project.specs.Filing.{lone_front};
+ghost use Rattle.rs_project.specs.Filing.{IsFiledUnder, lone_front};
 ghost use Rattle.rs_project.specs.Marks.{StandsFor};
 ghost use Rattle.rs_project.specs.Working.{AddsFront, AreFoundFronts, FaultFrom, FindsFrom, IsFrontFrom, FrontIsNew, NumberFault};
 
 use crate::ProjFault;
-use crate::filing::{Fronts, make_room, number_at, set_number};
+use crate::filing::{Filing, Fronts, filing_of, make_room, number_at, set_number};
 use crate::fronts::{Front, marked_front};
 use crate::spreading::Marks;
 use crate::straight::{run_end, straight_front};
@@ -207,14 +207,16 @@ fn number_of(role: Role, fronts: &mut Fronts, front: Front) -> Result<u32, ProjF
     ensures err { IfErr result (λ e. NumberFault role fronts.old front e) }
     ensures same { OnErr result (fronts.new ≡ fronts.old) }
 {
-    if let Some(number) = fronts.number_of(&front) {
+    let filing = filing_of(&front);
+    if let Some(number) = fronts.number_of(&front, filing) {
         return Ok(number);
     }
-    add_new(role, fronts, front)
+    add_new(role, fronts, front, filing)
 }
 
-fn add_new(role: Role, fronts: &mut Fronts, front: Front) -> Result<u32, ProjFault>
-    requires { FrontIsNew fronts.old front }
+fn add_new(role: Role, fronts: &mut Fronts, front: Front, filing: Filing) -> Result<u32, ProjFault>
+    requires new { FrontIsNew fronts.old front }
+    requires filing { IsFiledUnder filing front }
     ensures ok { IfOk result (λ n. AddsFront fronts.old front fronts.new n) }
     ensures err { IfErr result (λ e. NumberFault role fronts.old front e) }
     ensures same { OnErr result (fronts.new ≡ fronts.old) }
@@ -223,6 +225,6 @@ fn add_new(role: Role, fronts: &mut Fronts, front: Front) -> Result<u32, ProjFau
         return Err(ProjFault::TooManyStates { role });
     }
     let number = fronts.len();
-    fronts.add(front)?;
+    fronts.add(front, filing)?;
     Ok(number as u32)
 }

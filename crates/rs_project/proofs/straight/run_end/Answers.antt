@@ -15,7 +15,7 @@ loop-preserved c =
     let P : ℕ → Type 0 = λ z. z < length c.args.survey.now.protocol.nodes in
     let Q : ℕ → Type 0 = λ z. StandsFor c.args.survey.now.protocol c.args.survey.now.role c.loop.node z in
     record {
-      within = subst P e (runs.within c.loop.node c.loop.invariant.within);
+      within = subst P e (runs.within c.loop.node (omega arith) c.loop.invariant.within);
       stands = stands_via c.args.survey.now.protocol c.args.survey.now.role c.args.start c.loop.node c.index-end.result.now c.loop.invariant.stands
-          (subst Q e (runs.stands c.loop.node c.loop.invariant.within));
+          (subst Q e (runs.stands c.loop.node (omega arith) c.loop.invariant.within));
     }
