@@ -1,7 +1,7 @@
 -- The projections and machines of a session, as they are found one by one.
 use Rattle.std.proofs.Common.{min, drop, append-nil, slice_index_or, ◌≡◌, ◌⊎◌, ℕ, zero, suc, ◌+◌, ◌<◌, ◌≤◌, List, [], ◌∷◌, ◌++◌, length, Option, Some, None, refl, sym, ap, subst, ◌∙◌, inl, inr}
 use Rattle.std.proofs.Common.{arith, slice_get, length-append}
-use Rattle.std.proofs.lemmas.Option.{slice_get-get_or, slice_get_within}
+use Rattle.std.proofs.lemmas.Option.{same_Some, slice_get-get_or, slice_get_within}
 use Rattle.rs_model.specs.Data.{Protocol_data, Machine_data}
 use Rattle.rs_model.proofs.Faults.{right}
 use Rattle.rs_model.specs.Faults.{first_fault}
@@ -152,6 +152,14 @@ chosen_projection (x ∷ own) [] place m none e = absurd cc
 chosen_projection (Some y ∷ own) (p ∷ projections) zero m none e = absurd cc
 chosen_projection (None ∷ own) (p ∷ projections) zero m none e = (p, refl, cc (e))
 chosen_projection (x ∷ own) (p ∷ projections) (suc place) m none e = chosen_projection own projections place m none e
+
+-- so it is the projection's at that place
+pub same_as_projection : (own : List (Option Machine_data)) (projections : List Projection_data) (machines : List Machine_data) (place : ℕ) (m : Machine_data) (p : Projection_data)
+    → machines ≡ machines_of own projections → slice_get own place ≡ Some None → slice_get machines place ≡ Some m → slice_get projections place ≡ Some p → m ≡ p.machine
+same_as_projection own projections machines place m p is none e at =
+    let P : List Machine_data → Type 0 = λ z. slice_get z place ≡ Some m in
+    let c = chosen_projection own projections place m none (subst P is e) in
+    sym c.2 ∙ ap (λ (z : Projection_data). z.machine) (same_Some c.0 p (sym c.1 ∙ at))
 
 -- what isn't an own machine is well formed
 pub others_have_no_fault : (protocol : Protocol_data) (own : List (Option Machine_data)) (projections : List Projection_data) (machines : List Machine_data) → IsWellFormed protocol

@@ -1,10 +1,13 @@
 //! The derivations of a session, role by role.
 
-ghost use Rattle.std.specs.Prelude.{◌≡◌, ◌⊎◌, IfOk, IfErr, OnOk, length};
+ghost use Rattle.std.specs.Prelude.{◌≡◌, ◌⊎◌, IfOk, IfErr, OnOk, None, Some, length, slice_get, true};
 ghost use Rattle.rs_model.specs.Data.{Protocol_data};
+ghost use Rattle.rs_derive.specs.Derivations.{IsProper};
 ghost use Rattle.rs_model.specs.Limits.{IsBound};
+ghost use Rattle.rs_search.specs.Canonical.{IsCanonical, SearchRefuses};
 ghost use Rattle.rs_safety.specs.Sessions.{IsSession};
 ghost use Rattle.rs_answers.specs.Derivations.{AreCanonical, IsUnderivable};
+ghost use Rattle.rs_answers.specs.Machines.{machines_of};
 ghost use Rattle.rs_documents.specs.Ready.{DocumentIsReady};
 ghost use Rattle.rs_answers.specs.Refusals.{HasNoDerivations};
 ghost use Rattle.rs_answers.specs.Sessions.{HasMachines};
@@ -15,7 +18,7 @@ use rs_derive::Derivation;
 use rs_documents::Document;
 use rs_model::{Bound, Machine, Role};
 use rs_project::Projection;
-use rs_search::{SearchFault, search};
+use rs_search::{SearchFault, search, search_own};
 use std::alloc::Global;
 
 /// The first role for whose machine the search finds no derivation, and why.
@@ -25,15 +28,44 @@ pub struct Underivable {
     pub fault: SearchFault,
 }
 
+// Whether the role at that place has no machine of its own, and so runs its projection.
+fn runs_projection(own: &[Option<Machine>], place: usize) -> bool
+    ensures { result ≡ true → slice_get own.now place ≡ Some None }
+{
+    matches!(own.get(place), Some(None))
+}
+
+// The canonical derivation of a role's machine from its projection, where it may be known that they are the same.
+fn derivation_of(
+    alloc: Global,
+    is_projection: bool,
+    machine: &Machine,
+    projection: &Machine,
+    bound: u8,
+) -> Result<Derivation, SearchFault>
+    requires ours { IsProper machine.now }
+    requires theirs { IsProper projection.now }
+    requires same { is_projection ≡ true → machine.now ≡ projection.now }
+    ensures ok { IfOk result (λ d. IsCanonical machine.now projection.now bound d) }
+    ensures err { IfErr result (λ e. SearchRefuses machine.now projection.now bound e) }
+{
+    if is_projection {
+        return search_own(alloc, machine, bound);
+    }
+    search(alloc, machine, projection, bound)
+}
+
 /// The canonical derivations of a session's machines from their projections within the bound, in role order; or the first
-/// role for whose machine there is none.
+/// role for whose machine there is none. A role without a machine among its `own` runs its projection.
 pub fn derivations_of(
     alloc: Global,
+    own: &[Option<Machine>],
     projections: &[Projection],
     machines: &[Machine],
     bound: u8,
 ) -> Result<Vec<Derivation>, Underivable>
     requires session { (protocol : Protocol_data) × IsSession protocol projections.now machines.now }
+    requires machines { machines.now ≡ machines_of own.now projections.now }
     ensures ok { IfOk result (λ derivations. AreCanonical bound machines.now projections.now derivations.items) }
     ensures err { IfErr result (λ u. (u.fault ≡ SearchFault.NoMemory) ⊎ IsUnderivable bound machines.now projections.now u.role u.fault) }
 {
@@ -41,7 +73,14 @@ pub fn derivations_of(
     for place in 0..machines.len() {
         let role = Role(place as u8);
         let projection = &projections[place];
-        let derivation = match search(alloc, &machines[place], &projection.machine, bound) {
+        let is_projection = runs_projection(own, place);
+        let derivation = match derivation_of(
+            alloc,
+            is_projection,
+            &machines[place],
+            &projection.machine,
+            bound,
+        ) {
             Ok(derivation) => derivation,
             Err(fault) => return Err(Underivable { role, fault }),
         };
@@ -81,8 +120,10 @@ pub fn derived_session(
         projections,
         machines,
     } = session_of(alloc, document)?;
+    let own = document.machines.as_slice();
     let derivations = derivations_of(
         alloc,
+        own,
         projections.as_slice(),
         machines.as_slice(),
         bound.number(),

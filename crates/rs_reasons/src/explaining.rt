@@ -203,8 +203,10 @@ fn explain_session(
     requires has { HasMachines document.now session.now.projections.items session.now.machines.items }
     ensures { IfOk result (ExplainsBy places.now bound document.now) }
 {
+    let own = document.machines.as_slice();
     match derivations_of(
         alloc,
+        own,
         session.projections.as_slice(),
         session.machines.as_slice(),
         bound.number(),

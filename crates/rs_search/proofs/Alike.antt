@@ -214,6 +214,10 @@ pub state_within : (m : Machine_data) (p : Spot) → IsOfItself m p → p.state 
 state_within m p (Even s lt e) = subst (λ (z : Spot). z.state < length m.states) (sym e) lt
 state_within m p (Owes s i q arms b es eb e) = subst (λ (z : Spot). z.state < length m.states) (sym e) (at_short m.states s (Takes q arms) es)
 
+pub above_within : (m : Machine_data) → IsProper m → (p : Spot) → IsOfItself m p → p.above < length m.states
+above_within m w p (Even s lt e) = subst (λ (z : Spot). z.above < length m.states) (sym e) lt
+above_within m w p (Owes s i q arms b es eb e) = subst (λ (z : Spot). z.above < length m.states) (sym e) ((w.1.takes s q arms es).nexts i b eb)
+
 -- the numbers of the even spots
 
 set_get_same : (xs : List (Option ℕ)) (i : ℕ) (v : Option ℕ) → i < length xs → slice_get (set xs i v) i ≡ Some v
@@ -453,11 +457,16 @@ found_itself m found nodes w d few kind a bound some =
 pub nexts_even : (m : Machine_data) (p : Spot) (st : State) → p.pending ≡ [] → slice_get m.states p.state ≡ Some st → even_nexts p.state (Some st) ≡ nexts_itself m p
 nexts_even m p st e es = ap (λ (o : Option State). even_nexts p.state o) (sym es) ∙ ap (λ (z : List Act). onward z p.state (slice_get m.states p.state) p.above) (sym e)
 
--- a state that was read stands at the place of the spot
-pub state_at : (m m' : Machine_data) (p p' : Spot) (x st : State) → m' ≡ m → p' ≡ p → IsOfItself m p → x ≡ get_or m'.states p'.state x → x ≡ st → slice_get m.states p.state ≡ Some st
-state_at m m' p p' x st em ep kind is e =
-    let lt = state_within m p kind in
-    reads_at m.states p.state x x lt (subst (λ (z : Spot). get_or m.states z.state x ≡ x) ep (subst (λ (z : Machine_data). get_or z.states p'.state x ≡ x) em (sym is))) ∙ ap (λ (z : State). Some z) e
+pub nexts_owed : (m : Machine_data) (p : Spot) → (p.pending ≡ [] → ⊥) → even p.above ∷ [] ≡ nexts_itself m p
+nexts_owed m p ne = go p.pending refl
+  where
+    go : (xs : List Act) → p.pending ≡ xs → even p.above ∷ [] ≡ onward p.pending p.state (slice_get m.states p.state) p.above
+    go [] q = absurd (ne q)
+    go (a ∷ later) q = ap (λ (z : List Act). onward z p.state (slice_get m.states p.state) p.above) (sym q)
+
+-- a state that was read stands at its place
+pub state_at : (m m' : Machine_data) (s : ℕ) (x st : State) → m' ≡ m → s < length m.states → x ≡ get_or m'.states s x → x ≡ st → slice_get m.states s ≡ Some st
+state_at m m' s x st em lt is e = reads_at m.states s x x lt (subst (λ (z : Machine_data). get_or z.states s x ≡ x) em (sym is)) ∙ ap (λ (z : State). Some z) e
 
 pub first_spot : (old new : List Spot) (y : Spot) (n : ℕ) → old ≡ [] → Adds old y new → slice_get new n ≡ Some y → new ≡ y ∷ []
 first_spot old new y n e (inl q) at' = absurd (none-some y (subst (λ (z : List Spot). slice_get z n ≡ Some y) (q ∙ e) at'))
@@ -466,9 +475,6 @@ first_spot old new y n e (inr q) at' = q.1 ∙ ap (λ (z : List Spot). z ++ (y �
 map_end : (nodes : List DNode_data) (node : DNode_data) → nexts_in (nodes ++ (node ∷ [])) ≡ nexts_in nodes ++ (node.next ∷ [])
 map_end [] node = refl
 map_end (n ∷ nodes) node = ap (λ (z : List (List ℕ)). n.next ∷ z) (map_end nodes node)
-
-pub spot_in : (found : List Spot) (i : ℕ) (p q : Spot) → slice_get found i ≡ Some p → q ≡ p → slice_get found i ≡ Some q
-spot_in found i p q e h = e ∙ ap (λ (z : Spot). Some z) (sym h)
 
 -- as far as the nodes are made
 pub record AreMade (m : Machine_data) (found : List Spot) (nodes : List DNode_data) : Type 0 where

@@ -96,6 +96,9 @@ same_spots nodes k old new e h = same_results spot_of nodes k new old (h ∙ ap 
 pub same_nexts : (nodes : List DNode_data) (k : ℕ) (old new : DNode_data) → old ≡ get_or nodes k old → new.next ≡ old.next → nexts_of_nodes (set nodes k new) ≡ nexts_of_nodes nodes
 same_nexts nodes k old new e h = same_results (λ (n : DNode_data). n.next) nodes k new old (h ∙ ap (λ (n : DNode_data). n.next) e)
 
+pub same_ranks : (nodes : List DNode_data) (k : ℕ) (old new : DNode_data) → old ≡ get_or nodes k old → new.rank ≡ old.rank → ranks_of (set nodes k new) ≡ ranks_of nodes
+same_ranks nodes k old new e h = same_results (λ (n : DNode_data). n.rank) nodes k new old (h ∙ ap (λ (n : DNode_data). n.rank) e)
+
 pub new_ranks : (nodes : List DNode_data) (k : ℕ) (new : DNode_data) → ranks_of (set nodes k new) ≡ set (ranks_of nodes) k new.rank
 new_ranks nodes k new = map-set (λ (n : DNode_data). n.rank) nodes k new
 

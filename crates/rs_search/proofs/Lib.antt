@@ -10,6 +10,7 @@ pub mod Determined
 pub mod Discovering
 pub mod Filing
 pub mod Forced
+pub mod Lengthening
 pub mod Naming
 pub mod Noding
 pub mod Places

@@ -1,6 +1,6 @@
 -- Several spots are named one by one.
 use Rattle.std.proofs.Common.{◌≡◌, ◌⊎◌, inl, inr, ℕ, ◌<◌, ◌≤◌, ◌+◌, List, [], ◌∷◌, ◌++◌, length, map, refl, sym, ap, ◌∙◌, subst, arith, zero, suc, None, Some, Option, slice_get, get_or, take, Result}
-use Rattle.std.proofs.Common.{Ok, Err, OnErr, ◌^◌, append_assoc, length-append}
+use Rattle.std.proofs.Common.{Ok, Err, OnErr, ◌^◌, append-nil, append_assoc, length-append}
 use Rattle.std.proofs.lemmas.Option.{none-some, same_Some}
 use Rattle.rs_model.specs.declared.graph.Arm.{Arm}
 use Rattle.rs_model.specs.declared.machines.Act.{Act}
@@ -134,6 +134,13 @@ both_short pending a (Some b) = omega arith
 -- an arm that both send, where the projection has it
 pub both_is : (pending : List Act) (a b : Arm) (o : Option Arm) (r : Spot) → o ≡ Some b → r ≡ spot a.next pending b.next → both_at pending a o ≡ r ∷ []
 both_is pending a b o r eo er = ap (λ (z : Option Arm). both_at pending a z) eo ∙ ap (λ (z : Spot). z ∷ []) (sym er)
+
+-- the only arm that both send
+pub both_one : (pending : List Act) (theirs arms : List Arm) (d : Arm) (o : Option Arm) → 0 < length arms → length arms < 2 → o ≡ arm_of theirs (get_or arms 0 d).label
+    → both_at pending (get_or arms 0 d) o ≡ concat (map (λ a. both_at pending a (arm_of theirs a.label)) arms)
+both_one pending theirs [] d o some few e = let bad : ⊥ = omega arith in absurd bad
+both_one pending theirs (x ∷ []) d o some few e = ap (λ (z : Option Arm). both_at pending x z) e ∙ sym (append-nil (both_at pending x (arm_of theirs x.label)))
+both_one pending theirs (x ∷ y ∷ xs) d o some few e = let bad : ⊥ = omega arith in absurd bad
 
 pub named_both : (pending : List Act) (theirs : List Arm) (old cur new : List Spot) (xs : List Arm) (i : ℕ) (d : Arm) → (get_or xs i d).label.0 < 2 ^ 16 → (o : Option Arm) (row row' : List ℕ)
     → i < length xs

@@ -10,11 +10,6 @@ use Rattle.rs_model.specs.declared.machines.State.TheVariants.{Done, Puts, Takes
 use Rattle.rs_derive.specs.Moves.{Spot, owing_receive, spot}
 use Rattle.rs_graph.specs.Naming.{AreNamed, Grown}
 
--- what is owed: an act, or nothing
-abbrev pub owed_list : Option Act → List Act
-owed_list None = []
-owed_list (Some a) = a ∷ []
-
 -- both stand at one state, and nothing is owed
 abbrev pub even : ℕ → Spot
 even s = spot s [] s

@@ -7,6 +7,7 @@ pub mod Forward
 pub mod Found
 pub mod FoundSoFar
 pub mod Itself
+pub mod Longer
 pub mod Nodes
 pub mod Survives
 pub mod Spots

@@ -251,7 +251,7 @@ fn name_if(
     }
 }
 
-// The numbers of the spots behind arms that both send.
+// The numbers of the spots behind arms that both send, arm by arm.
 fn name_both(
     alloc: Global,
     table: &mut SpotTable,
@@ -274,6 +274,65 @@ fn name_both(
         name_if(alloc, table, &mut row, k, *arm, their, limit)?;
     }
     Ok(row)
+}
+
+// The number of the spot behind an arm that both send, where the projection has the arm.
+#[inline(always)]
+fn name_one_sent(
+    alloc: Global,
+    table: &mut SpotTable,
+    k: usize,
+    arm: Arm,
+    their: Option<Arm>,
+    limit: usize,
+) -> Result<Nexts, SearchStop>
+    requires within { StandsWithin table.old.spots k limit }
+    ensures named { IfOk result (λ nexts. AreNamedAt (λ p. both_at p.pending arm their) table.old.spots k table.new.spots (numbers_of nexts)) }
+    ensures short { IfOk result (λ nexts. length (numbers_of nexts) ≤ 2 ^ 16) }
+    ensures grown { OnErr result (GrowsBy (λ p. both_at p.pending arm their) table.old.spots k table.new.spots) }
+    ensures limit { MatchResult result (λ _. length table.new.spots ≤ limit) (λ e. e ≡ TooLarge → limit < length table.new.spots) }
+    ensures rows { table.new.rows ≡ table.old.rows }
+{
+    match their {
+        Some(their) => {
+            let n = name_one(alloc, table, k, target_of_both(arm, their), limit)?;
+            Ok(Nexts::One(n))
+        }
+        None => {
+            let none = NodeRow::new(alloc);
+            Ok(Nexts::Several(none))
+        }
+    }
+}
+
+// The numbers of the spots behind arms that both send; one arm needs no row.
+#[inline(always)]
+fn name_sent(
+    alloc: Global,
+    table: &mut SpotTable,
+    k: usize,
+    arms: &[Arm],
+    theirs: &[Arm],
+    limit: usize,
+) -> Result<Nexts, SearchStop>
+    requires within { StandsWithin table.old.spots k limit }
+    requires once { HasLabelsOnce arms.now }
+    ensures named { IfOk result (λ nexts. AreNamedAt (λ p. concat (map (λ a. both_at p.pending a (arm_of theirs.now a.label)) arms.now)) table.old.spots k table.new.spots (numbers_of nexts)) }
+    ensures short { IfOk result (λ nexts. length (numbers_of nexts) ≤ 2 ^ 16) }
+    ensures grown { OnErr result (GrowsBy (λ p. concat (map (λ a. both_at p.pending a (arm_of theirs.now a.label)) arms.now)) table.old.spots k table.new.spots) }
+    ensures limit { MatchResult result (λ _. length table.new.spots ≤ limit) (λ e. e ≡ TooLarge → limit < length table.new.spots) }
+    ensures rows { table.new.rows ≡ table.old.rows }
+{
+    match arms {
+        [arm] => {
+            let their = arm_of(theirs, arm.label);
+            name_one_sent(alloc, table, k, *arm, their, limit)
+        }
+        _ => {
+            let row = name_both(alloc, table, k, arms, theirs, limit)?;
+            Ok(Nexts::Several(row))
+        }
+    }
 }
 
 // The numbers of the spots to which the rule leads.
@@ -305,10 +364,7 @@ fn name_by(
             let n = name_paid(alloc, table, k, place, arm, limit)?;
             Ok(Nexts::One(n))
         }
-        Rule::SendsBoth => {
-            let row = name_both(alloc, table, k, arms, theirs, limit)?;
-            Ok(Nexts::Several(row))
-        }
+        Rule::SendsBoth => name_sent(alloc, table, k, arms, theirs, limit),
         Rule::Guesses { peer } => name_owing(alloc, table, k, ActKind::Send, peer, theirs, limit),
         Rule::Follows { peer } => name_owing(
             alloc,

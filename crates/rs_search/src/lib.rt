@@ -14,6 +14,6 @@ mod turns;
 
 pub use faults::SearchFault;
 pub use found::Candidates;
-pub use searches::{search, search_counted};
+pub use searches::{search, search_counted, search_own};
 pub use survivors::candidates_of;
 pub use table::SpotTable;

@@ -35,14 +35,27 @@ pub fn search(
     ensures ok { IfOk result (λ d. IsCanonical sub.now above.now bound d) }
     ensures err { IfErr result (λ e. SearchRefuses sub.now above.now bound e) }
 {
-    if bound > 0 && sub.same(above) {
-        match search_itself(alloc, sub, bound) {
+    if sub.same(above) {
+        return search_own(alloc, sub, bound);
+    }
+    search_by::<Brand>(alloc, sub, above, bound, Blank::new(1))
+}
+
+/// The search for a machine that is its projection: the canonical derivation of the machine from itself. Callers that
+/// know that it is need no comparison.
+pub fn search_own(alloc: Global, machine: &Machine, bound: u8) -> Result<Derivation, SearchFault>
+    requires proper { IsProper machine.now }
+    ensures ok { IfOk result (λ d. IsCanonical machine.now machine.now bound d) }
+    ensures err { IfErr result (λ e. SearchRefuses machine.now machine.now bound e) }
+{
+    if bound > 0 {
+        match search_itself(alloc, machine, bound) {
             Ok(derivation) => return Ok(derivation),
             Err(SearchStop::Memory) => return Err(SearchFault::NoMemory),
             Err(SearchStop::TooLarge) => {}
         }
     }
-    search_by::<Brand>(alloc, sub, above, bound, Blank::new(1))
+    search_by::<Brand>(alloc, machine, machine, bound, Blank::new(1))
 }
 
 fn search_by<L: Ledger>(

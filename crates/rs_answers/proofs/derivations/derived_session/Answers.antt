@@ -1,5 +1,6 @@
-use Rattle.std.proofs.Common.{◌≡◌, ◌⊎◌, List, sym, subst₂}
+use Rattle.std.proofs.Common.{◌≡◌, ◌⊎◌, ◌∙◌, List, ap, sym, subst₂}
 use Rattle.rs_model.specs.Data.{Machine_data}
+use Rattle.rs_documents.specs.Data.{Document_data}
 use Rattle.rs_project.specs.Data.{Projection_data}
 use Rattle.rs_safety.specs.Sessions.{IsSession}
 use Rattle.rs_search.specs.declared.faults.SearchFault.TheVariants as search
@@ -19,6 +20,8 @@ derivations_of-requires c = record {
     subst₂ (λ (x : List Projection_data) (y : List Machine_data). IsSession c.args.document.now.protocol x y) (sym c.as_slice.ensures.value) (sym c.as_slice-2.ensures.value)
         (session_has c.args.document.now c.in_ok-projections.field-0.projections.items c.in_ok-projections.field-0.machines.items c.requires.ready c.in_ok-projections.ensures.ok),
   );
+  machines = rw (c.as_slice-own.ensures.value ∙ ap (λ (d : Document_data). d.machines) c.document.view_is, c.as_slice.ensures.value, c.as_slice-2.ensures.value)
+      c.in_ok-projections.ensures.ok.machines_are;
 }
 
 pub returns-in_err-derivations-clause-err : goal.returns-in_err-derivations-clause-err

@@ -1,10 +1,11 @@
-use Rattle.std.proofs.Common.{All, ℕ, List, sym, subst, subst₂}
+use Rattle.std.proofs.Common.{All, ◌∙◌, ℕ, List, ap, sym, subst, subst₂}
 use Rattle.std.proofs.lemmas.Result.{IfOk-weaker}
 use Rattle.rs_answers.proofs.Derivings.{all_owe_few, session_has}
 use Rattle.rs_answers.specs.Derivations.{AreCanonical}
 use Rattle.rs_derive.specs.Data.{Derivation_data}
 use Rattle.rs_safety.specs.Figures.{OwesFew}
 use Rattle.rs_model.specs.Data.{Machine_data}
+use Rattle.rs_documents.specs.Data.{Document_data}
 use Rattle.rs_project.specs.Data.{Projection_data}
 use Rattle.rs_safety.specs.Sessions.{IsSession}
 use Rattle.rs_reasons.proofs.explaining.explain_session.Goals as goal
@@ -16,6 +17,7 @@ derivations_of-requires c = record {
     subst₂ (λ (x : List Projection_data) (y : List Machine_data). IsSession c.args.document.now.protocol x y) (sym c.as_slice.ensures.value) (sym c.as_slice-2.ensures.value)
         (session_has c.args.document.now c.args.session.now.projections.items c.args.session.now.machines.items c.requires.ready c.requires.has),
   );
+  machines = rw (c.as_slice-own.ensures.value ∙ ap (λ (d : Document_data). d.machines) c.document.view_is, c.as_slice.ensures.value, c.as_slice-2.ensures.value) c.requires.has.machines_are;
 }
 
 pub explain_accepted-requires-clause-few : goal.explain_accepted-requires-clause-few

@@ -32,21 +32,22 @@ returns-in_err-n-in-Pays-clause-grown c =
     on_err _ (subst (λ (r : Rule). GrowsBy (λ p. concat (nexts_by p c.args.arms.now c.args.theirs.now r)) c.args.table.now.spots c.args.k c.name_paid.new.table.spots)
     (sym c.in-Pays.is) c.in_err-n-in-Pays.ensures.grown)
 
-pub name_both-requires-clause-once : goal.name_both-requires-clause-once
-name_both-requires-clause-once c = c.requires.once.ours
+pub name_sent-requires-clause-once : goal.name_sent-requires-clause-once
+name_sent-requires-clause-once c = c.requires.once.ours
 
 pub name_owing-requires-clause-once : goal.name_owing-requires-clause-once
 name_owing-requires-clause-once c = c.requires.once.theirs_too
 
-pub returns-in_ok-row-in-SendsBoth-clause-named : goal.returns-in_ok-row-in-SendsBoth-clause-named
-returns-in_ok-row-in-SendsBoth-clause-named c =
-    subst (λ (r : Rule). AreNamedAt (λ p. concat (nexts_by p c.args.arms.now c.args.theirs.now r)) c.args.table.now.spots c.args.k c.name_both.new.table.spots c.in_ok-row-in-SendsBoth.row)
-    (sym c.in-SendsBoth.is) c.in_ok-row-in-SendsBoth.ensures.named
+pub returns-in-SendsBoth-clause-named : goal.returns-in-SendsBoth-clause-named
+returns-in-SendsBoth-clause-named c =
+    subst (λ (r : Rule). IfOk c.name_sent.result
+    (λ row. AreNamedAt (λ p. concat (nexts_by p c.args.arms.now c.args.theirs.now r)) c.args.table.now.spots c.args.k c.name_sent.new.table.spots (numbers_of row)))
+    (sym c.in-SendsBoth.is) c.name_sent.ensures.named
 
-pub returns-in_err-row-in-SendsBoth-clause-grown : goal.returns-in_err-row-in-SendsBoth-clause-grown
-returns-in_err-row-in-SendsBoth-clause-grown c =
-    on_err _ (subst (λ (r : Rule). GrowsBy (λ p. concat (nexts_by p c.args.arms.now c.args.theirs.now r)) c.args.table.now.spots c.args.k c.name_both.new.table.spots)
-    (sym c.in-SendsBoth.is) c.in_err-row-in-SendsBoth.ensures.grown)
+pub returns-in-SendsBoth-clause-grown : goal.returns-in-SendsBoth-clause-grown
+returns-in-SendsBoth-clause-grown c =
+    subst (λ (r : Rule). OnErr c.name_sent.result (GrowsBy (λ p. concat (nexts_by p c.args.arms.now c.args.theirs.now r)) c.args.table.now.spots c.args.k c.name_sent.new.table.spots))
+    (sym c.in-SendsBoth.is) c.name_sent.ensures.grown
 
 pub returns-in-Guesses-clause-named : goal.returns-in-Guesses-clause-named
 returns-in-Guesses-clause-named c =

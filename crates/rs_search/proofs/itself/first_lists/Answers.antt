@@ -1,13 +1,16 @@
-use Rattle.std.proofs.Common.{rules, ◌≡◌, ◌∷◌, [], ◌∙◌, length, ap}
+use Rattle.std.proofs.Common.{rules, ◌≡◌, ◌∷◌, [], ◌∙◌, List, length, ap}
 use Rattle.rs_model.specs.Data.{Machine_data}
+use Rattle.rs_derive.specs.Data.{DNode_data}
 use Rattle.rs_search.proofs.Alike.{first_spot}
 use Rattle.rs_search.specs.Itself.{even}
+use Rattle.rs_search.specs.Spots.{spots_of}
 use Rattle.rs_search.proofs.itself.first_lists.Goals as goal
 
 pub returns-clause-found : goal.returns-clause-found
 returns-clause-found c =
     let e = c.in_ok-come_to.ensures in
-    first_spot c.in_ok-found.found.items c.come_to.new.found.items (even c.machine.inside.start) c.in_ok-come_to.field-0 c.in_ok-found.ensures.items e.named.adds e.named.at
+    first_spot (spots_of c.in_ok-nodes.nodes.items) (spots_of c.come_to.new.nodes.items) (even c.machine.inside.start) c.in_ok-come_to.field-0
+    (ap (λ (z : List DNode_data). spots_of z) c.in_ok-nodes.ensures.items) e.named.adds e.named.at
     ∙ ap (λ (z : Machine_data). even z.start ∷ []) c.machine.view_is
 
 pub returns-clause-positions : goal.returns-clause-positions

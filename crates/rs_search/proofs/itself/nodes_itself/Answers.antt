@@ -1,37 +1,25 @@
-use Rattle.std.proofs.Common.{arith, ◌++◌, List, ◌∷◌, [], ◌∙◌, length, sym, ap}
-use Rattle.rs_derive.specs.Data.{DNode_data}
-use Rattle.rs_graph.proofs.Growth.{in_at, reads_at}
-use Rattle.rs_search.proofs.Alike.{made_all, made_fresh, made_none, made_on, spot_in}
+use Rattle.std.proofs.Common.{arith, ◌<◌, length}
+use Rattle.rs_graph.proofs.Growth.{in_at}
+use Rattle.rs_search.specs.Spots.{spots_of}
+use Rattle.rs_search.proofs.Lengthening.{begun, ended, fresh_at, made_next}
 use Rattle.rs_search.proofs.itself.nodes_itself.Goals as goal
 
-pub loop-alloc-init : goal.loop-alloc-init
-loop-alloc-init c =
-    let e = c.in_ok-found.ensures in
-    (made_none c.args.machine.now c.requires.proper c.in_ok-found.field-0.found.items c.in_ok-found.field-0.nodes.items e.found e.none, e.positions)
+pub loop-known-init : goal.loop-known-init
+loop-known-init c = let e = c.in_ok-nodes.ensures in (begun c.args.machine.now c.requires.proper c.in_ok-nodes.field-0.nodes.items e.found e.unranked, e.positions)
 
-pub nexts_of-requires-clause-kind : goal.nexts_of-requires-clause-kind
-nexts_of-requires-clause-kind c =
-    let h = reads_at c.loop-alloc.found.items (length c.loop-alloc.nodes.items) c.index.result.now c.index.result.now (grind arith) (sym (grind arith)) in
-    let p = spot_in c.loop-alloc.found.items (length c.loop-alloc.nodes.items) c.index.result.now c.copy-position.result h c.copy-position.ensures in
-    c.loop-alloc.invariant.0.kinds c.copy-position.result (in_at c.loop-alloc.found.items (length c.loop-alloc.nodes.items) c.copy-position.result p)
+pub lead_on-requires-clause-kind : goal.lead_on-requires-clause-kind
+lead_on-requires-clause-kind c = λ p h. c.loop-known.invariant.0.made.kinds p (in_at (spots_of c.loop-known.nodes.items) c.loop-known.known p h)
 
-pub nexts_of-requires-clause-fresh : goal.nexts_of-requires-clause-fresh
-nexts_of-requires-clause-fresh c =
-    let h = reads_at c.loop-alloc.found.items (length c.loop-alloc.nodes.items) c.index.result.now c.index.result.now (grind arith) (sym (grind arith)) in
-    let p = spot_in c.loop-alloc.found.items (length c.loop-alloc.nodes.items) c.index.result.now c.copy-position.result h c.copy-position.ensures in
-    made_fresh c.args.machine.now c.loop-alloc.found.items c.loop-alloc.nodes.items c.copy-position.result c.loop-alloc.invariant.0 p
+pub lead_on-requires-clause-fresh : goal.lead_on-requires-clause-fresh
+lead_on-requires-clause-fresh c = λ p q h none. fresh_at c.args.machine.now c.loop-known.nodes.items c.loop-known.known p q c.loop-known.invariant.0 h none
 
-pub loop-alloc-preserved : goal.loop-alloc-preserved
-loop-alloc-preserved c =
-    let i = c.loop-alloc.invariant in
-    let e = c.in_ok-next.ensures in
-    let h = reads_at c.loop-alloc.found.items (length c.loop-alloc.nodes.items) c.index.result.now c.index.result.now (grind arith) (sym (grind arith)) in
-    let p = spot_in c.loop-alloc.found.items (length c.loop-alloc.nodes.items) c.index.result.now c.copy-position.result h c.copy-position.ensures in (
-      made_on c.args.machine.now c.requires.proper c.loop-alloc.found.items c.nexts_of.new.found.items c.loop-alloc.nodes.items c.push_reserved.new.self.items c.copy-position.result
-          c.in_ok-node.node c.in_ok-next.next
-          i.0 p e.named c.in_ok-node.ensures (c.push_reserved.ensures.items ∙ ap (λ (z : List DNode_data). z ++ c.in_ok-node.node ∷ []) c.in_ok-reserve.ensures.items),
-      e.positions,
-    )
+pub loop-known-preserved : goal.loop-known-preserved
+loop-known-preserved c =
+    let i = c.loop-known.invariant in
+    let e = c.in_ok-lead_on.ensures in
+    let lt : c.loop-known.known < length c.loop-known.nodes.items = grind arith in
+    (made_next c.args.machine.now c.requires.proper c.loop-known.nodes.items c.lead_on.new.nodes.items c.loop-known.known lt i.0 e.leads, e.positions)
 
 pub returns : goal.returns
-returns c = made_all c.args.machine.now c.requires.proper c.loop-alloc.found.items c.loop-alloc.nodes.items c.loop-alloc.invariant.0 (grind arith) c.loop-alloc.invariant.1.bounded
+returns c =
+    ended c.args.machine.now c.requires.proper c.loop-known.nodes.items c.loop-known.known c.loop-known.invariant.0 (grind arith) c.loop-known.invariant.1.bounded
