@@ -2,7 +2,7 @@
 
 ghost use Rattle.std.specs.Prelude.{◌≡◌, ◌<◌, ◌≤◌, ◌-◌, ◌^◌, ◌++◌, ◌∷◌, [], ℕ, false, length, map, slice_get, Some, IfOk, OnOk};
 ghost use Rattle.rs_model.specs.Chains.{IsChained};
-ghost use Rattle.rs_derivations.specs.ListTables.{act_code, bucket_of};
+ghost use Rattle.rs_derivations.specs.ListTables.{act_code, bucket_among, bucket_of};
 ghost use Rattle.rs_derivations.specs.PendingLists.{is_one_of, list_number, with_list, with_lists};
 ghost use Rattle.rs_derivations.specs.declared.lists.TheConstants.{BUCKETS};
 
@@ -11,7 +11,7 @@ use rs_model::{Act, NoMemory};
 use std::alloc::Global;
 use std::marker::Model;
 
-// The buckets of the index; no limit of what is filed.
+// The most buckets of an index; no limit of what is filed.
 const BUCKETS: usize = 4096;
 
 /// Lists of acts, each once, with an index by which one is found: of each bucket the head of a chain of numbers, and of
@@ -40,17 +40,19 @@ impl<'a> ListTable<'a> {
     pub(crate) fn of_nodes(alloc: Global, nodes: &'a [DNode]) -> Result<ListTable<'a>, NoMemory>
         ensures { IfOk result (λ table. table ≡ with_lists [] (map (λ n. n.pending) nodes.now)) }
     {
-        let mut table = ListTable::new(alloc)?;
+        let mut table = ListTable::new(alloc, nodes.len())?;
         for node in nodes {
             table.add(node.pending.as_slice())?;
         }
         Ok(table)
     }
 
-    fn new(alloc: Global) -> Result<ListTable<'a>, NoMemory>
+    // No lists, and buckets for so many.
+    fn new(alloc: Global, count: usize) -> Result<ListTable<'a>, NoMemory>
         ensures { IfOk result (λ table. table ≡ []) }
     {
-        let heads = vec![in alloc; 0; BUCKETS]?;
+        let buckets = count.min(BUCKETS - 1) + 1;
+        let heads = vec![in alloc; 0; buckets]?;
         Ok(ListTable {
             lists: Vec::new(alloc),
             heads,
@@ -72,7 +74,7 @@ impl<'a> ListTable<'a> {
         if acts.is_empty() {
             return 0;
         }
-        let head = self.heads[bucket_of(acts)];
+        let head = self.heads[bucket_among(acts, self.heads.len())];
         number_along(self.lists.as_slice(), &self.links, head, acts)
     }
 
@@ -92,12 +94,21 @@ impl<'a> ListTable<'a> {
     {
         self.lists.reserve(1)?;
         self.links.reserve(1)?;
-        let bucket = bucket_of(acts);
+        let bucket = bucket_among(acts, self.heads.len());
         self.lists.push_reserved(acts);
         self.links.push_reserved(self.heads[bucket]);
         self.heads[bucket] = self.lists.len();
         Ok(())
     }
+}
+
+// The bucket of a list, one of so many.
+fn bucket_among(acts: &[Act], buckets: usize) -> usize
+    requires some { 0 < buckets }
+    ensures bucket { result ≡ bucket_among buckets acts.now }
+    ensures within { result < buckets }
+{
+    bucket_of(acts) % buckets
 }
 
 fn bucket_of(acts: &[Act]) -> usize
