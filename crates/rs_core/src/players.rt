@@ -25,10 +25,12 @@ impl<A: Actor> Player<A> {
         ensures kept { OnOk result (self.new.kept ≡ None) }
         ensures transcript { OnOk result (self.new.transcript ≡ self.old.transcript) }
     {
-        match self.kept.take() {
-            Some(choice) => Ok(choice),
-            None => self.actor.choose(alloc, arms),
+        if self.kept.is_some() {
+            if let Some(choice) = self.kept.take() {
+                return Ok(choice);
+            }
         }
+        self.actor.choose(alloc, arms)
     }
 }
 

@@ -57,11 +57,13 @@ impl Transcript {
         }
     }
 
+    #[inline(always)]
     pub(crate) fn push(&mut self, entry: Entry) -> Result<(), NoMemory>
         ensures ok { OnOk result (self.new ≡ self.old ++ entry ∷ []) }
         ensures err { OnErr result (self.new ≡ self.old) }
     {
-        self.entries.push(entry)?;
+        self.entries.reserve(1)?;
+        self.entries.push_reserved(entry);
         Ok(())
     }
 

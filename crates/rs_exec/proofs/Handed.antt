@@ -1,10 +1,7 @@
 -- What a send and a receive of a hand are for rounds.
-use Rattle.std.proofs.Common.{◌≡◌, ◌≢◌, inl, inr, ℕ, zero, suc, ◌+◌, ◌<◌, ◌≤◌, List, [], ◌∷◌, ◌++◌, length, Option, Some, None, IsSome, get_or, map, slice_get, slice_set, refl, sym, ap, ◌∙◌, subst}
+use Rattle.std.proofs.Common.{◌≡◌, ◌≢◌, inl, inr, ℕ, ◌+◌, ◌<◌, ◌≤◌, List, [], ◌∷◌, ◌++◌, length, Some, None, IsSome, slice_get, refl, sym, ap, ◌∙◌, subst}
 use Rattle.std.proofs.Common.{arith}
 use Rattle.std.proofs.lemmas.Bool.Decides.{eqb_tells}
-use Rattle.std.proofs.lemmas.List.{length-map, length-set}
-use Rattle.std.proofs.lemmas.Option.{get_or_from_slice_get, slice_get-map}
-use Rattle.std.specs.Option.{option_map}
 use Rattle.rs_model.specs.declared.limits.TheConstants.{MOST_ROLES}
 use Rattle.rs_model.specs.Data.{Machine_data}
 use Rattle.rs_model.specs.Sorts.{HasSort}
@@ -26,7 +23,7 @@ use Rattle.rs_core.specs.declared.transcripts.Entry.TheVariants as entry
 use Rattle.rs_core.proofs.Stands.{here_is}
 use Rattle.rs_slots.specs.declared.parcels.Parcel.{Parcel}
 use Rattle.rs_rings.specs.Acts.{MayPut, message_of, role_of_number, sent_act, got_act, parcels_sent, parcels_got}
-use Rattle.rs_rings.specs.Passes.{IsChanged, IsPut, ParcelIsTaken, IsEmpty, Pass_data, Rings_data}
+use Rattle.rs_rings.specs.Passes.{CanPutOn, IsChanged, IsPut, ParcelIsTaken, IsEmpty, Pass_data, Rings_data}
 use Rattle.rs_rings.specs.Passes as passes
 use Rattle.rs_rings.specs.Views.{SpeaksFor, history_in, part_of, start_of, starting, state_in, part_with_room, part_with_parcel}
 use Rattle.rs_rings.specs.declared.views.Part.{Part}
@@ -37,41 +34,23 @@ use Rattle.rs_session.proofs.HandedIn.{map_last}
 use Rattle.rs_exec.specs.Hands.{Hand_data, IsHeld, IsSomewhere, core_of, notes_of}
 use Rattle.rs_exec.proofs.Together.{state_is, looked, sends_in, receives_in, under_way, none_under_way}
 
--- what stands in a list where one element was replaced
-set_here : {X : Type 0} (xs : List X) (p : ℕ) (x : X) → p < length xs → slice_get (slice_set xs p x) p ≡ Some x
-set_here [] p x low = absurd (omega arith)
-set_here (z ∷ zs) zero x low = refl
-set_here (z ∷ zs) (suc p) x low = set_here zs p x (omega arith)
-
-set_aside : {X : Type 0} (xs : List X) (p q : ℕ) (x : X) → q ≢ p → slice_get (slice_set xs p x) q ≡ slice_get xs q
-set_aside [] p q x ne = refl
-set_aside (z ∷ zs) zero zero x ne = absurd (ne refl)
-set_aside (z ∷ zs) zero (suc q) x ne = refl
-set_aside (z ∷ zs) (suc p) zero x ne = refl
-set_aside (z ∷ zs) (suc p) (suc q) x ne = set_aside zs p q x (λ e. ne (ap suc e))
-
 module _ (session : Rings_data) where
   abbrev ms : List Machine_data
   ms = session.machines
 
-  -- where role r has gone on to the state s
-  pub held_on : (old new : Pass_data) (states : List ℕ) (r s : ℕ) (y : Part) → IsHeld session old states → r < length ms → new.table ≡ old.table → IsChanged r y old.view new.view → y.state ≡ s
+  -- where role r stands at the state s now
+  pub held_on : (old new : Pass_data) (count r s : ℕ) (y : Part) → IsHeld session old count → new.table ≡ old.table → IsChanged r y old.view new.view → y.state ≡ s
       → IsSome (state_of (slice_get ms r) s)
-      → IsHeld session new (slice_set states r s)
-  held_on old new states r s y h low table c goes there =
+      → IsHeld session new count
+  held_on old new count r s y h table c goes there =
       let at : state_in new.view r ≡ s = ap (λ (z : Part). z.state) c.part ∙ goes in
-      let many = h.many in
       record {
         table = table ∙ h.table;
         speaks = λ q lower. c.spoken q ∙ h.speaks q lower;
         well_formed = h.well_formed;
         some = h.some;
         roles = h.roles;
-        many = length-set states r s ∙ h.many;
-        states = λ q lower. elim (eqb_tells q r) [
-          | inl t ↦ subst (λ (z : ℕ). slice_get (slice_set states r s) z ≡ Some (state_in new.view z)) (sym t.1) (set_here states r s (omega (arith, many, low)) ∙ ap (λ (n : ℕ). Some n) (sym at))
-          | inr t ↦ set_aside states r q s t.1 ∙ h.states q lower ∙ ap (λ (z : Part). Some z.state) (sym (c.others q t.1))
-        ];
+        many = h.many;
         somewhere = λ q lower. elim (eqb_tells q r) [
           | inl t ↦ subst (λ (z : ℕ). IsSomewhere ms new.view z) (sym t.1) (subst (λ (n : ℕ). IsSome (state_of (slice_get ms r) n)) (sym at) there)
           | inr t ↦ subst (λ (z : Part). IsSome (state_of (slice_get ms q) z.state)) (sym (c.others q t.1)) (h.somewhere q lower)
@@ -210,25 +189,26 @@ module _ (session : Rings_data) where
         noted = noted_still v w r (part_with_parcel peer.0 seen (part_of v r)) empty.changed refl;
       }
 
-  -- what the hand knows of a send that is asked for: n is the number of the role's state
-  pub record CanPost (all : Pass_data) (r : ℕ) (peer : Role) (place : ℕ) (value : Value) (n : ℕ) : Type 0 where
+  -- what the hand knows of a send that is asked for
+  pub record CanPost (all : Pass_data) (r : ℕ) (peer : Role) (place : ℕ) (value : Value) : Type 0 where
     pub present : r < length ms
     pub arms : List Arm
     pub arm : Arm
     pub stands : state_of (slice_get ms r) (state_in all.view r) ≡ Some (Puts peer arms)
-    pub at : state_of (slice_get ms r) n ≡ Some (Puts peer arms)
     pub picks : slice_get arms place ≡ Some arm
     pub has : HasSort value arm.sort
 
-  pub can_post : (h : Hand_data) (all : Pass_data) (numbers : List ℕ) (r : ℕ) (peer : Role) (place : ℕ) (value : Value) (n : ℕ) → record { session = session; all = all; states = numbers } ≡ h
-      → IsHeld session all numbers
-      → CanChoose (core_of h.session.machines h.all.view) r (place, value) peer → r < length h.session.machines → n ≡ get_or numbers r n → CanPost all r peer place value n
-  can_post h all numbers r peer place value n is held can low read =
+  pub can_post : (h : Hand_data) (all : Pass_data) (count r : ℕ) (peer : Role) (place : ℕ) (value : Value) → record { session = session; all = all; count = count } ≡ h
+      → CanChoose (core_of h.session.machines h.all.view) r (place, value) peer → r < length h.session.machines → CanPost all r peer place value
+  can_post h all count r peer place value is can low =
       let can' : CanChoose (core_of ms all.view) r (place, value) peer = subst (λ (z : Hand_data). CanChoose (core_of z.session.machines z.all.view) r (place, value) peer) (sym is) can in
       let there : r < length ms = subst (λ (z : Hand_data). r < length z.session.machines) (sym is) low in
       let stands : state_of (slice_get ms r) (state_in all.view r) ≡ Some (Puts peer can'.arms) = sym (state_is ms all.view r there) ∙ can'.puts in
-      let number : n ≡ state_in all.view r = read ∙ get_or_from_slice_get numbers r (state_in all.view r) n (held.states r there) in
-      record { present = there; arms = can'.arms; arm = can'.arm; stands = stands; at = ap (state_of (slice_get ms r)) number ∙ stands; picks = can'.picks; has = can'.has_sort }
+      record { present = there; arms = can'.arms; arm = can'.arm; stands = stands; picks = can'.picks; has = can'.has_sort }
+
+  -- by which arm it is put
+  abbrev pub put_by : (all : Pass_data) (r : ℕ) (peer : Role) (place : ℕ) (value : Value) → CanPost all r peer place value → CanPutOn ms r (state_in all.view r) place value
+  put_by all r peer place value p = record { peer = peer; arm = p.arm; by = record { arms = p.arms; puts = p.stands; picks = p.picks }; has_sort = p.has }
 
   -- the arm of a choice at that state
   pub same_arm : (v : View) (r : ℕ) (peer : Role) (place : ℕ) (value : Value) (arms : List Arm) (a : Arm) → r < length ms → state_of (slice_get ms r) (state_in v r) ≡ Some (Puts peer arms)
@@ -246,24 +226,20 @@ module _ (session : Rings_data) where
     pub arms : List Arm
     pub stands : state_of (slice_get ms r) (state_in all.view r) ≡ Some (Takes peer arms)
 
-  pub can_fetch : (h : Hand_data) (all : Pass_data) (numbers : List ℕ) (r : ℕ) (peer : Role) → record { session = session; all = all; states = numbers } ≡ h
+  pub can_fetch : (h : Hand_data) (all : Pass_data) (count r : ℕ) (peer : Role) → record { session = session; all = all; count = count } ≡ h
       → (arms : List Arm) × (state_at h.session.machines (configuration_of (core_of h.session.machines h.all.view)) r ≡ Some (Takes peer arms)) → r < length h.session.machines → CanFetch all r peer
-  can_fetch h all numbers r peer is takes low =
+  can_fetch h all count r peer is takes low =
       let at = subst (λ (z : Hand_data). (arms : List Arm) × (state_at z.session.machines (configuration_of (core_of z.session.machines z.all.view)) r ≡ Some (Takes peer arms))) (sym is) takes in
       let there : r < length ms = subst (λ (z : Hand_data). r < length z.session.machines) (sym is) low in
       record { present = there; arms = at.0; stands = sym (state_is ms all.view r there) ∙ at.1 }
 
-  pub number_is : (all : Pass_data) (numbers : List ℕ) (r n : ℕ) → IsHeld session all numbers → r < length ms → n ≡ get_or numbers r n → n ≡ state_in all.view r
-  number_is all numbers r n held there read = read ∙ get_or_from_slice_get numbers r (state_in all.view r) n (held.states r there)
-
   -- at the start
-  pub held_first : (a : Accepted_data) (all : Pass_data) (numbers : List ℕ) → IsAcceptedSession a → session.machines ≡ a.machines → all.table ≡ session.table → all.view ≡ starting session.machines
-      → numbers ≡ map (λ (m : Machine_data). m.start) a.machines → IsHeld session all numbers
-  held_first a all numbers s same table first starts =
+  pub held_first : (a : Accepted_data) (all : Pass_data) (count : ℕ) → IsAcceptedSession a → session.machines ≡ a.machines → all.table ≡ session.table → all.view ≡ starting session.machines
+      → count ≡ length a.machines → IsHeld session all count
+  held_first a all count s same table first counted =
       let wf : AreWellFormed ms = subst AreWellFormed (sym same) s.is_session.machines_fit in
       let many = ap length same ∙ s.is_session.a_machine_each in
       let roles = s.is_session.roles in
-      let list : numbers ≡ map (λ (m : Machine_data). m.start) ms = starts ∙ ap (λ (l : List Machine_data). map (λ (m : Machine_data). m.start) l) (sym same) in
       let state : (r : ℕ) → r < length ms → state_in all.view r ≡ start_of (slice_get ms r) = λ r low. ap (λ (v : View). state_in v r) first
       ∙ ap (λ (z : Part). z.state) (first_part_is ms (length ms) r low) in
       record {
@@ -272,10 +248,7 @@ module _ (session : Rings_data) where
         well_formed = wf;
         some = (let two = roles.0 in omega (arith, many, two));
         roles = subst (λ (n : ℕ). n ≤ MOST_ROLES) (sym many) roles.1;
-        many = ap length list ∙ length-map ms (λ (m : Machine_data). m.start);
-        states = λ r low. (let one = get_there ms r low in
-            ap (λ (l : List ℕ). slice_get l r) list ∙ slice_get-map (λ (m : Machine_data). m.start) ms r ∙ ap (λ (o : Option Machine_data). option_map (λ (m : Machine_data). m.start) o) one.1
-            ∙ ap (λ (n : ℕ). Some n) (sym (state r low ∙ ap start_of one.1)));
+        many = counted ∙ ap length (sym same);
         somewhere = λ r low. (let one = get_there ms r low in
             subst (λ (k : ℕ). IsSome (state_of (slice_get ms r) k)) (sym (state r low ∙ ap start_of one.1)) (state_there ms r one.0.start one.0 one.1 (wf.fits r one.0 one.1).start));
       }

@@ -16,11 +16,11 @@ use Rattle.rs_rings.specs.Passes.{Pass_data, Rings_data}
 use Rattle.rs_rings.specs.Views.{SpeaksFor, history_in, parcels_under_way, state_in}
 use Rattle.rs_rings.specs.declared.views.View.{View}
 
--- the session, what the hand knows of all roles, and the number of each role's state
+-- the session, what the hand knows of all roles, and how many they are
 pub record Hand_data : Type 0 where
   pub session : Rings_data
   pub all : Pass_data
-  pub states : List ℕ
+  pub count : ℕ
 
 -- the first so many values of f
 abbrev pub first_values : {X : Type 0} → ℕ → (ℕ → X) → List X
@@ -43,15 +43,14 @@ notes_of v r t = t ≡ transcript_of (history_in v r)
 abbrev pub IsSomewhere : List Machine_data → View → ℕ → Type 0
 IsSomewhere machines v r = IsSome (state_of (slice_get machines r) (state_in v r))
 
--- the hand is of this session and has all its roles, and the numbers are those of the states at which they stand
-pub record IsHeld (session : Rings_data) (all : Pass_data) (numbers : List ℕ) : Type 0 where
+-- the hand is of this session and has all its roles, which are so many, and each stands at a state of its machine
+pub record IsHeld (session : Rings_data) (all : Pass_data) (count : ℕ) : Type 0 where
   pub table : all.table ≡ session.table
   pub speaks : (r : ℕ) → r < length session.machines → SpeaksFor all.view r
   pub well_formed : AreWellFormed session.machines
   pub some : 2 ≤ length session.machines
   pub roles : length session.machines ≤ MOST_ROLES
-  pub many : length numbers ≡ length session.machines
-  pub states : (r : ℕ) → r < length session.machines → slice_get numbers r ≡ Some (state_in all.view r)
+  pub many : count ≡ length session.machines
   pub somewhere : (r : ℕ) → r < length session.machines → IsSomewhere session.machines all.view r
 
 -- all roles stand at the end of their machines

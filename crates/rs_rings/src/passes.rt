@@ -1,6 +1,10 @@
 //! The right to act for roles: a seat of the table with the counts beside it.
+ghost use Rattle.std.specs.Prelude.{◌≡◌};
+ghost use Rattle.rs_rings.specs.Views.{SpeaksFor, state_in};
+
 use crate::rows::Rows;
 use crate::tables::RingSeat;
+use rs_model::Role;
 use std::marker::Model;
 
 /// Speaks for a set of roles of one session over rings: only who holds it can act for them. It must be spent.
@@ -21,6 +25,15 @@ impl Model for Pass {
 }
 
 impl Pass {
+    /// The number of the state at which the role's machine stands.
+    #[inline(always)]
+    pub fn state(&self, role: Role) -> u32
+        requires speaks { SpeaksFor self.now.view role.0 }
+        ensures state { result ≡ state_in self.now.view role.0 }
+    {
+        self.rows.state(role)
+    }
+
     /// Gives the pass up: nobody can act for its roles any more.
     pub fn leave(self) {
         let Pass { seat: _, rows: _ } = self;

@@ -80,6 +80,19 @@ impl Rows {
         }
     }
 
+    /// The number of the role's state.
+    #[inline(always)]
+    pub fn state(&self, role: Role) -> u32
+        requires present { role.0 < MOST_ROLES }
+        requires row { (r : Row) × (row_at self.now.items role.0 ≡ Some r) }
+        ensures { (r : Row) → row_at self.now.items role.0 ≡ Some r → result ≡ r.state }
+    {
+        match &self.items[role.0 as usize] {
+            Some(row) => row.state,
+            None => unreachable!(),
+        }
+    }
+
     /// The role's state, and how much it has sent to the peer and got from it.
     pub fn counts(&self, role: Role, peer: Role) -> Counts
         requires present { (role.0 < MOST_ROLES) × (peer.0 < MOST_ROLES) }

@@ -4,12 +4,12 @@ ghost use Rattle.rs_model.specs.Limits.{IsCapacity};
 ghost use Rattle.rs_core.specs.Configurations.{state_of};
 ghost use Rattle.rs_model.specs.declared.machines.State.TheVariants.{Done};
 ghost use Rattle.rs_rings.specs.Closed.{IsLeft, IsOver};
-ghost use Rattle.rs_rings.specs.Passes.{CanPut, CanTake, PutTells, TakeTells};
+ghost use Rattle.rs_rings.specs.Passes.{CanPut, CanPutOn, CanTake, PutOnTells, PutTells, TakeTells};
 ghost use Rattle.rs_rings.specs.Views.{SpeaksFor, history_in, starting, state_in};
 ghost use Rattle.rs_safety.specs.Accepting.{IsAcceptedSession};
 
 use crate::sessions::Session;
-use rs_model::{NoMemory, Role};
+use rs_model::{NoMemory, Role, Value};
 use rs_rings::{Closed, Got, Pass, Put, Rings};
 use rs_safety::Accepted;
 use rs_slots::Parcel;
@@ -76,6 +76,15 @@ impl Session {
 }
 
 impl Ensemble {
+    /// The number of the state at which the role's machine stands.
+    #[inline(always)]
+    pub fn state(&self, role: Role) -> u32
+        requires speaks { SpeaksFor self.now.view role.0 }
+        ensures state { result ≡ state_in self.now.view role.0 }
+    {
+        self.pass.state(role)
+    }
+
     /// Sends the parcel from `sender` to `receiver`. It looks once at their ring, and takes no memory.
     ///
     /// Where the ring has room the sender goes on to the next state of the arm with the parcel's label. Else the parcel comes
@@ -92,6 +101,22 @@ impl Ensemble {
         session
             .rings()
             .put(&mut self.pass, sender, receiver, parcel)
+    }
+
+    /// Sends the value from the role to the peer of the state at which the role stands, by the arm at that place of the state,
+    /// from 0. It looks once at their ring, and takes no memory.
+    ///
+    /// The outcome is that of [`Ensemble::put`] of the parcel with the arm's label. No label is looked up.
+    #[inline(always)]
+    pub fn put_on(&mut self, session: &Session, role: Role, arm: u16, value: Value) -> Put
+        requires table { self.old.table ≡ session.now.table }
+        requires speaks { SpeaksFor self.old.view role.0 }
+        requires can { CanPutOn session.now.machines role.0 (state_in self.old.view role.0) arm value }
+        requires acts { length (history_in self.old.view role.0) < 2 ^ 63 }
+        ensures table { self.new.table ≡ self.old.table }
+        ensures told { PutOnTells session.now.machines session.now.capacity role.0 arm value self.old.view self.new.view result }
+    {
+        session.rings().put_on(&mut self.pass, role, arm, value)
     }
 
     /// Receives the oldest parcel that is under way from `sender` to `receiver`. It looks once at their ring, and takes no memory.

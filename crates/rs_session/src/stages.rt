@@ -125,6 +125,7 @@ impl Sending {
     ///
     /// Where the ring has room the role goes on to the arm's next state. Else the stage and the value come back, and nothing
     /// has changed but what is known of the ring.
+    #[inline(always)]
     pub fn send(self, session: &Session, arm: u16, value: Value) -> Sent
         requires table { self.table ≡ session.now.table }
         requires arm { SendsBy session.now self arm value }
@@ -180,6 +181,7 @@ impl Receiving {
     ///
     /// Where a value is there the role goes on by the arm with its label. Else the stage comes back, and nothing has changed
     /// but what is known of the ring.
+    #[inline(always)]
     pub fn receive(self, session: &Session) -> Taken
         requires of { IsReceiving session.now self }
         requires acts { length self.part.history < 2 ^ 63 }

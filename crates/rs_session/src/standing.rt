@@ -14,24 +14,36 @@ use rs_slots::Parcel;
 use std::alloc::{AllocFailed, Global};
 use std::marker::Model;
 
-/// The pass of one role, the state in which the role stands, and how many acts it has made. The pass is large, and lies in a box
-/// so that a stage is moved fast.
-pub(crate) struct Standing {
-    pass: Box<Pass>,
+/// The pass of one role, the state in which the role stands, and how many acts it has made.
+struct RolePass {
+    pass: Pass,
     role: Role,
     state: u32,
     acts: u64,
 }
 
-impl Model for Standing {
+impl Model for RolePass {
     ghost use Rattle.rs_session.specs.Data.{Stage_data};
     ghost use Rattle.rs_session.specs.Standing.{IsOne, sight_of_pass};
 
     ghost Value = { Stage_data };
 
-    ghost view = { λ s. sight_of_pass s.pass.value s.role };
+    ghost view = { λ s. sight_of_pass s.pass s.role };
 
-    ghost invariant = { λ s. IsOne s.pass.value.view s.role s.state s.acts };
+    ghost invariant = { λ s. IsOne s.pass.view s.role s.state s.acts };
+}
+
+/// Where a role of a session stands. All of it lies in a box, so that a stage is moved fast.
+pub(crate) struct Standing {
+    inside: Box<RolePass>,
+}
+
+impl Model for Standing {
+    ghost use Rattle.rs_session.specs.Data.{Stage_data};
+
+    ghost Value = { Stage_data };
+
+    ghost view = { λ s. s.inside.value };
 }
 
 /// What a look for a parcel found: the arm by which it came, or nothing.
@@ -41,77 +53,49 @@ pub(crate) enum ParcelFound {
     Nothing { seen: u64 },
 }
 
-impl Standing {
-    /// A role that has done nothing. Where memory is refused the pass is given up.
-    pub(crate) fn first(
-        alloc: Global,
-        pass: Pass,
-        role: Role,
-        state: u32,
-    ) -> Result<Standing, NoMemory>
-        requires speaks { SpeaksFor pass.view role.0 }
-        requires only { (r : ℕ) → SpeaksFor pass.view r → r ≡ role.0 }
-        requires state { state ≡ state_in pass.view role.0 }
-        requires nothing { history_in pass.view role.0 ≡ [] }
-        ensures { IfOk result (λ s. s ≡ sight_of_pass pass role) }
-    {
-        match Box::new(alloc, pass) {
-            Ok(pass) => Ok(Standing {
-                pass,
-                role,
-                state,
-                acts: 0,
-            }),
-            Err(refused) => {
-                let AllocFailed { value } = refused;
-                value.leave();
-                Err(NoMemory)
-            }
-        }
-    }
-
-    pub(crate) fn role(&self) -> Role
+impl RolePass {
+    fn role(&self) -> Role
         ensures { result ≡ self.now.role }
     {
         self.role
     }
 
-    pub(crate) fn state(&self) -> u32
+    fn state(&self) -> u32
         ensures { result ≡ self.now.part.state }
     {
         self.state
     }
 
-    pub(crate) fn acts(&self) -> u64
+    fn acts(&self) -> u64
         ensures { result ≡ length self.now.part.history }
     {
         self.acts
     }
 
-    pub(crate) fn into_pass(self) -> Pass
+    fn into_pass(self) -> Pass
         ensures table { result.table ≡ self.table }
         ensures speaks { SpeaksFor result.view self.role.0 }
         ensures only { (r : ℕ) → SpeaksFor result.view r → r ≡ self.role.0 }
         ensures part { part_of result.view self.role.0 ≡ self.part }
     {
-        let Standing {
+        let RolePass {
             pass,
             role: _,
             state: _,
             acts: _,
         } = self;
-        Box::into_inner(pass)
+        pass
     }
 
     /// Puts the parcel into the ring to the peer; the role then stands in the state `next`.
-    pub(crate) fn put(&mut self, rings: &Rings, peer: Role, parcel: Parcel, next: u32) -> Put
+    fn put(&mut self, rings: &Rings, peer: Role, parcel: Parcel, next: u32) -> Put
         requires table { self.old.table ≡ rings.now.table }
         requires well_formed { AreWellFormed rings.now.machines }
         requires may { MayPut rings.now.machines self.old.role.0 peer.0 self.old.part.state parcel next }
         requires acts { length self.old.part.history < 2 ^ 63 }
         ensures told { StagePutTells rings.now peer.0 parcel next self.old self.new result }
     {
-        match rings.put(&mut *self.pass, self.role, peer, parcel) {
+        match rings.put(&mut self.pass, self.role, peer, parcel) {
             Put::Done => {
                 self.state = next;
                 self.acts += 1;
@@ -130,14 +114,14 @@ impl Standing {
     }
 
     /// Takes the oldest parcel out of the ring from the peer; the role goes on by the arm with its label.
-    pub(crate) fn look_take(&mut self, rings: &Rings, peer: Role, arms: &[Arm]) -> ParcelFound
+    fn look_take(&mut self, rings: &Rings, peer: Role, arms: &[Arm]) -> ParcelFound
         requires table { self.old.table ≡ rings.now.table }
         requires well_formed { AreWellFormed rings.now.machines }
         requires stands { state_of (slice_get rings.now.machines self.old.role.0) self.old.part.state ≡ Some (Takes peer arms.now) }
         requires acts { length self.old.part.history < 2 ^ 63 }
         ensures told { FoundTells rings.now peer.0 arms.now self.old self.new result }
     {
-        match rings.look_take(&mut *self.pass, self.role, peer) {
+        match rings.look_take(&mut self.pass, self.role, peer) {
             Got::One(parcel) => {
                 let arm = place_by_label(arms, parcel.label);
                 self.state = arms[arm as usize].next;
@@ -149,5 +133,88 @@ impl Standing {
             }
             Got::Empty { seen } => ParcelFound::Nothing { seen },
         }
+    }
+}
+
+impl Standing {
+    /// A role that has done nothing. Where memory is refused the pass is given up.
+    pub(crate) fn first(
+        alloc: Global,
+        pass: Pass,
+        role: Role,
+        state: u32,
+    ) -> Result<Standing, NoMemory>
+        requires speaks { SpeaksFor pass.view role.0 }
+        requires only { (r : ℕ) → SpeaksFor pass.view r → r ≡ role.0 }
+        requires state { state ≡ state_in pass.view role.0 }
+        requires nothing { history_in pass.view role.0 ≡ [] }
+        ensures { IfOk result (λ s. s ≡ sight_of_pass pass role) }
+    {
+        let pass = RolePass {
+            pass,
+            role,
+            state,
+            acts: 0,
+        };
+        match Box::new(alloc, pass) {
+            Ok(inside) => Ok(Standing { inside }),
+            Err(refused) => {
+                let AllocFailed { value } = refused;
+                value.into_pass().leave();
+                Err(NoMemory)
+            }
+        }
+    }
+
+    pub(crate) fn role(&self) -> Role
+        ensures { result ≡ self.now.role }
+    {
+        self.inside.role()
+    }
+
+    pub(crate) fn state(&self) -> u32
+        ensures { result ≡ self.now.part.state }
+    {
+        self.inside.state()
+    }
+
+    pub(crate) fn acts(&self) -> u64
+        ensures { result ≡ length self.now.part.history }
+    {
+        self.inside.acts()
+    }
+
+    pub(crate) fn into_pass(self) -> Pass
+        ensures table { result.table ≡ self.table }
+        ensures speaks { SpeaksFor result.view self.role.0 }
+        ensures only { (r : ℕ) → SpeaksFor result.view r → r ≡ self.role.0 }
+        ensures part { part_of result.view self.role.0 ≡ self.part }
+    {
+        let Standing { inside } = self;
+        Box::into_inner(inside).into_pass()
+    }
+
+    /// Puts the parcel into the ring to the peer; the role then stands in the state `next`.
+    #[inline(always)]
+    pub(crate) fn put(&mut self, rings: &Rings, peer: Role, parcel: Parcel, next: u32) -> Put
+        requires table { self.old.table ≡ rings.now.table }
+        requires well_formed { AreWellFormed rings.now.machines }
+        requires may { MayPut rings.now.machines self.old.role.0 peer.0 self.old.part.state parcel next }
+        requires acts { length self.old.part.history < 2 ^ 63 }
+        ensures told { StagePutTells rings.now peer.0 parcel next self.old self.new result }
+    {
+        self.inside.put(rings, peer, parcel, next)
+    }
+
+    /// Takes the oldest parcel out of the ring from the peer; the role goes on by the arm with its label.
+    #[inline(always)]
+    pub(crate) fn look_take(&mut self, rings: &Rings, peer: Role, arms: &[Arm]) -> ParcelFound
+        requires table { self.old.table ≡ rings.now.table }
+        requires well_formed { AreWellFormed rings.now.machines }
+        requires stands { state_of (slice_get rings.now.machines self.old.role.0) self.old.part.state ≡ Some (Takes peer arms.now) }
+        requires acts { length self.old.part.history < 2 ^ 63 }
+        ensures told { FoundTells rings.now peer.0 arms.now self.old self.new result }
+    {
+        self.inside.look_take(rings, peer, arms)
     }
 }
