@@ -90,12 +90,13 @@ impl Model for PieceSink {
 }
 
 impl PieceSink {
-    pub(crate) fn new(alloc: Global) -> PieceSink
-        ensures { result ≡ [] }
+    // With room for so many bytes.
+    pub(crate) fn with_capacity(alloc: Global, capacity: usize) -> Result<PieceSink, NoMemory>
+        ensures { IfOk result (λ s. s ≡ []) }
     {
-        PieceSink {
-            bytes: Text::new(alloc),
-        }
+        Ok(PieceSink {
+            bytes: Text::with_capacity(alloc, capacity)?,
+        })
     }
 
     /// Appends a piece; where memory is refused nothing changes.

@@ -67,7 +67,8 @@ fn double_actors(alloc: Global, bytes: &[u8]) -> Result<Vec<DemoActor>, NoMemory
     actors.push(TalkingActor::new(DemoTalker::Kernel(Kernel { piece: None })))?;
     let source = PieceSource::new(alloc, bytes)?;
     actors.push(TalkingActor::new(DemoTalker::Source(source)))?;
-    actors.push(TalkingActor::new(DemoTalker::Sink(PieceSink::new(alloc))))?;
+    let sink = PieceSink::with_capacity(alloc, bytes.len())?;
+    actors.push(TalkingActor::new(DemoTalker::Sink(sink)))?;
     Ok(actors)
 }
 
@@ -77,7 +78,8 @@ fn stream_actors(alloc: Global, bytes: &[u8]) -> Result<Vec<DemoActor>, NoMemory
     let mut actors = Vec::new(alloc);
     let source = PieceSource::new(alloc, bytes)?;
     actors.push(TalkingActor::new(DemoTalker::Source(source)))?;
-    actors.push(TalkingActor::new(DemoTalker::Sink(PieceSink::new(alloc))))?;
+    let sink = PieceSink::with_capacity(alloc, bytes.len())?;
+    actors.push(TalkingActor::new(DemoTalker::Sink(sink)))?;
     Ok(actors)
 }
 
