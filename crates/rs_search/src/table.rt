@@ -14,13 +14,16 @@ ghost use Rattle.rs_search.specs.declared.found.SearchStop.TheVariants.{TooLarge
 use crate::found::SearchStop;
 use rs_derive::{Change, DNode, EdgeTarget, is_target};
 use rs_graph::NodeRow;
-use rs_model::{Act, NoMemory};
+use rs_model::{Act, MOST_CANDIDATES, NoMemory};
 use rs_prefix::Pending;
 use std::alloc::Global;
 use std::marker::Model;
 
 // A great odd number, by which the codes of different acts come apart.
 const CODE_FACTOR: u64 = 11_400_714_819_323_198_485;
+
+// The most buckets of an index that grows.
+const MOST_BUCKETS: usize = 2 * MOST_CANDIDATES;
 
 // One more than the greatest number of a state.
 const STATE_FACTOR: u64 = 4_294_967_296;
@@ -247,6 +250,20 @@ fn number_within(n: usize, limit: usize) -> Result<u32, SearchStop>
     Ok(n as u32)
 }
 
+// How many buckets follow on so many: the usual number, or else four times as many.
+fn more_buckets(size: usize, usual: usize) -> usize
+    requires { IsBucketCount usual }
+    ensures { IsBucketCount result }
+{
+    if size < usual {
+        usual
+    } else if size < MOST_BUCKETS / 4 {
+        size * 4 + 1
+    } else {
+        MOST_BUCKETS
+    }
+}
+
 // The heads of the chains of all nodes in so many buckets; the links are made anew.
 fn new_heads(
     alloc: Global,
@@ -403,7 +420,8 @@ impl SpotTable {
         number_within(n, limit)
     }
 
-    /// Files the spots in so many buckets, once there are more of them than buckets.
+    /// Files the spots in so many buckets once there are more of them than buckets; and in four times as many buckets once
+    /// there are four times as many spots.
     #[inline(always)]
     pub(crate) fn spread(&mut self, alloc: Global, buckets: usize) -> Result<(), NoMemory>
         requires buckets { IsBucketCount buckets }
@@ -413,8 +431,9 @@ impl SpotTable {
         ensures ranks { self.new.ranks ≡ self.old.ranks }
     {
         let size = self.index.heads.len();
-        if size < self.nodes.len() && size < buckets {
-            return self.refile(alloc, buckets);
+        let count = self.nodes.len();
+        if size < count && (size < buckets || size < count / 4) {
+            return self.refile(alloc, more_buckets(size, buckets));
         }
         Ok(())
     }
