@@ -96,7 +96,7 @@ fn arms(alloc: Global, drafts: &[DraftArm], last: u32) -> Result<Arms, NoMemory>
 fn several_arms(alloc: Global, drafts: &[DraftArm], last: u32) -> Result<Arms, NoMemory>
     ensures { IfOk result (λ arms. arms ≡ map (settled_arm last) drafts.now) }
 {
-    let mut arms = Arms::new(alloc);
+    let mut arms = Arms::with_capacity(alloc, drafts.len())?;
     for arm in drafts {
         arms.push(settled_arm(last, *arm))?;
     }

@@ -71,6 +71,15 @@ impl Arms {
         Arms { items }
     }
 
+    /// No arms, with room for so many.
+    pub fn with_capacity(alloc: Global, room: usize) -> Result<Arms, NoMemory>
+        ensures { IfOk result (λ a. a ≡ []) }
+    {
+        Ok(Arms {
+            items: SmallVec::with_capacity(alloc, room)?,
+        })
+    }
+
     /// Appends an arm; where memory is refused nothing changes.
     pub fn push(&mut self, arm: Arm) -> Result<(), NoMemory>
         ensures ok { OnOk result (self.new ≡ self.old ++ arm ∷ []) }

@@ -64,7 +64,7 @@ fn several_arms(alloc: Global, search: &mut Search, talk: u32) -> Result<Arms, P
     let survey = search.survey();
     let protocol = survey.protocol;
     let choices = arms_in(&protocol.nodes[talk as usize]);
-    let mut arms = Arms::new(alloc);
+    let mut arms = Arms::with_capacity(alloc, choices.len())?;
     for choice in choices {
         let next = search.find_from(alloc, choice.next)?;
         arms.push(Arm {
@@ -96,7 +96,7 @@ pub fn joint_arms(alloc: Global, search: &mut Search, talks: &[u32]) -> Result<A
 {
     let survey = search.survey();
     let choices = merged_arms(alloc, survey.protocol, talks)?;
-    let mut arms = Arms::new(alloc);
+    let mut arms = Arms::with_capacity(alloc, choices.len())?;
     for choice in choices.as_slice() {
         let starts = starts_behind(alloc, survey.protocol, talks, choice.label)?;
         let next = search.find(alloc, starts.as_slice())?;

@@ -18,9 +18,9 @@ loop-choice-init c =
     let P : List Arm → Type 0 = λ z. Discovers c.args.search.now.survey.protocol c.args.search.now.survey.role c.args.search.now.fronts c.args.talks.now [] c.args.search.now.fronts (nexts_of z) in
     record {
       survey = refl;
-      discovers = subst P (sym c.new-arms.ensures)
+      discovers = subst P (sym c.in_ok-arms.ensures)
           (discovers_none c.args.search.now.survey.protocol c.args.search.now.survey.role c.args.search.now.fronts c.args.talks.now c.survey-survey.ensures.found);
-      same = ap (λ (z : List Arm). map choice_of z) c.new-arms.ensures;
+      same = ap (λ (z : List Arm). map choice_of z) c.in_ok-arms.ensures;
     }
 
 pub find-requires-clause-some : goal.find-requires-clause-some

@@ -19,9 +19,9 @@ loop-choice-init c =
     let P : List Arm → Type 0 = λ z. Discovers c.args.search.now.survey.protocol c.args.search.now.survey.role c.args.search.now.fronts (c.args.talk ∷ []) [] c.args.search.now.fronts (nexts_of z) in
     record {
       survey = refl;
-      discovers = subst P (sym c.new-arms.ensures)
+      discovers = subst P (sym c.in_ok-arms.ensures)
           (discovers_none c.args.search.now.survey.protocol c.args.search.now.survey.role c.args.search.now.fronts (c.args.talk ∷ []) c.survey-survey.ensures.found);
-      same = ap (λ (z : List Arm). map choice_of z) c.new-arms.ensures;
+      same = ap (λ (z : List Arm). map choice_of z) c.in_ok-arms.ensures;
     }
 
 pub find_from-requires : goal.find_from-requires
@@ -57,8 +57,8 @@ returns-in_err-next-clause-err c =
     ∙ choices_in pr c.args.talk node (subst IsTrueSurvey (c.survey.view_is ∙ c.survey-survey.ensures.survey) c.survey.invariant).well_formed here in
     let F : Survey_data → Type 0 = λ z. FaultFrom z.protocol z.role c.loop-choice.search.fronts (a.next ∷ []) c.in_err-next.field-0.0 in
     let Q : List LabelChoice → Type 0 = λ z. ArmsFault pr role c.args.search.now.fronts talks z c.in_err-next.field-0.0 in
-    handed_on c.from_residual.result c.in_err-next.field-0.0 (λ e. ArmsFault pr role c.args.search.now.fronts talks (merged_choices pr talks) e)
-    c.from_residual.ensures.1
+    handed_on c.from_residual-in_err-next.result c.in_err-next.field-0.0 (λ e. ArmsFault pr role c.args.search.now.fronts talks (merged_choices pr talks) e)
+    c.from_residual-in_err-next.ensures.1
     (subst Q same
     (arms_fault pr role c.args.search.now.fronts c.loop-choice.search.fronts talks choices c.loop-choice.choice-index a (nexts_of c.loop-choice.arms)
     at c.loop-choice.invariant.discovers c.in_err-next.field-0.0
