@@ -1,6 +1,7 @@
 -- What one turn does.
 use Rattle.std.proofs.Common.{rules, ◌≡◌, ℕ, ◌<◌, false, List, [], ◌∷◌, ◌++◌, Option, Some, None, slice_get, slice_index_or, length, refl, sym, ap, ◌∙◌, subst, subst₂}
 use Rattle.std.proofs.lemmas.Option.{get_or_from_slice_get, slice_get_within}
+use Rattle.rs_model.specs.Data.{Machine_data}
 use Rattle.rs_model.specs.Sorts.{HasSort}
 use Rattle.rs_model.specs.declared.graph.Arm.{Arm}
 use Rattle.rs_model.specs.declared.graph.Label.{Label}
@@ -8,20 +9,29 @@ use Rattle.rs_model.specs.declared.graph.Role.{Role}
 use Rattle.rs_model.specs.declared.machines.State.TheVariants.{Puts, Takes}
 use Rattle.rs_model.specs.declared.values.Value.{Value}
 use Rattle.rs_core.specs.Actors.{Choice, Behaviour, ChoosesWell}
-use Rattle.rs_core.specs.Configurations.{Message, Sends, Receives, state_at}
+use Rattle.rs_core.specs.Configurations.{Message, Sends, Receives, state_at, state_of}
 use Rattle.rs_core.specs.Choices.{AreWellFormed}
 use Rattle.rs_core.specs.Core.{Core_data, HasReceived, configuration_of}
 use Rattle.rs_core.specs.Plain.{HasRoom, offer_of}
 use Rattle.rs_core.specs.Turns.{KeepsWell, Offers, HasMoved, HasSent, HasGot, is_full}
-use Rattle.rs_core.specs.Choosable.{CanChoose}
+use Rattle.rs_core.specs.Choosable.{CanChoose, label_of}
 use Rattle.rs_core.specs.declared.players.Player.{Player}
 use Rattle.rs_core.specs.declared.transcripts.Entry.{Entry}
 use Rattle.rs_core.specs.declared.transcripts.Entry.TheVariants as entry
+use Rattle.rs_core.proofs.Places.{labelled}
 use Rattle.rs_core.proofs.Stands.{here_is}
 
 pub has_room : (capacity : Option ℕ) (queue : List Message) → is_full capacity (length queue) ≡ false → HasRoom capacity queue
 has_room None queue e = tt
 has_room (Some many) queue e = search rules
+
+-- in a state that takes, a label stands at one place
+pub one_place : (machines : List Machine_data) (p s : ℕ) (peer : Role) (arms : List Arm) (i j : ℕ) (arm : Arm) (label : Label) → AreWellFormed machines
+    → state_of (slice_get machines p) s ≡ Some (Takes peer arms) → slice_get arms i ≡ Some arm → arm.label ≡ label → label_of (slice_get arms j) ≡ Some label → i ≡ j
+one_place machines p s peer arms i j arm label well takes one same other =
+    let at = here_is (slice_get machines p) s (Takes peer arms) takes in
+    let there = labelled (slice_get arms j) label other in
+    ((well.fits p at.0 at.1).takes s peer arms at.2).once i j arm there.0 one there.1 (same ∙ sym there.2)
 
 module _ {A : Type 0} (b : Behaviour A) where
   -- what a player offers at the arms of a state that sends is one of them, with a value of its sort
@@ -52,7 +62,7 @@ module _ {A : Type 0} (b : Behaviour A) where
 
   pub offering : (c : Core_data) (p : ℕ) (x y : Player A) (peer : Role) (arms : List Arm) (place : ℕ) (value : Value) (other : Arm) → ChoosesWell b → AreWellFormed c.machines → KeepsWell c p x
       → state_at c.machines (configuration_of c) p ≡ Some (Puts peer arms) → offer_of b x.actor x.kept arms ≡ ((place, value), y.actor) → y.kept ≡ None → y.transcript ≡ x.transcript
-      → Offers b c p x y peer (slice_index_or arms place other).label (place, value)
+      → Offers b c p x y peer (slice_index_or arms place other) (place, value)
   offering c p x y peer arms place value other well s keeps puts o kept same =
       let can = can_choose c p x peer arms well s keeps puts x.kept refl (place, value) y.actor o in
       let at = here_is (slice_get c.machines p) ((configuration_of c).at p) (Puts peer arms) puts in
@@ -60,21 +70,21 @@ module _ {A : Type 0} (b : Behaviour A) where
       record {
         can = can.0;
         present = ((s.fits p at.0 at.1).puts ((configuration_of c).at p) peer arms at.2).known;
-        same_label = ap (λ (z : Arm). z.label) (sym (get_or_from_slice_get can.0.arms place can.0.arm other can.0.picks)) ∙ ap (λ (z : List Arm). (slice_index_or z place other).label) can.1;
+        same_arm = sym (get_or_from_slice_get can.0.arms place can.0.arm other can.0.picks) ∙ ap (λ (z : List Arm). slice_index_or z place other) can.1;
         offers = subst P (sym can.1) o;
         kept = kept;
         transcript = same;
       }
 
-  pub sent_turn : (capacity : Option ℕ) (c d : Core_data) (p : ℕ) (x y z : Player A) (peer : Role) (label : Label) (place : ℕ) (value : Value) → Offers b c p x y peer label (place, value)
+  pub sent_turn : (capacity : Option ℕ) (c d : Core_data) (p : ℕ) (x y z : Player A) (peer : Role) (by : Arm) (place : ℕ) (value : Value) → Offers b c p x y peer by (place, value)
       → HasRoom capacity ((configuration_of c).queue p peer.0) → Sends c.machines (configuration_of c) p place value (configuration_of d)
-      → z.actor ≡ y.actor → z.kept ≡ y.kept → z.transcript ≡ y.transcript ++ (entry.Sent peer label ∷ []) → HasMoved b capacity c x p d z
-  sent_turn capacity c d p x y z peer label place value n room step ea ek et =
+      → z.actor ≡ y.actor → z.kept ≡ y.kept → z.transcript ≡ y.transcript ++ (entry.Sent peer by.label ∷ []) → HasMoved b capacity c x p d z
+  sent_turn capacity c d p x y z peer by place value n room step ea ek et =
       let same : Some (Puts peer n.can.arms) ≡ Some (Puts step.peer step.arms) = sym n.can.puts ∙ step.puts in
       let peers : peer ≡ step.peer = cc (same) in
       let arms : n.can.arms ≡ step.arms = cc (same) in
       let arm : n.can.arm ≡ step.arm = cc (arms, n.can.picks, step.picks) in
-      let labels : label ≡ step.arm.label = sym n.same_label ∙ ap (λ (w : Arm). w.label) arm in
+      let labels : by.label ≡ step.arm.label = ap (λ (w : Arm). w.label) (sym n.same_arm ∙ arm) in
       let choice : Choice = (place, value) in
       HasSent record {
         choice = (place, value);
@@ -83,7 +93,7 @@ module _ {A : Type 0} (b : Behaviour A) where
         offers = ap (λ (w : List Arm). offer_of b x.actor x.kept w) (sym arms) ∙ n.offers ∙ ap (λ (w : A). (choice, w)) (sym ea);
         kept = ek ∙ n.kept;
         entry = let P : Role → Label → Type 0 = λ r l. z.transcript ≡ x.transcript ++ (entry.Sent r l ∷ []) in
-            subst₂ P peers labels (et ∙ ap (λ (w : List Entry). w ++ (entry.Sent peer label ∷ [])) n.transcript);
+            subst₂ P peers labels (et ∙ ap (λ (w : List Entry). w ++ (entry.Sent peer by.label ∷ [])) n.transcript);
       }
 
   pub got_turn : (capacity : Option ℕ) (c d : Core_data) (p : ℕ) (x y : Player A) (peer : Role) (arms : List Arm) (label : Label) (value : Value)

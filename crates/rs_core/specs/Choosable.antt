@@ -17,6 +17,10 @@ pub record CanChoose (c : Core_data) (p : ℕ) (choice : Choice) (peer : Role) :
   pub picks : slice_get arms choice.0 ≡ Some arm
   pub has_sort : HasSort choice.1 arm.sort
 
+-- the choice is one of role p, by this arm
+abbrev pub CanChooseBy : Core_data → ℕ → Choice → Role → Arm → Type 0
+CanChooseBy c p choice peer arm = (can : CanChoose c p choice peer) × (can.arm ≡ arm)
+
 -- the label of the arm at that place
 abbrev pub label_of : Option Arm → Option Label
 label_of None = None

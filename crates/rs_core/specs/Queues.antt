@@ -1,13 +1,17 @@
 -- Public: what rounds are made over, a session whose roles are all in one hand, and what its acts tell.
 use Rattle.std.specs.Prelude.{◌≡◌, ◌≢◌, ℕ, ◌<◌, ◌^◌, List, [], ◌∷◌, ◌++◌, Option, Some, None, IsSome, length, slice_get}
+use Rattle.rs_model.specs.declared.graph.Arm.{Arm}
+use Rattle.rs_model.specs.declared.graph.Label.{Label}
 use Rattle.rs_model.specs.declared.graph.Role.{Role}
+use Rattle.rs_model.specs.declared.machines.State.TheVariants.{Takes}
 use Rattle.rs_core.specs.Actors.{Choice}
 use Rattle.rs_core.specs.Choices.{AreWellFormed}
-use Rattle.rs_core.specs.Configurations.{Message, Sends, StartsAt, state_at}
+use Rattle.rs_core.specs.Configurations.{Sends, StartsAt, state_at}
 use Rattle.rs_core.specs.Core.{Core_data, HasReceived, configuration_of}
 use Rattle.rs_core.specs.Plain.{HasRoom, IsFull}
 use Rattle.rs_core.specs.Safety.{IsSafe}
-use Rattle.rs_core.specs.Choosable.{CanChoose}
+use Rattle.rs_core.specs.Choosable.{CanChoose, label_of}
+use Rattle.rs_core.specs.declared.messages.GotBy.{GotBy}
 use Rattle.rs_core.specs.declared.players.Player.{Player}
 use Rattle.rs_core.specs.declared.queues.Posted.{Posted}
 use Rattle.rs_core.specs.declared.queues.Posted.TheVariants as posted
@@ -66,15 +70,20 @@ abbrev pub PostNotes : (c : Core_data) (p : ℕ) (peer : Role) (choice : Choice)
 PostNotes c p peer choice old new posted.Sent = (can : CanChoose c p choice peer) → IsLongerBy p (entry.Sent peer can.arm.label) old new
 PostNotes c p peer choice old new (posted.Full value) = StayNoted old new
 
--- what came of role p's receive: the oldest message from the peer, or none is there
-abbrev pub FetchTells : Core_data → ℕ → Role → Core_data → Option Message → Type 0
+-- at the state where role p takes, the arm at that place has the label
+abbrev pub IsPlaceOf : Label → Core_data → ℕ → ℕ → Type 0
+IsPlaceOf label c p place = (peer : Role) (arms : List Arm) → state_at c.machines (configuration_of c) p ≡ Some (Takes peer arms) → label_of (slice_get arms place) ≡ Some label
+
+-- what came of role p's receive: the oldest message from the peer with the place of its arm, or none is there
+abbrev pub FetchTells : Core_data → ℕ → Role → Core_data → Option GotBy → Type 0
 FetchTells c p peer d None = ((configuration_of c).queue peer.0 p ≡ []) × (d ≡ c)
-FetchTells c p peer d (Some m) = HasReceived c.machines (configuration_of c) p (configuration_of d) m × (d.machines ≡ c.machines)
+FetchTells c p peer d (Some g) =
+    HasReceived c.machines (configuration_of c) p (configuration_of d) g.message × (d.machines ≡ c.machines) × IsPlaceOf g.message.label c p g.arm
 
 -- and what is then known of the transcripts
-abbrev pub FetchNotes : ℕ → Role → KnownTranscripts → KnownTranscripts → Option Message → Type 0
+abbrev pub FetchNotes : ℕ → Role → KnownTranscripts → KnownTranscripts → Option GotBy → Type 0
 FetchNotes p peer old new None = StayNoted old new
-FetchNotes p peer old new (Some m) = IsLongerBy p (entry.Got peer m.label m.value) old new
+FetchNotes p peer old new (Some g) = IsLongerBy p (entry.Got peer g.message.label g.message.value) old new
 
 -- safe and well-formed machines at their start, in which no role has done anything
 pub record IsFresh (notes : KnownTranscripts) (c : Core_data) : Type 0 where

@@ -1,7 +1,6 @@
 -- Steps: one turn of a role, as a run makes it.
 use Rattle.std.specs.Prelude.{◌≡◌, ◌≢◌, ℕ, ◌<◌, ◌≤◌, Bool, false, nat_le, List, [], ◌∷◌, ◌++◌, Option, Some, None, length}
 use Rattle.rs_model.specs.declared.graph.Arm.{Arm}
-use Rattle.rs_model.specs.declared.graph.Label.{Label}
 use Rattle.rs_model.specs.declared.graph.Role.{Role}
 use Rattle.rs_model.specs.declared.machines.State.TheVariants.{Done, Takes}
 use Rattle.rs_core.specs.Actors.{Choice, Behaviour}
@@ -20,11 +19,11 @@ use Rattle.rs_core.specs.Choosable.{CanChoose}
 abbrev pub KeepsWell : {A : Type 0} → Core_data → ℕ → Player A → Type 0
 KeepsWell c p x = (choice : Choice) → x.kept ≡ Some choice → (peer : Role) × CanChoose c p choice peer
 
--- role p's player offers this choice, of an arm with this label, and is then y
-pub record Offers {A : Type 0} (b : Behaviour A) (c : Core_data) (p : ℕ) (x y : Player A) (peer : Role) (label : Label) (choice : Choice) : Type 0 where
+-- role p's player offers this choice, by this arm, and is then y
+pub record Offers {A : Type 0} (b : Behaviour A) (c : Core_data) (p : ℕ) (x y : Player A) (peer : Role) (arm : Arm) (choice : Choice) : Type 0 where
   pub can : CanChoose c p choice peer
   pub present : peer.0 < length c.machines
-  pub same_label : can.arm.label ≡ label
+  pub same_arm : can.arm ≡ arm
   pub offers : offer_of b x.actor x.kept can.arms ≡ (choice, y.actor)
   pub kept : y.kept ≡ None
   pub transcript : y.transcript ≡ x.transcript
@@ -33,7 +32,7 @@ pub record Offers {A : Type 0} (b : Behaviour A) (c : Core_data) (p : ℕ) (x y 
 abbrev pub NextTells : {A : Type 0} → Behaviour A → ℕ → Core_data → ℕ → Player A → Player A → NextAct → Type 0
 NextTells b limit c p x y next.Done = (state_at c.machines (configuration_of c) p ≡ Some Done) × (y ≡ x)
 NextTells b limit c p x y next.Limit = (state_at c.machines (configuration_of c) p ≢ Some Done) × (limit ≤ length x.transcript) × (y ≡ x)
-NextTells b limit c p x y (next.Sends peer label place value) = (length x.transcript < limit) × Offers b c p x y peer label (place, value)
+NextTells b limit c p x y (next.Sends peer place arm value) = (length x.transcript < limit) × Offers b c p x y peer arm (place, value)
 NextTells b limit c p x y (next.Receives peer) =
     (length x.transcript < limit) × ((arms : List Arm) × (state_at c.machines (configuration_of c) p ≡ Some (Takes peer arms))) × (y ≡ x)
 

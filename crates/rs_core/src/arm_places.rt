@@ -6,6 +6,7 @@ ghost use Rattle.rs_model.specs.declared.graph.Arm.{Arm};
 use rs_model::{Arm, Label};
 
 /// The place of the arm with that label, of arms with no label twice: so there are at most as many as labels.
+#[inline(always)]
 pub fn place_by_label(arms: &[Arm], label: Label) -> u16
     requires once { (i j : ℕ) (a b : Arm) → slice_get arms.now i ≡ Some a → slice_get arms.now j ≡ Some b → a.label ≡ b.label → i ≡ j }
     requires some { (place : ℕ) × (label_of (slice_get arms.now place) ≡ Some label) }
@@ -24,6 +25,7 @@ pub fn place_by_label(arms: &[Arm], label: Label) -> u16
 
 /// Arms with no label twice are no more than there are labels, so each place is a number of 16 bits. The arms aren't looked
 /// at where they are few, as they always are.
+#[inline(always)]
 pub fn arms_are_few(arms: &[Arm])
     requires once { (i j : ℕ) (a b : Arm) → slice_get arms.now i ≡ Some a → slice_get arms.now j ≡ Some b → a.label ≡ b.label → i ≡ j }
     ensures { length arms.now ≤ 2 ^ 16 }
@@ -44,6 +46,7 @@ fn number_of(arm: &Arm) -> u16
     arm.label.0
 }
 
+#[inline(always)]
 fn has_label(arm: &Arm, label: Label) -> bool
     ensures same { IsTrue result ↔ (arm.now.label ≡ label) }
     ensures small { arm.now.label.0 < 2 ^ 16 }

@@ -19,7 +19,7 @@ mod turns;
 
 pub use actors::Actor;
 pub use arm_places::{arms_are_few, place_by_label};
-pub use messages::{Event, Message, Refused, StepFault, Stepped};
+pub use messages::{Event, GotBy, Message, Refused, StepFault, Stepped};
 pub use players::Player;
 pub use playing::{End, Finished, play};
 pub use queues::{Posted, Queues};

@@ -18,6 +18,7 @@ pub struct Player<A: Drop> {
 
 impl<A: Actor> Player<A> {
     /// What the role offers to send: the choice that was kept, or else what the actor chooses.
+    #[inline(always)]
     pub(crate) fn offer(&mut self, alloc: Global, arms: &[Arm]) -> Result<(u16, Value), NoMemory>
         requires some { arms.now ≢ [] }
         requires bounded { length arms.now ≤ 2 ^ 16 }

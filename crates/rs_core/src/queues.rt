@@ -3,13 +3,13 @@ ghost use Rattle.std.specs.Prelude.{◌≡◌, ◌<◌, ℕ, List, Option, Some,
 ghost use Rattle.rs_core.specs.Configurations.{state_at};
 ghost use Rattle.rs_core.specs.Core.{Core_data, configuration_of};
 ghost use Rattle.rs_core.specs.Queues.{FetchNotes, FetchTells, IsCounted, IsStanding, PostNotes, PostTells};
-ghost use Rattle.rs_core.specs.Choosable.{CanChoose};
+ghost use Rattle.rs_core.specs.Choosable.{CanChooseBy};
 ghost use Rattle.rs_core.specs.declared.transcripts.Entry.{Entry};
 ghost use Rattle.rs_model.specs.declared.graph.Arm.{Arm};
 ghost use Rattle.rs_model.specs.declared.machines.State.TheVariants.{Takes};
 
-use crate::Message;
-use rs_model::{Machine, NoMemory, Role, Value};
+use crate::GotBy;
+use rs_model::{Arm, Machine, NoMemory, Role, Value};
 
 /// What came of a send.
 #[derive(Drop)]
@@ -52,18 +52,26 @@ pub trait Queues {
         ensures state { result ≡ (configuration_of (core self.now)).at role.0 }
         ensures standing { IsStanding (core self.now) };
 
-    /// Sends the value from the role to the peer, by the arm at that place of the role's state, where the queue has room.
-    fn post(&mut self, role: Role, peer: Role, arm: u16, value: Value) -> Result<Posted, NoMemory>
+    /// Sends the value from the role to the peer, by the arm at that place of the role's state, where the queue has room. The
+    /// arm comes with it, so that nobody looks it up.
+    fn post(
+        &mut self,
+        role: Role,
+        peer: Role,
+        place: u16,
+        arm: Arm,
+        value: Value,
+    ) -> Result<Posted, NoMemory>
         requires present { role.0 < length (core self.old).machines }
         requires peer { peer.0 < length (core self.old).machines }
-        requires can { CanChoose (core self.old) role.0 (arm, value) peer }
+        requires can { CanChooseBy (core self.old) role.0 (place, value) peer arm }
         requires counted { IsCounted (notes self.old) role.0 }
-        ensures told { IfOk result (λ p. PostTells (capacity self.old) (core self.old) role.0 peer (arm, value) (core self.new) p) }
-        ensures noted { IfOk result (λ p. PostNotes (core self.old) role.0 peer (arm, value) (notes self.old) (notes self.new) p) }
+        ensures told { IfOk result (λ p. PostTells (capacity self.old) (core self.old) role.0 peer (place, value) (core self.new) p) }
+        ensures noted { IfOk result (λ p. PostNotes (core self.old) role.0 peer (place, value) (notes self.old) (notes self.new) p) }
         ensures capacity { OnOk result (capacity self.new ≡ capacity self.old) };
 
-    /// Receives the oldest message from the peer, where one is under way.
-    fn fetch(&mut self, role: Role, peer: Role) -> Option<Message>
+    /// Receives the oldest message from the peer, where one is under way, and tells by which arm.
+    fn fetch(&mut self, role: Role, peer: Role) -> Option<GotBy>
         requires present { role.0 < length (core self.old).machines }
         requires takes { (arms : List Arm) × (state_at (core self.old).machines (configuration_of (core self.old)) role.0 ≡ Some (Takes peer arms)) }
         requires counted { IsCounted (notes self.old) role.0 }

@@ -9,11 +9,11 @@ ghost use Rattle.rs_core.specs.Core.{configuration_of};
 ghost use Rattle.rs_core.specs.Queues.{TurnIsNoted};
 ghost use Rattle.rs_core.specs.Turns.{KeepsWell, NextTells, TurnTells};
 
-use crate::arm_places::{arms_are_few, place_by_label};
+use crate::arm_places::arms_are_few;
 use crate::players::Player;
 use crate::queues::{Posted, Queues};
-use crate::{Actor, Entry, Message};
-use rs_model::{Label, NoMemory, Role, State, Value};
+use crate::{Actor, Entry, GotBy, Message};
+use rs_model::{Arm, NoMemory, Role, State, Value};
 use std::alloc::Global;
 
 /// What a role can do next.
@@ -23,8 +23,8 @@ pub(crate) enum NextAct {
     Limit,
     Sends {
         peer: Role,
-        label: Label,
-        arm: u16,
+        place: u16,
+        arm: Arm,
         value: Value,
     },
     Receives {
@@ -48,6 +48,7 @@ pub(crate) enum Turned {
 }
 
 /// One turn of the role.
+#[inline(always)]
 pub(crate) fn turn<Q: Queues, A: Actor>(
     alloc: Global,
     queues: &mut Q,
@@ -68,31 +69,24 @@ pub(crate) fn turn<Q: Queues, A: Actor>(
         NextAct::Limit => Ok(Turned::AtLimit),
         NextAct::Sends {
             peer,
-            label,
+            place,
             arm,
             value,
-        } => match queues.post(role, peer, arm, value)? {
+        } => match queues.post(role, peer, place, arm, value)? {
             Posted::Sent => {
+                let label = arm.label;
                 player.transcript.push(Entry::Sent { peer, label })?;
                 Ok(Turned::Moved)
             }
             Posted::Full(value) => {
-                player.kept = Some((arm, value));
+                player.kept = Some((place, value));
                 Ok(Turned::Full)
             }
         },
         NextAct::Receives { peer } => match queues.fetch(role, peer) {
-            Some(message) => {
-                let Message { label, value } = message;
-                tell_actor(
-                    alloc,
-                    queues,
-                    &mut player.actor,
-                    role,
-                    number,
-                    label,
-                    &value,
-                )?;
+            Some(got) => {
+                tell_actor(alloc, queues, &mut player.actor, role, number, &got)?;
+                let Message { label, value } = got.message;
                 player.transcript.push(Entry::Got { peer, label, value })?;
                 Ok(Turned::Moved)
             }
@@ -102,6 +96,7 @@ pub(crate) fn turn<Q: Queues, A: Actor>(
 }
 
 /// What the role can do next: its player is asked where it sends.
+#[inline(always)]
 fn next_of<Q: Queues, A: Actor>(
     alloc: Global,
     queues: &Q,
@@ -122,11 +117,11 @@ fn next_of<Q: Queues, A: Actor>(
             }
             let arms = arms.as_slice();
             arms_are_few(arms);
-            let (arm, value) = player.offer(alloc, arms)?;
+            let (place, value) = player.offer(alloc, arms)?;
             Ok(NextAct::Sends {
                 peer: *peer,
-                label: arms[arm as usize].label,
-                arm,
+                place,
+                arm: arms[place as usize],
                 value,
             })
         }
@@ -140,6 +135,7 @@ fn next_of<Q: Queues, A: Actor>(
 }
 
 /// The state in which the role's machine stands.
+#[inline(always)]
 pub(crate) fn here<Q: Queues>(queues: &Q, role: Role) -> &State
     requires present { role.0 < length (Q.core queues.now).machines }
     ensures state { state_at (Q.core queues.now).machines (configuration_of (Q.core queues.now)) role.0 ≡ Some result.now }
@@ -152,6 +148,7 @@ pub(crate) fn here<Q: Queues>(queues: &Q, role: Role) -> &State
 }
 
 /// The state of that number of the role's machine.
+#[inline(always)]
 fn state_numbered<Q: Queues>(queues: &Q, role: Role, number: u32) -> Option<&State>
     requires present { role.0 < length (Q.core queues.now).machines }
     ensures { MatchOption result (state_of (slice_get (Q.core queues.now).machines role.0) number ≡ None) (λ s. state_of (slice_get (Q.core queues.now).machines role.0) number ≡ Some s.now) }
@@ -159,27 +156,24 @@ fn state_numbered<Q: Queues>(queues: &Q, role: Role, number: u32) -> Option<&Sta
     queues.machine(role).states.get(number as usize)
 }
 
-/// Tells the actor that its role took a message with the label, by an arm of the state of that number.
+/// Tells the actor what its role got, by an arm of the state of that number.
+#[inline(always)]
 fn tell_actor<Q: Queues, A: Actor>(
     alloc: Global,
     queues: &Q,
     actor: &mut A,
     role: Role,
     number: u32,
-    label: Label,
-    value: &Value,
+    got: &GotBy,
 ) -> Result<(), NoMemory>
     requires present { role.0 < length (Q.core queues.now).machines }
-    requires well_formed { AreWellFormed (Q.core queues.now).machines }
-    requires taken { (peer : Role) × (arms : List Arm) × (place : ℕ) × (arm : Arm) × (state_of (slice_get (Q.core queues.now).machines role.0) number ≡ Some (Takes peer arms))
-        × (slice_get arms place ≡ Some arm) × (arm.label ≡ label) }
-    ensures becomes { OnOk result ((peer : Role) (arms : List Arm) (place : ℕ) (arm : Arm) → state_of (slice_get (Q.core queues.now).machines role.0) number ≡ Some (Takes peer arms)
-        → slice_get arms place ≡ Some arm → arm.label ≡ label → A.behaviour.told actor.old arms place value.now ≡ actor.new) }
+    requires taken { (peer : Role) × (arms : List Arm) × (state_of (slice_get (Q.core queues.now).machines role.0) number ≡ Some (Takes peer arms)) }
+    ensures becomes { OnOk result ((peer : Role) (arms : List Arm) → state_of (slice_get (Q.core queues.now).machines role.0) number ≡ Some (Takes peer arms)
+        → A.behaviour.told actor.old arms got.now.arm got.now.message.value ≡ actor.new) }
 {
     match state_numbered(queues, role, number) {
         Some(State::Takes { arms, .. }) => {
-            let place = place_by_label(arms.as_slice(), label);
-            actor.take(alloc, arms.as_slice(), place, value)
+            actor.take(alloc, arms.as_slice(), got.arm, &got.message.value)
         }
         _ => unreachable!(),
     }
