@@ -8,11 +8,13 @@ pub mod Costing
 pub mod Deciding
 pub mod Determined
 pub mod Discovering
+pub mod Figured
 pub mod Filing
 pub mod Forced
 pub mod Lengthening
 pub mod Naming
 pub mod Noding
+pub mod OwnSpots
 pub mod Places
 pub mod Remembering
 pub mod Removing

@@ -3,12 +3,14 @@ pub mod Candidates
 pub mod Canonical
 pub mod Costs
 pub mod Examples
+pub mod Figures
 pub mod Forward
 pub mod Found
 pub mod FoundSoFar
 pub mod Itself
 pub mod Longer
 pub mod Nodes
+pub mod OwnSpots
 pub mod Survives
 pub mod Spots
 pub mod Table

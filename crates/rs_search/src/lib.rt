@@ -2,6 +2,7 @@
 #![tactic(auto)]
 
 mod faults;
+mod figures;
 mod forward;
 mod found;
 mod itself;
@@ -13,6 +14,7 @@ mod table;
 mod turns;
 
 pub use faults::SearchFault;
+pub use figures::{OwnFigures, own_figures};
 pub use found::Candidates;
 pub use searches::{search, search_counted, search_own};
 pub use survivors::candidates_of;
