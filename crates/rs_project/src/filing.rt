@@ -12,7 +12,7 @@ use rs_model::{MOST_STATES, NoMemory};
 use std::alloc::Global;
 use std::marker::Model;
 
-const BUCKETS: usize = 251;
+const BUCKETS: usize = 512;
 
 /// Under what a front is filed: its talk where it is that of one talk alone, else its bucket.
 #[derive(Clone, Copy)]
@@ -22,6 +22,7 @@ pub enum Filing {
 }
 
 /// Under what the front is filed.
+#[inline(always)]
 pub fn filing_of(front: &Front) -> Filing
     ensures { IsFiledUnder result front.now }
 {
@@ -37,9 +38,9 @@ pub fn filing_of(front: &Front) -> Filing
 #[derive(Drop)]
 pub struct Fronts {
     items: Vec<Front>,
-    heads: Vec<u32>,
-    links: Vec<u32>,
-    lone: Vec<u32>,
+    heads: Vec<u16>,
+    links: Vec<u16>,
+    lone: Vec<u16>,
 }
 
 impl Model for Fronts {
@@ -98,6 +99,7 @@ impl Fronts {
     }
 
     /// The number of the front, where it was found before.
+    #[inline(always)]
     pub fn number_of(&self, front: &Front, filing: Filing) -> Option<u32>
         requires { IsFiledUnder filing front.now }
         ensures { MatchOption result (FrontIsNew self.now front.now) (λ n. slice_get self.now n ≡ Some front.now) }
@@ -108,6 +110,7 @@ impl Fronts {
         }
     }
 
+    #[inline(always)]
     fn number_of_shared(&self, front: &Front, bucket: usize) -> Option<u32>
         requires { IsInBucket bucket front.now }
         ensures { MatchOption result (FrontIsNew self.now front.now) (λ n. slice_get self.now n ≡ Some front.now) }
@@ -124,10 +127,11 @@ impl Fronts {
         if number == 0 {
             return None;
         }
-        Some(number - 1)
+        Some(u32::from(number) - 1)
     }
 
     /// Adds a front at the end.
+    #[inline(always)]
     pub fn add(&mut self, front: Front, filing: Filing) -> Result<(), NoMemory>
         requires room { length self.old < MOST_STATES }
         requires filing { IsFiledUnder filing front }
@@ -140,13 +144,14 @@ impl Fronts {
         }
     }
 
+    #[inline(always)]
     fn add_shared(&mut self, front: Front, bucket: usize) -> Result<(), NoMemory>
         requires room { length self.old < MOST_STATES }
         requires bucket { IsInBucket bucket front }
         ensures ok { OnOk result (self.new ≡ self.old ++ (front ∷ [])) }
         ensures err { OnErr result (self.new ≡ self.old) }
     {
-        let number = self.items.len() as u32;
+        let number = self.items.len() as u16;
         let head = self.heads[bucket];
         self.items.reserve(1)?;
         self.links.reserve(1)?;
@@ -172,7 +177,7 @@ impl Fronts {
         ensures ok { OnOk result (self.new ≡ self.old ++ (front ∷ [])) }
         ensures err { OnErr result (self.new ≡ self.old) }
     {
-        let number = self.items.len() as u32;
+        let number = self.items.len() as u16;
         make_room(&mut self.lone, Some(talk))?;
         self.items.reserve(1)?;
         self.links.reserve(1)?;
@@ -184,7 +189,7 @@ impl Fronts {
 }
 
 /// What stands at the node.
-pub fn number_at(numbers: &[u32], talk: u32) -> u32
+pub fn number_at(numbers: &[u16], talk: u32) -> u16
     ensures { result ≡ slice_index_or numbers.now talk 0 }
 {
     match numbers.get(talk as usize) {
@@ -194,7 +199,7 @@ pub fn number_at(numbers: &[u32], talk: u32) -> u32
 }
 
 /// Makes a place for the node.
-pub fn make_room(numbers: &mut Vec<u32>, talk: Option<u32>) -> Result<(), NoMemory>
+pub fn make_room(numbers: &mut Vec<u16>, talk: Option<u32>) -> Result<(), NoMemory>
     ensures same { (n : ℕ) → slice_index_or numbers.new.items n 0 ≡ slice_index_or numbers.old.items n 0 }
     ensures room { OnOk result (IfSome talk (λ t. t < length numbers.new.items)) }
 {
@@ -209,7 +214,7 @@ pub fn make_room(numbers: &mut Vec<u32>, talk: Option<u32>) -> Result<(), NoMemo
 
 // Rare, and apart from `make_room`, so that it stays small.
 #[inline(never)]
-fn lengthen(numbers: &mut Vec<u32>, count: usize) -> Result<(), NoMemory>
+fn lengthen(numbers: &mut Vec<u16>, count: usize) -> Result<(), NoMemory>
     requires { length numbers.old.items ≤ count }
     ensures same { (n : ℕ) → slice_index_or numbers.new.items n 0 ≡ slice_index_or numbers.old.items n 0 }
     ensures room { OnOk result (length numbers.new.items ≡ count) }
@@ -219,7 +224,7 @@ fn lengthen(numbers: &mut Vec<u32>, count: usize) -> Result<(), NoMemory>
 }
 
 /// Notes the number at the node.
-pub fn set_number(numbers: &mut Vec<u32>, talk: Option<u32>, number: u32)
+pub fn set_number(numbers: &mut Vec<u16>, talk: Option<u32>, number: u16)
     requires { IfSome talk (λ t. t < length numbers.old.items) }
     ensures { numbers.new.items ≡ with_number talk number numbers.old.items }
 {
@@ -228,6 +233,7 @@ pub fn set_number(numbers: &mut Vec<u32>, talk: Option<u32>, number: u32)
     }
 }
 
+#[inline(always)]
 fn bucket_of(talks: &[u32]) -> usize
     ensures bucket { result ≡ bucket_on BUCKETS 0 talks.now }
     ensures within { result < BUCKETS }
@@ -240,7 +246,7 @@ fn bucket_of(talks: &[u32]) -> usize
 }
 
 // The number along a chain that is the front's.
-fn number_along(fronts: &[Front], links: &[u32], head: u32, front: &Front) -> Option<u32>
+fn number_along(fronts: &[Front], links: &[u16], head: u16, front: &Front) -> Option<u32>
     requires size { length links.now ≡ length fronts.now }
     requires within { head ≤ length fronts.now }
     requires falls { (m next : ℕ) → slice_get links.now m ≡ Some next → next ≤ m }
@@ -248,7 +254,7 @@ fn number_along(fronts: &[Front], links: &[u32], head: u32, front: &Front) -> Op
 {
     let mut left = head;
     while left > 0 {
-        let number = left - 1;
+        let number = u32::from(left) - 1;
         if is_at(fronts, number, front) {
             return Some(number);
         }
@@ -257,6 +263,7 @@ fn number_along(fronts: &[Front], links: &[u32], head: u32, front: &Front) -> Op
     None
 }
 
+#[inline(always)]
 fn is_at(fronts: &[Front], number: u32, front: &Front) -> bool
     ensures sound { result ≡ true → slice_get fronts.now number ≡ Some front.now }
     ensures whole { result ≡ false → slice_get fronts.now number ≡ Some front.now → ⊥ }
@@ -267,6 +274,7 @@ fn is_at(fronts: &[Front], number: u32, front: &Front) -> bool
     }
 }
 
+#[inline(always)]
 fn same_front(one: &Front, other: &Front) -> bool
     ensures sound { result ≡ true → one.now ≡ other.now }
     ensures whole { result ≡ false → one.now ≡ other.now → ⊥ }
@@ -277,6 +285,7 @@ fn same_front(one: &Front, other: &Front) -> bool
     same_talks(one.talks.as_slice(), other.talks.as_slice())
 }
 
+#[inline(always)]
 fn same_talks(one: &[u32], other: &[u32]) -> bool
     ensures sound { result ≡ true → one.now ≡ other.now }
     ensures whole { result ≡ false → one.now ≡ other.now → ⊥ }

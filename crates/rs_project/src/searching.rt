@@ -23,7 +23,7 @@ pub struct Search<'a> {
     survey: &'a Survey<'a>,
     marks: Marks,
     fronts: Fronts,
-    numbers: Vec<u32>,
+    numbers: Vec<u16>,
 }
 
 impl<'a> Model for Search<'a> {
@@ -125,12 +125,12 @@ impl<'a> Search<'a> {
         let survey = self.survey;
         let known = number_at(&self.numbers, end);
         if known > 0 {
-            return Ok(known - 1);
+            return Ok(u32::from(known) - 1);
         }
         make_room(&mut self.numbers, Some(end))?;
         let front = marked_front(alloc, survey, &mut self.marks, &[end])?;
         let number = number_of(survey.role, &mut self.fronts, front)?;
-        set_number(&mut self.numbers, Some(end), number + 1);
+        set_number(&mut self.numbers, Some(end), number as u16 + 1);
         Ok(number)
     }
 }

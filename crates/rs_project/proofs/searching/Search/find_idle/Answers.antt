@@ -1,4 +1,4 @@
-use Rattle.std.proofs.Common.{◌∷◌, ◌-◌, ◌<◌, [], inl, ℕ, List, Err, get_or, refl, arith, ap, subst, sym, ◌∙◌}
+use Rattle.std.proofs.Common.{rules, ◌≡◌, ◌∷◌, ◌-◌, ◌<◌, [], inl, ℕ, List, Err, get_or, refl, arith, ap, subst, sym, ◌∙◌}
 use Rattle.rs_project.specs.Marks.{Survey_data}
 use Rattle.rs_project.specs.Working.{FaultFrom, FindsFrom, IsSearch, Search_data}
 use Rattle.rs_project.proofs.Behind.{fault_from}
@@ -15,11 +15,13 @@ returns-then-known-gt0-clause-ok c =
     let pr = c.self.inside.survey.now.protocol in
     let role = c.self.inside.survey.now.role in
     let end = c.args.end in
-    let P : Search_data → Type 0 = λ z. FindsFrom z.survey.protocol z.survey.role z.fronts (c.args.end ∷ []) z.fronts (c.number_at-known.result - 1) in
+    let P : Search_data → Type 0 = λ z. FindsFrom z.survey.protocol z.survey.role z.fronts (c.args.end ∷ []) z.fronts (c.from.result - 1) in
+    let same : c.number_at-known.result ≡ c.from.result = search rules in
+    let Q : ℕ → Type 0 = λ z. FindsFrom S.survey.protocol S.survey.role S.fronts (c.args.end ∷ []) S.fronts (z - 1) in
     let some : 0 < c.number_at-known.result = (let t = c.if-known-gt0.true in omega (arith, t)) in
     subst P c.self.view_is
-    (finds_known S c.self.inside.numbers.items end end c.number_at-known.result c.self.invariant (stands_itself pr role end)
-    (c.number_at-known.ensures ∙ ap (λ (z : List ℕ). get_or z end 0) c.deref.ensures.value) some)
+    (subst Q same (finds_known S c.self.inside.numbers.items end end c.number_at-known.result c.self.invariant (stands_itself pr role end)
+    (c.number_at-known.ensures ∙ ap (λ (z : List ℕ). get_or z end 0) c.deref.ensures.value) some))
 
 pub invariant_of-self : goal.invariant_of-self
 invariant_of-self c =
@@ -64,6 +66,18 @@ returns-in_err-number-clause-err c =
     (subst P c.self.view_is
     (fault_from pr role c.survey.inside.role c.self.inside.fronts (c.args.end ∷ []) c.in_ok-front.front (Err c.in_err-number.field-0.0) (ap (λ (z : Survey_data). z.role) c.survey.view_is)
     c.in_ok-front.ensures c.in_err-number.ensures.err))
+
+pub overflow_cast-number : goal.overflow_cast-number
+overflow_cast-number c =
+    let S : Search_data = record { survey = c.self.inside.survey.now; fronts = c.self.inside.fronts } in
+    let pr = c.self.inside.survey.now.protocol in
+    let role = c.self.inside.survey.now.role in
+    let end = c.args.end in
+    let n = c.in_ok-number.number in
+    let is = search_adds S c.number_of.new.fronts c.self.inside.numbers.items (end ∷ []) end c.in_ok-front.front n c.self.invariant (inl refl) c.in_ok-front.ensures c.in_ok-number.ensures.ok in
+    let short = at_short c.number_of.new.fronts n c.in_ok-front.front (stands_adds c.self.inside.fronts c.number_of.new.fronts c.in_ok-front.front n c.in_ok-number.ensures.ok) in
+    let few = is.found.bounded in
+    omega (arith, short, few)
 
 pub overflow_add-number : goal.overflow_add-number
 overflow_add-number c =
