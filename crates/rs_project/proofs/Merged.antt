@@ -1,13 +1,15 @@
 -- The choices of several talks.
-use Rattle.std.proofs.Common.{◌≡◌, ℕ, zero, suc, ◌+◌, Bool, true, false, List, [], ◌∷◌, ◌++◌, map, drop, Option, Some, slice_get, refl, sym, ap, ◌∙◌, subst, arith, if◌then◌else◌, ◌==◌, ◌||◌}
+use Rattle.std.proofs.Common.{◌≡◌, inl, inr, ℕ, zero, suc, ◌+◌, Bool, true, false, List, [], ◌∷◌, ◌++◌, map, drop, Option, Some, slice_get, refl, sym, ap, ◌∙◌, subst, arith, if◌then◌else◌, ◌==◌, ◌||◌}
 use Rattle.std.proofs.Common.{append_assoc}
 use Rattle.std.specs.List.{flat_map, list_any}
+use Rattle.std.proofs.lemmas.Bool.Decides.{eqb_tells}
 use Rattle.rs_model.specs.Data.{Protocol_data}
 use Rattle.rs_model.specs.declared.graph.Arm.{Arm}
 use Rattle.rs_model.specs.declared.graph.Label.{Label}
 use Rattle.rs_model.specs.declared.graph.Node.{Node}
-use Rattle.rs_project.specs.Marks.{labelled_nexts_of}
-use Rattle.rs_project.specs.Projection.{LabelChoice, choice_of, choices_of, first_choices}
+use Rattle.rs_model.specs.declared.graph.Node.TheVariants.{Finished, Talk}
+use Rattle.rs_project.specs.Marks.{arms_of_node, labelled_nexts, labelled_nexts_of}
+use Rattle.rs_project.specs.Projection.{LabelChoice, choice_of, choices_of, first_choices, merged_choices}
 
 append_nothing : {A : Type 0} (xs : List A) → xs ++ [] ≡ xs
 append_nothing [] = refl
@@ -119,3 +121,46 @@ add_new a acc new e n =
 pub map_last : (arms : List Arm) (a : Arm) → map choice_of (arms ++ (a ∷ [])) ≡ map choice_of arms ++ (choice_of a ∷ [])
 map_last [] a = refl
 map_last (x ∷ arms) a = ap (λ z. choice_of x ∷ z) (map_last arms a)
+
+-- ---- talks with one choice
+
+-- the talk has this choice alone, which was known
+pub led_choices : (a : Arm) (c : LabelChoice) (node : Node) → arms_of_node node ≡ a ∷ [] → (a.label.0 == c.label.0) ≡ true → c ∷ [] ≡ (c ∷ []) ++ first_choices (choices_of (Some node)) (c ∷ [])
+led_choices a c Finished is same = absurd (cc (is))
+led_choices a c (Talk sender receiver arms) is same =
+    let e : (c.label.0 == a.label.0) ≡ true = elim (eqb_tells c.label.0 a.label.0) [
+      | inl p ↦ p.0
+      | inr p ↦ elim (eqb_tells a.label.0 c.label.0) [ inl q ↦ absurd (p.1 (sym q.1)) | inr q ↦ absurd (cc (same, q.0)) ]
+    ] in
+    let P : List Arm → Type 0 = λ z. c ∷ [] ≡ (c ∷ []) ++ first_choices (map choice_of z) (c ∷ []) in
+    let Q : Bool → Type 0 = λ z. c ∷ [] ≡ (c ∷ []) ++ (if (z || false) then [] else choice_of a ∷ []) in
+    subst P (sym is) (subst Q (sym e) refl)
+
+-- it leads on by the label
+pub led_starts : (a : Arm) (label : Label) (node : Node) (old new : List ℕ) → arms_of_node node ≡ a ∷ [] → (a.label.0 == label.0) ≡ true → new ≡ old ++ (a.next ∷ [])
+    → new ≡ old ++ labelled_nexts_of label (Some node)
+led_starts a label Finished old new is same e = absurd (cc (is))
+led_starts a label (Talk sender receiver arms) old new is same e =
+    let P : List Arm → Type 0 = λ z. new ≡ old ++ labelled_nexts label z in
+    let Q : Bool → Type 0 = λ z. new ≡ old ++ (if z then a.next ∷ [] else []) in
+    subst P (sym is) (subst Q (sym same) e)
+
+-- the first talk has the choice, and none has another one
+pub one_merged : (pr : Protocol_data) (talks : List ℕ) (t : ℕ) (node : Node) (a : Arm) → slice_get talks 0 ≡ Some t → slice_get pr.nodes t ≡ Some node → arms_of_node node ≡ a ∷ []
+    → choice_of a ∷ [] ≡ (choice_of a ∷ []) ++ first_choices (flat_map (λ k. choices_of (slice_get pr.nodes k)) talks) (choice_of a ∷ [])
+    → choice_of a ∷ [] ≡ merged_choices pr talks
+one_merged pr [] t node a is at has h = absurd (cc (is))
+one_merged pr (x ∷ talks) t node a is at has h =
+    let s : x ≡ t = cc (is) in
+    let c = choice_of a in
+    let rest = flat_map (λ k. choices_of (slice_get pr.nodes k)) talks in
+    let here : choices_of (slice_get pr.nodes x) ≡ c ∷ [] = ap (λ (z : ℕ). choices_of (slice_get pr.nodes z)) s ∙ ap (λ (z : Option Node). choices_of z) at ∙ first_choice node has in
+    let e : (c.label.0 == c.label.0) ≡ true = elim (eqb_tells c.label.0 c.label.0) [ inl p ↦ p.0 | inr p ↦ absurd (p.1 refl) ] in
+    let P : List LabelChoice → Type 0 = λ z. c ∷ [] ≡ (c ∷ []) ++ first_choices (z ++ rest) (c ∷ []) in
+    let Q : Bool → Type 0 = λ z. c ∷ [] ≡ (c ∷ []) ++ (if (z || false) then first_choices rest (c ∷ []) else c ∷ first_choices rest ((c ∷ []) ++ (c ∷ []))) in
+    let R : List LabelChoice → Type 0 = λ z. c ∷ [] ≡ first_choices (z ++ rest) [] in
+    subst R (sym here) (subst Q e (subst P here h))
+  where
+    first_choice : (n : Node) → arms_of_node n ≡ a ∷ [] → choices_of (Some n) ≡ choice_of a ∷ []
+    first_choice Finished k = absurd (cc (k))
+    first_choice (Talk sender receiver arms) k = ap (λ (z : List Arm). map choice_of z) k

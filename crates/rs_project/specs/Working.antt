@@ -15,7 +15,7 @@ use Rattle.rs_graph.specs.Lists.{Among}
 use Rattle.rs_project.specs.Marks.{IsTrueSurvey, StartEnds, StartMeets, Survey_data, labelled_nexts_of}
 use Rattle.rs_graph.specs.Order.{Once, Numbered, Worked}
 use Rattle.rs_project.specs.Numbered.{nexts_behind}
-use Rattle.rs_project.specs.Projection.{LabelChoice, choice_of, merged_choices, MeetsBehind, EndsBehind}
+use Rattle.rs_project.specs.Projection.{LabelChoice, choice_of, choices_of, first_choices, merged_choices, MeetsBehind, EndsBehind}
 use Rattle.rs_project.specs.Refusals.{IsFront, IsFrontAt, Merges, AreBehind, FirstClash}
 use Rattle.rs_project.specs.declared.projecting.ProjFault.{ProjFault}
 use Rattle.rs_project.specs.declared.projecting.ProjFault.TheVariants.{Unmergeable, Unreached, TooManyStates, NoMemory}
@@ -129,6 +129,16 @@ ArmsFault protocol role old talks choices NoMemory = Unit {0}
 pub record IsOnlyChoice (protocol : Protocol_data) (talk : ℕ) (choice : Arm) : Type 0 where
   pub starts : choice.next ∷ [] ≡ flat_map (λ t. labelled_nexts_of choice.label (slice_get protocol.nodes t)) (talk ∷ [])
   pub alone : choice_of choice ∷ [] ≡ merged_choices protocol (talk ∷ [])
+
+-- the talks lead to the starts behind the label of the choice, and add no other choice
+pub record AreLedBy (protocol : Protocol_data) (talks starts : List ℕ) (choice : LabelChoice) : Type 0 where
+  pub led : starts ≡ flat_map (λ t. labelled_nexts_of choice.label (slice_get protocol.nodes t)) talks
+  pub no_more : choice ∷ [] ≡ (choice ∷ []) ++ first_choices (flat_map (λ t. choices_of (slice_get protocol.nodes t)) talks) (choice ∷ [])
+
+-- the talks together have this choice alone, and lead to the starts
+pub record IsOneChoice (protocol : Protocol_data) (talks starts : List ℕ) (choice : LabelChoice) : Type 0 where
+  pub led : starts ≡ flat_map (λ t. labelled_nexts_of choice.label (slice_get protocol.nodes t)) talks
+  pub alone : choice ∷ [] ≡ merged_choices protocol talks
 
 -- the role does in the state what it does in all these talks
 abbrev pub HasShape : Protocol_data → Role → List ℕ → State → Type 0

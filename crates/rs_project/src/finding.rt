@@ -1,13 +1,13 @@
 //! The arms of a state, and the fronts to which they lead.
-ghost use Rattle.std.specs.Prelude.{◌≡◌, ◌<◌, ◌∷◌, [], map, length, IfOk, IfErr};
+ghost use Rattle.std.specs.Prelude.{◌≡◌, ◌≢◌, ◌<◌, ◌∷◌, [], map, length, IfOk, IfErr};
 ghost use Rattle.std.specs.List.{All};
 ghost use Rattle.rs_project.specs.Marks.{IsSurvey, arms_of_node};
 ghost use Rattle.rs_project.specs.Numbered.{nexts_of};
 ghost use Rattle.rs_project.specs.Projection.{choice_of, merged_choices};
-ghost use Rattle.rs_project.specs.Working.{AreFoundFronts, ArmsFault, Discovers, IsOnlyChoice};
+ghost use Rattle.rs_project.specs.Working.{AreFoundFronts, ArmsFault, Discovers, IsOneChoice, IsOnlyChoice};
 
 use crate::ProjFault;
-use crate::merging::{merged_arms, starts_behind};
+use crate::merging::{merged_arms, one_choice, starts_behind};
 use crate::searching::Search;
 use rs_model::{Arm, Arms, Node};
 use std::alloc::Global;
@@ -87,6 +87,52 @@ fn arms_in(node: &Node) -> &[Arm]
 
 /// The arms of the state that stands for these talks together. Fronts that weren't found before are added.
 pub fn joint_arms(alloc: Global, search: &mut Search, talks: &[u32]) -> Result<Arms, ProjFault>
+    requires talks { All (λ t. t < length search.old.survey.protocol.nodes) talks.now }
+    ensures survey { search.new.survey ≡ search.old.survey }
+    ensures ok { IfOk result (λ arms. Discovers search.old.survey.protocol search.old.survey.role search.old.fronts talks.now
+        (merged_choices search.old.survey.protocol talks.now) search.new.fronts (nexts_of arms)) }
+    ensures choices { IfOk result (λ arms. map choice_of arms ≡ merged_choices search.old.survey.protocol talks.now) }
+    ensures err { IfErr result (λ e. ArmsFault search.old.survey.protocol search.old.survey.role search.old.fronts talks.now (merged_choices search.old.survey.protocol talks.now) e) }
+{
+    let survey = search.survey();
+    match one_choice(alloc, survey.protocol, talks)? {
+        Some(one) => joint_arm(alloc, search, talks, one.starts.as_slice(), one.arm),
+        None => several_joint_arms(alloc, search, talks),
+    }
+}
+
+// The arms of talks that have the choice of this arm alone, and lead to the starts.
+fn joint_arm(
+    alloc: Global,
+    search: &mut Search,
+    talks: &[u32],
+    starts: &[u32],
+    choice: Arm,
+) -> Result<Arms, ProjFault>
+    requires some { starts.now ≢ [] }
+    requires starts { All (λ s. s < length search.old.survey.protocol.nodes) starts.now }
+    requires one { IsOneChoice search.old.survey.protocol talks.now starts.now (choice_of choice) }
+    requires survey { IsSurvey search.old.survey.protocol search.old.survey.role search.old.survey }
+    requires found { AreFoundFronts search.old.survey.protocol search.old.survey.role search.old.fronts }
+    ensures survey { search.new.survey ≡ search.old.survey }
+    ensures ok { IfOk result (λ arms. Discovers search.old.survey.protocol search.old.survey.role search.old.fronts talks.now
+        (merged_choices search.old.survey.protocol talks.now) search.new.fronts (nexts_of arms)) }
+    ensures choices { IfOk result (λ arms. map choice_of arms ≡ merged_choices search.old.survey.protocol talks.now) }
+    ensures err { IfErr result (λ e. ArmsFault search.old.survey.protocol search.old.survey.role search.old.fronts talks.now (merged_choices search.old.survey.protocol talks.now) e) }
+{
+    let next = search.find(alloc, starts)?;
+    Ok(Arms::of_one(
+        alloc,
+        Arm {
+            label: choice.label,
+            sort: choice.sort,
+            next,
+        },
+    ))
+}
+
+// The arms of talks that have any choices.
+fn several_joint_arms(alloc: Global, search: &mut Search, talks: &[u32]) -> Result<Arms, ProjFault>
     requires talks { All (λ t. t < length search.old.survey.protocol.nodes) talks.now }
     ensures survey { search.new.survey ≡ search.old.survey }
     ensures ok { IfOk result (λ arms. Discovers search.old.survey.protocol search.old.survey.role search.old.fronts talks.now

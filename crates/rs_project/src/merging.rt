@@ -1,12 +1,94 @@
 //! Choices of several talks as one state's arms.
-ghost use Rattle.std.specs.Prelude.{◌≡◌, ◌<◌, ◌++◌, ◌∷◌, [], ◌==◌, map, length, slice_get, Some, IfOk, OnOk};
+ghost use Rattle.std.specs.Prelude.{◌≡◌, ◌<◌, ◌++◌, ◌∷◌, [], ◌==◌, true, map, length, slice_get, Some, IfOk, IfSome, OnOk};
 ghost use Rattle.std.specs.List.{All, flat_map, list_any};
-ghost use Rattle.rs_project.specs.Marks.{labelled_nexts, labelled_nexts_of};
+ghost use Rattle.rs_project.specs.Marks.{arms_of_node, labelled_nexts, labelled_nexts_of};
 ghost use Rattle.rs_project.specs.Projection.{choice_of, choices_of, first_choices, merged_choices};
+ghost use Rattle.rs_project.specs.Working.{AreLedBy, IsOneChoice};
 
 use rs_model::{Arm, Label, NoMemory, Node, Protocol};
 use smallvec::SmallVec;
 use std::alloc::Global;
+
+/// What several talks say where they have one choice together: the first of their arms, and the nodes to which all lead.
+#[derive(Drop)]
+pub struct OneChoice {
+    pub arm: Arm,
+    pub starts: SmallVec<u32, 4>,
+}
+
+/// The one choice of the talks, where each of them has one arm, and all arms have one label.
+pub fn one_choice(
+    alloc: Global,
+    protocol: &Protocol,
+    talks: &[u32],
+) -> Result<Option<OneChoice>, NoMemory>
+    requires { All (λ t. t < length protocol.now.nodes) talks.now }
+    ensures { IfOk result (λ found. IfSome found (λ one. IsOneChoice protocol.now talks.now one.starts.items (choice_of one.arm))) }
+{
+    let [first, ..] = talks else {
+        return Ok(None);
+    };
+    let Some(arm) = only_arm_in(&protocol.nodes[*first as usize]) else {
+        return Ok(None);
+    };
+    let Some(starts) = starts_by(alloc, protocol, talks, arm)? else {
+        return Ok(None);
+    };
+    Ok(Some(OneChoice { arm, starts }))
+}
+
+// The nodes to which the talks lead, where each has one arm, with the label of this one.
+fn starts_by(
+    alloc: Global,
+    protocol: &Protocol,
+    talks: &[u32],
+    arm: Arm,
+) -> Result<Option<SmallVec<u32, 4>>, NoMemory>
+    requires { All (λ t. t < length protocol.now.nodes) talks.now }
+    ensures { IfOk result (λ found. IfSome found (λ v. AreLedBy protocol.now talks.now v.items (choice_of arm))) }
+{
+    let mut starts = SmallVec::new(alloc);
+    for talk in talks {
+        let Some(other) = arm_with(&protocol.nodes[*talk as usize], arm.label) else {
+            return Ok(None);
+        };
+        starts.push(other.next)?;
+    }
+    Ok(Some(starts))
+}
+
+// The only arm of the node, where it has the label.
+fn arm_with(node: &Node, label: Label) -> Option<Arm>
+    ensures { IfSome result (λ arm. (arms_of_node node.now ≡ arm ∷ []) × (arm.label.0 == label.0 ≡ true)) }
+{
+    match only_arm_in(node) {
+        Some(arm) => {
+            if arm.label != label {
+                return None;
+            }
+            Some(arm)
+        }
+        None => None,
+    }
+}
+
+fn only_arm_in(node: &Node) -> Option<Arm>
+    ensures { IfSome result (λ arm. arms_of_node node.now ≡ arm ∷ []) }
+{
+    match node {
+        Node::Finished => None,
+        Node::Talk { arms, .. } => only_arm(arms.as_slice()),
+    }
+}
+
+fn only_arm(arms: &[Arm]) -> Option<Arm>
+    ensures { IfSome result (λ arm. arms.now ≡ arm ∷ []) }
+{
+    match arms {
+        [arm] => Some(*arm),
+        _ => None,
+    }
+}
 
 /// The arms of the talks, one talk after the other, each label once.
 pub fn merged_arms(

@@ -11,7 +11,7 @@ use Rattle.rs_project.specs.Working.{ArmsFault, Discovers, FaultFrom, FindsFrom}
 use Rattle.rs_project.proofs.Behind.{fault_behind, finds_behind, some_starts, starts_of, starts_within}
 use Rattle.rs_project.proofs.Handed.{handed_on}
 use Rattle.rs_project.proofs.Numbers.{among_choices, discovers_none, arm_more, same_more, arms_fault, taken_all}
-use Rattle.rs_project.proofs.finding.joint_arms.Goals as goal
+use Rattle.rs_project.proofs.finding.several_joint_arms.Goals as goal
 
 pub loop-choice-init : goal.loop-choice-init
 loop-choice-init c =

@@ -2,7 +2,7 @@ use Rattle.std.proofs.Common.{◌≡◌, map, take}
 use Rattle.rs_project.specs.Numbered.{nexts_of}
 use Rattle.rs_project.specs.Projection.{choice_of}
 use Rattle.rs_project.specs.Working.{Discovers}
-use Rattle.rs_project.proofs.finding.joint_arms.Given as goal
+use Rattle.rs_project.proofs.finding.several_joint_arms.Given as goal
 
 abbrev pub invariant-loop-choice : goal.invariant-loop-choice
 invariant-loop-choice l = record {
