@@ -1,6 +1,7 @@
 pub mod Accepted
 pub mod Alike
 pub mod Assembled
+pub mod Bucketing
 pub mod Choices
 pub mod Chains
 pub mod Chosen

@@ -437,12 +437,12 @@ fn few_buckets(sub: &Machine, above: &Machine) -> usize
     state_count(sub) + state_count(above) + 1
 }
 
-// How many there are once the candidates are more: one for two pairs of states, as far as these are few.
+// How many there are once the candidates are more: one for each pair of states, as far as these are few.
 fn many_buckets(sub: &Machine, above: &Machine) -> usize
     ensures some { 0 < result }
     ensures bounded { result < 2 ^ 32 }
 {
-    first_room(sub, above) / 2 + few_buckets(sub, above)
+    first_room(sub, above) + few_buckets(sub, above)
 }
 
 // Notes of the next candidate what it may do within the bound, and numbers what it leads to.

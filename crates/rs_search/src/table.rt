@@ -88,6 +88,7 @@ fn code_without(pending: &[Act], place: usize) -> u64
 }
 
 // The number of the bucket of a spot, by the code of what it owes.
+#[tactic(auto, using(crate::proofs::Bucketing::share_below, crate::proofs::Bucketing::share_fits))]
 #[inline(always)]
 fn bucket_by(size: usize, code: u64, state: u32, above: u32) -> usize
     requires some { 0 < size }
@@ -98,7 +99,7 @@ fn bucket_by(size: usize, code: u64, state: u32, above: u32) -> usize
     let states = u64::from(state) * STATE_FACTOR + u64::from(above);
     let mixed = code.wrapping_mul(CODE_FACTOR).wrapping_add(states);
     let high = mixed.wrapping_mul(CODE_FACTOR) / STATE_FACTOR;
-    (high % size as u64) as usize
+    (high * size as u64 / STATE_FACTOR) as usize
 }
 
 /// What is filed of a spot: the code of what it owes, and the next number of its chain.
