@@ -31,11 +31,12 @@ const STATE_FACTOR: u64 = 4_294_967_296;
 #[inline(always)]
 fn act_code(act: Act) -> u64
     ensures code { result ≡ act_code act }
+    ensures some { 0 < result }
     ensures small { result < 2 ^ 26 }
 {
     match act {
         Act::Puts { peer, label, .. } | Act::Takes { peer, label, .. } => {
-            u64::from(label.0) * 512 + u64::from(peer.0)
+            u64::from(label.0) * 512 + u64::from(peer.0) + 1
         }
     }
 }
