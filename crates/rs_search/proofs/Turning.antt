@@ -1,12 +1,14 @@
 -- The turn that the code makes is the one that is due.
-use Rattle.std.proofs.Common.{◌≡◌, inl, inr, ℕ, ◌<◌, ◌≤◌, ◌+◌, Bool, true, false, List, [], ◌∷◌, ◌++◌, length, map, refl, sym, ap, ◌∙◌, subst, arith, suc, zero, None, Some, slice_get, get_or}
+use Rattle.std.proofs.Common.{◌≡◌, inl, inr, ℕ, ◌<◌, ◌≤◌, ◌+◌, Bool, true, false, List, [], ◌∷◌, ◌++◌, length, map, refl, sym, ap, ◌∙◌, subst, arith, suc, zero, None, Option, Some, slice_get, get_or}
 use Rattle.std.proofs.Common.{take, ◌^◌, length-append, if◌then◌else◌, eqb, nat_lt, nat_le, ◌&&◌}
 use Rattle.std.proofs.lemmas.Bool.{cases_lt, lt-ltb, le-ltb, le-leb, lt-leb}
 use Rattle.std.proofs.lemmas.List.{length-map}
 use Rattle.rs_model.specs.declared.graph.Arm.{Arm}
 use Rattle.rs_model.specs.declared.graph.Role.{Role}
+use Rattle.rs_model.specs.declared.machines.State.{State}
+use Rattle.rs_model.specs.Data.{Machine_data}
 use Rattle.rs_prefix.specs.Earliest.{without}
-use Rattle.rs_derive.specs.Due.{both_at, due_by, nexts_by}
+use Rattle.rs_derive.specs.Due.{both_at, due_at, due_by, nexts_by}
 use Rattle.rs_derive.specs.Moves.{Spot, arm_of, owing_receive, owing_send, spot}
 use Rattle.rs_derive.specs.Rules.{keeps_head}
 use Rattle.rs_derive.specs.declared.rules.Rule.{Rule}
@@ -14,7 +16,7 @@ use Rattle.rs_derive.specs.declared.rules.Rule.TheVariants.{Stops, Pays, SendsBo
 use Rattle.rs_graph.specs.Lists.{Among, concat}
 use Rattle.rs_graph.proofs.Buckets.{got}
 use Rattle.rs_graph.proofs.Growth.{take_on}
-use Rattle.rs_search.specs.Turns.{Turn_data, turn_with_cut, cuts, may_choose, no_turn, owes_more, turn_by_code, turn_of}
+use Rattle.rs_search.specs.Turns.{Turn_data, turn_with_cut, cuts, may_choose, no_turn, owes_more, turn_by_code, turn_of, turn_within}
 use Rattle.rs_search.specs.declared.turns.SpotMoves.{SpotMoves}
 use Rattle.rs_search.proofs.Choices.{append_nil, among_nil, both_level, follow_level, guess_level, without_length}
 
@@ -110,3 +112,10 @@ push_length spots new r i e h = let l = length-append spots (r ∷ []) in let n 
 
 pub told_none : (p : Spot) (arms theirs : List Arm) (t : SpotMoves) (cut : Bool) → (t.cut ≡ cut) × (t.any ≡ true) × (t.keeps ≡ false) × (t.rule ≡ None) → turn_by_code p arms theirs t ≡ no_turn cut
 told_none p arms theirs t cut h = rw (h.0, h.1, h.2, h.3) refl
+
+-- the turn that is due at the states where the spot stands
+pub turn_there : (sub above : Machine_data) (bound : ℕ) (p : Spot) (state there : State) → slice_get sub.states p.state ≡ Some state → slice_get above.states p.above ≡ Some there
+    → turn_with_cut bound (turn_of (due_at p (Some state) (Some there))) ≡ turn_within sub above bound p
+turn_there sub above bound p state there es et =
+    ap (λ (z : Option State). turn_with_cut bound (turn_of (due_at p z (Some there)))) (sym es)
+    ∙ ap (λ (z : Option State). turn_with_cut bound (turn_of (due_at p (slice_get sub.states p.state) z))) (sym et)

@@ -4,7 +4,7 @@ ghost use Rattle.rs_derive.specs.Targets.{target_spot};
 ghost use Rattle.rs_derive.specs.Derivations.{IsProper, spot_of};
 ghost use Rattle.rs_derive.specs.Due.{both_at, nexts_by};
 ghost use Rattle.rs_derive.specs.Moves.{Spot, arm_of, spot};
-ghost use Rattle.rs_derive.specs.Rules.{RuleFits};
+ghost use Rattle.rs_derive.specs.Rules.{RuleFits, arms_at};
 ghost use Rattle.rs_derive.specs.Within.{HasLabelsOnce};
 ghost use Rattle.rs_prefix.specs.Earliest.{without};
 ghost use Rattle.rs_search.specs.Candidates.{start_spot};
@@ -20,11 +20,11 @@ ghost use Rattle.rs_search.specs.declared.found.SearchStop.TheVariants.{TooLarge
 
 use crate::table::SpotTable;
 use crate::turns::{
-    arms_of_state, has_choice, target_behind_payment, target_of_both, target_owing, turn_within,
+    has_choice, state_of, target_behind_payment, target_of_both, target_owing, turn_at,
 };
-use rs_derive::{EdgeTarget, Rule, arm_of};
+use rs_derive::{EdgeTarget, Rule, arm_of, arms_at};
 use rs_graph::NodeRow;
-use rs_model::{Arm, MOST_CANDIDATES, MOST_STATES, Machine, NoMemory, Role};
+use rs_model::{Arm, MOST_CANDIDATES, MOST_STATES, Machine, NoMemory, Role, State};
 use rs_prefix::ActKind;
 use std::alloc::{AllocError, AllocFailed, Global};
 
@@ -342,16 +342,16 @@ fn name_by(
     table: &mut SpotTable,
     k: usize,
     rule: Rule,
-    arms: &[Arm],
-    theirs: &[Arm],
+    state: &State,
+    there: &State,
     limit: usize,
 ) -> Result<Nexts, SearchStop>
     requires within { StandsWithin table.old.spots k limit }
-    requires once { BothHaveLabelsOnce arms.now theirs.now }
-    requires fits { (p : Spot) → slice_get table.old.spots k ≡ Some p → RuleFits p.pending arms.now theirs.now rule }
-    ensures named { IfOk result (λ nexts. AreNamedAt (λ p. concat (nexts_by p arms.now theirs.now rule)) table.old.spots k table.new.spots (numbers_of nexts)) }
+    requires once { BothHaveLabelsOnce (arms_at state.now) (arms_at there.now) }
+    requires fits { (p : Spot) → slice_get table.old.spots k ≡ Some p → RuleFits p.pending (arms_at state.now) (arms_at there.now) rule }
+    ensures named { IfOk result (λ nexts. AreNamedAt (λ p. concat (nexts_by p (arms_at state.now) (arms_at there.now) rule)) table.old.spots k table.new.spots (numbers_of nexts)) }
     ensures short { IfOk result (λ nexts. length (numbers_of nexts) ≤ 2 ^ 16) }
-    ensures grown { OnErr result (GrowsBy (λ p. concat (nexts_by p arms.now theirs.now rule)) table.old.spots k table.new.spots) }
+    ensures grown { OnErr result (GrowsBy (λ p. concat (nexts_by p (arms_at state.now) (arms_at there.now) rule)) table.old.spots k table.new.spots) }
     ensures limit { MatchResult result (λ _. length table.new.spots ≤ limit) (λ e. e ≡ TooLarge → limit < length table.new.spots) }
     ensures rows { table.new.rows ≡ table.old.rows }
 {
@@ -364,17 +364,19 @@ fn name_by(
             let n = name_paid(alloc, table, k, place, arm, limit)?;
             Ok(Nexts::One(n))
         }
-        Rule::SendsBoth => name_sent(alloc, table, k, arms, theirs, limit),
-        Rule::Guesses { peer } => name_owing(alloc, table, k, ActKind::Send, peer, theirs, limit),
-        Rule::Follows { peer } => name_owing(
-            alloc,
-            table,
-            k,
-            ActKind::Receive,
-            peer,
-            theirs,
-            limit,
-        ),
+        Rule::SendsBoth => {
+            let arms = arms_at(state);
+            let theirs = arms_at(there);
+            name_sent(alloc, table, k, arms, theirs, limit)
+        }
+        Rule::Guesses { peer } => {
+            let theirs = arms_at(there);
+            name_owing(alloc, table, k, ActKind::Send, peer, theirs, limit)
+        }
+        Rule::Follows { peer } => {
+            let theirs = arms_at(there);
+            name_owing(alloc, table, k, ActKind::Receive, peer, theirs, limit)
+        }
     }
 }
 
@@ -385,16 +387,16 @@ fn name_all(
     table: &mut SpotTable,
     k: usize,
     rule: Option<Rule>,
-    arms: &[Arm],
-    theirs: &[Arm],
+    state: &State,
+    there: &State,
     limit: usize,
 ) -> Result<Nexts, SearchStop>
     requires within { StandsWithin table.old.spots k limit }
-    requires once { BothHaveLabelsOnce arms.now theirs.now }
-    requires fits { (p : Spot) → slice_get table.old.spots k ≡ Some p → IfSome rule (λ r. RuleFits p.pending arms.now theirs.now r) }
-    ensures named { IfOk result (λ nexts. AreNamedAt (λ p. spots_by p arms.now theirs.now rule) table.old.spots k table.new.spots (numbers_of nexts)) }
+    requires once { BothHaveLabelsOnce (arms_at state.now) (arms_at there.now) }
+    requires fits { (p : Spot) → slice_get table.old.spots k ≡ Some p → IfSome rule (λ r. RuleFits p.pending (arms_at state.now) (arms_at there.now) r) }
+    ensures named { IfOk result (λ nexts. AreNamedAt (λ p. spots_by p (arms_at state.now) (arms_at there.now) rule) table.old.spots k table.new.spots (numbers_of nexts)) }
     ensures short { IfOk result (λ nexts. length (numbers_of nexts) ≤ 2 ^ 16) }
-    ensures grown { OnErr result (GrowsBy (λ p. spots_by p arms.now theirs.now rule) table.old.spots k table.new.spots) }
+    ensures grown { OnErr result (GrowsBy (λ p. spots_by p (arms_at state.now) (arms_at there.now) rule) table.old.spots k table.new.spots) }
     ensures limit { MatchResult result (λ _. length table.new.spots ≤ limit) (λ e. e ≡ TooLarge → limit < length table.new.spots) }
     ensures rows { table.new.rows ≡ table.old.rows }
 {
@@ -403,7 +405,7 @@ fn name_all(
             let none = NodeRow::new(alloc);
             Ok(Nexts::Several(none))
         }
-        Some(one) => name_by(alloc, table, k, one, arms, theirs, limit),
+        Some(one) => name_by(alloc, table, k, one, state, there, limit),
     }
 }
 
@@ -468,13 +470,13 @@ fn visit_next(
     found.table.spread(alloc, buckets)?;
     let k = found.table.known();
     let node = found.table.node(k);
-    let arms = arms_of_state(sub, node.state);
-    let theirs = arms_of_state(above, node.above);
-    let turn = turn_within(sub, above, bound, node, arms, theirs);
+    let state = state_of(sub, node.state);
+    let there = state_of(above, node.above);
+    let turn = turn_at(bound, node, state, there);
     found.anys.push(turn.any)?;
     found.keeps.push(turn.keeps)?;
     found.cut = either(found.cut, turn.cut);
-    let nexts = match name_all(alloc, &mut found.table, k, turn.rule, arms, theirs, limit) {
+    let nexts = match name_all(alloc, &mut found.table, k, turn.rule, state, there, limit) {
         Ok(nexts) => nexts,
         Err(fault) => return Err(fault),
     };

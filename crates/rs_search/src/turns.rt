@@ -1,5 +1,5 @@
 //! What a spot can do within the bound: choose one of some spots, or go on to all of them.
-ghost use Rattle.std.specs.Prelude.{◌≡◌, ◌<◌, ◌≤◌, ◌^◌, ◌==◌, ◌&&◌, ℕ, List, IfSome, length, not, Some, None, true, false};
+ghost use Rattle.std.specs.Prelude.{◌≡◌, ◌<◌, ◌≤◌, ◌^◌, ◌==◌, ◌&&◌, ℕ, List, IfSome, length, not, slice_get, Some, None, true, false};
 ghost use Rattle.rs_model.specs.declared.machines.Act.{Act};
 ghost use Rattle.rs_derive.specs.Targets.{target_spot};
 ghost use Rattle.rs_derive.specs.Due.{due_at, due_by};
@@ -9,7 +9,7 @@ ghost use Rattle.rs_prefix.specs.Earliest.{without};
 ghost use Rattle.rs_derive.specs.Derivations.{IsProper, spot_of};
 ghost use Rattle.rs_derive.specs.Within.{HasLabelsOnce, IsPlaceWithin};
 ghost use Rattle.rs_derive.specs.declared.targets.Change.{Change};
-ghost use Rattle.rs_search.specs.Turns.{arms_of_state, turn_with_cut, cuts, may_choose, owing_by, turn_by_code, turn_of, turn_within};
+ghost use Rattle.rs_search.specs.Turns.{turn_with_cut, cuts, may_choose, owing_by, turn_by_code, turn_of};
 
 use rs_derive::{Change, DNode, EdgeTarget, Rule, arms_at, rule_at};
 use rs_model::{Act, Arm, Machine, Role, State};
@@ -25,97 +25,66 @@ pub struct SpotMoves {
     pub rule: Option<Rule>,
 }
 
-/// What the spot can do within the bound, where these are the arms of the states at which it stands.
+/// What the spot can do within the bound, where the machine and its projection are in these states.
 #[inline(always)]
-pub fn turn_within(
-    sub: &Machine,
-    above: &Machine,
-    bound: u8,
-    p: &DNode,
-    arms: &[Arm],
-    theirs: &[Arm],
-) -> SpotMoves
-    requires state { p.now.state < length sub.now.states }
-    requires present { p.now.above < length above.now.states }
+pub fn turn_at(bound: u8, p: &DNode, state: &State, there: &State) -> SpotMoves
     requires short { length p.now.pending ≤ bound }
-    requires arms { arms.now ≡ arms_of_state sub.now p.now.state }
-    requires theirs { theirs.now ≡ arms_of_state above.now p.now.above }
-    ensures turn { turn_by_code (spot_of p.now) arms.now theirs.now result ≡ turn_within sub.now above.now bound (spot_of p.now) }
-    ensures fits { IfSome result.rule (λ rule. RuleFits p.now.pending arms.now theirs.now rule) }
-{
-    let state = &sub.states[p.state as usize];
-    let there = &above.states[p.above as usize];
-    turn_at(bound, p, state, there, arms, theirs)
-}
-
-#[inline(always)]
-fn turn_at(
-    bound: u8,
-    p: &DNode,
-    state: &State,
-    there: &State,
-    arms: &[Arm],
-    theirs: &[Arm],
-) -> SpotMoves
-    requires short { length p.now.pending ≤ bound }
-    requires arms { arms.now ≡ arms_at state.now }
-    requires theirs { theirs.now ≡ arms_at there.now }
-    ensures turn { turn_by_code (spot_of p.now) arms.now theirs.now result ≡ turn_with_cut bound (turn_of (due_at (spot_of p.now) (Some state.now) (Some there.now))) }
-    ensures fits { IfSome result.rule (λ rule. RuleFits p.now.pending arms.now theirs.now rule) }
+    ensures turn { turn_by_code (spot_of p.now) (arms_at state.now) (arms_at there.now) result ≡ turn_with_cut bound (turn_of (due_at (spot_of p.now) (Some state.now) (Some there.now))) }
+    ensures fits { IfSome result.rule (λ rule. RuleFits p.now.pending (arms_at state.now) (arms_at there.now) rule) }
 {
     match rule_at(&p.pending, state, there) {
         None => no_turn(false),
-        Some(rule) => rule_within(bound, p, rule, arms, theirs),
+        Some(rule) => rule_within(bound, p, rule, state, there),
     }
 }
 
 #[inline(always)]
-fn rule_within(bound: u8, p: &DNode, rule: Rule, arms: &[Arm], theirs: &[Arm]) -> SpotMoves
-    requires fits { RuleFits p.now.pending arms.now theirs.now rule }
+fn rule_within(bound: u8, p: &DNode, rule: Rule, state: &State, there: &State) -> SpotMoves
+    requires fits { RuleFits p.now.pending (arms_at state.now) (arms_at there.now) rule }
     requires short { length p.now.pending ≤ bound }
-    ensures turn { turn_by_code (spot_of p.now) arms.now theirs.now result ≡ turn_with_cut bound (turn_of (Some (due_by (spot_of p.now) arms.now theirs.now rule))) }
-    ensures fits { IfSome result.rule (λ rule. RuleFits p.now.pending arms.now theirs.now rule) }
+    ensures turn { turn_by_code (spot_of p.now) (arms_at state.now) (arms_at there.now) result ≡ turn_with_cut bound (turn_of (Some (due_by (spot_of p.now) (arms_at state.now) (arms_at there.now) rule))) }
+    ensures fits { IfSome result.rule (λ rule. RuleFits p.now.pending (arms_at state.now) (arms_at there.now) rule) }
 {
-    if is_cut(bound, &p.pending, theirs, rule) {
+    if is_cut(bound, &p.pending, there, rule) {
         return no_turn(true);
     }
     SpotMoves {
         cut: false,
-        any: may_choose(arms, theirs, rule),
+        any: may_choose(state, there, rule),
         keeps: rule.keeps_head(&p.pending),
         rule: Some(rule),
     }
 }
 
-/// The arms of a state of the machine.
+/// The state of the machine with the number.
 #[inline(always)]
-pub fn arms_of_state(machine: &Machine, state: u32) -> &[Arm]
+pub fn state_of(machine: &Machine, state: u32) -> &State
     requires proper { IsProper machine.now }
     requires state { state < length machine.now.states }
-    ensures arms { result.now ≡ arms_of_state machine.now state }
-    ensures once { HasLabelsOnce result.now }
+    ensures state { slice_get machine.now.states state ≡ Some result.now }
+    ensures once { HasLabelsOnce (arms_at result.now) }
 {
-    arms_at(&machine.states[state as usize])
+    &machine.states[state as usize]
 }
 
 // Whether the spot owes as much as the bound allows, and would owe more.
 #[inline(always)]
-fn is_cut(bound: u8, pending: &Pending, theirs: &[Arm], rule: Rule) -> bool
-    ensures { result ≡ cuts bound pending.now theirs.now rule }
+fn is_cut(bound: u8, pending: &Pending, there: &State, rule: Rule) -> bool
+    ensures { result ≡ cuts bound pending.now (arms_at there.now) rule }
 {
-    rule.pushes() && pending.as_slice().len() >= bound as usize && !theirs.is_empty()
+    rule.pushes() && pending.as_slice().len() >= bound as usize && !arms_at(there).is_empty()
 }
 
 // Whether one next is due, and may be any of the spots.
 #[inline(always)]
-fn may_choose(arms: &[Arm], theirs: &[Arm], rule: Rule) -> bool
-    ensures { result ≡ may_choose arms.now theirs.now rule }
+fn may_choose(state: &State, there: &State, rule: Rule) -> bool
+    ensures { result ≡ may_choose (arms_at state.now) (arms_at there.now) rule }
 {
     match rule {
         Rule::Stops => false,
         Rule::Pays { .. } | Rule::Guesses { .. } => true,
-        Rule::SendsBoth => arms.len() == 1,
-        Rule::Follows { .. } => theirs.len() == 1,
+        Rule::SendsBoth => arms_at(state).len() == 1,
+        Rule::Follows { .. } => arms_at(there).len() == 1,
     }
 }
 
