@@ -197,12 +197,42 @@ fn pending_behind(alloc: Global, pending: &Pending, change: Change) -> Result<Pe
     }
 }
 
+// Whether nothing is owed behind a change.
+#[inline(always)]
+fn owes_nothing(pending: &Pending, change: Change) -> bool
+    requires { IsPlaceWithin (length pending.now) change }
+    ensures { result ≡ true → owed_behind pending.now change ≡ [] }
+{
+    match change {
+        Change::Same => pending.as_slice().is_empty(),
+        Change::With(_) => false,
+        Change::Without(_) => pending.as_slice().len() == 1,
+    }
+}
+
+// The node at the states of the target, with nothing owed; it takes no memory.
+#[inline(always)]
+fn free_node(alloc: Global, target: EdgeTarget) -> DNode
+    ensures { spot_of result ≡ spot target.state [] target.above }
+{
+    DNode {
+        state: target.state,
+        pending: Pending::new(alloc),
+        above: target.above,
+        rank: 0,
+        next: NodeRow::new(alloc),
+    }
+}
+
 // The node at the spot of the target, without rank and nexts.
 #[inline(always)]
 fn node_at(alloc: Global, pending: &Pending, target: EdgeTarget) -> Result<DNode, NoMemory>
     requires { IsPlaceWithin (length pending.now) target.change }
     ensures spot { IfOk result (λ node. spot_of node ≡ target_spot pending.now target) }
 {
+    if owes_nothing(pending, target.change) {
+        return Ok(free_node(alloc, target));
+    }
     Ok(DNode {
         state: target.state,
         pending: pending_behind(alloc, pending, target.change)?,
