@@ -8,6 +8,7 @@ pub mod FourSteps
 pub mod Seats
 pub mod StepsAsked
 pub mod PassRows
+pub mod ByLabel
 pub mod ByPlace
 pub mod Over
 pub mod LeftOver

@@ -7,6 +7,7 @@ use Rattle.rs_model.specs.declared.graph.Arm.{Arm}
 use Rattle.rs_model.specs.declared.graph.Role.{Role}
 use Rattle.rs_model.specs.declared.machines.State.TheVariants.{Puts, Takes}
 use Rattle.rs_model.specs.declared.values.Value.{Value}
+use Rattle.rs_core.specs.Choosable.{label_of}
 use Rattle.rs_core.specs.Configurations.{state_of}
 use Rattle.rs_slots.specs.declared.parcels.Parcel.{Parcel}
 use Rattle.rs_rings.specs.Acts.{sent_act, got_act, parcels_sent, parcels_got, Happened, HadTaken, HadPut, MayPut, MayTake}
@@ -15,6 +16,8 @@ use Rattle.rs_rings.specs.declared.answers.Put.{Put}
 use Rattle.rs_rings.specs.declared.answers.Put.TheVariants.{Done, Full}
 use Rattle.rs_rings.specs.declared.answers.Got.{Got}
 use Rattle.rs_rings.specs.declared.answers.Got.TheVariants.{One, Empty}
+use Rattle.rs_rings.specs.declared.answers.GotOn.{GotOn}
+use Rattle.rs_rings.specs.declared.answers.GotOn.TheVariants as got_on
 use Rattle.rs_rings.specs.declared.views.Part.{Part}
 use Rattle.rs_rings.specs.declared.views.View.{View}
 
@@ -127,3 +130,8 @@ pub record IsEmpty (machines : List Machine_data) (q p seen : ℕ) (v w : View) 
 abbrev pub TakeTells : List Machine_data → ℕ → ℕ → ℕ → View → View → Got → Type 0
 TakeTells machines capacity q p v w (One x) = ParcelIsTaken machines capacity q p x v w
 TakeTells machines capacity q p v w (Empty seen) = IsEmpty machines q p seen v w
+
+-- what a look of q, at a state with these arms, tells: what a look does, and at which place the arm with the parcel's label is
+abbrev pub TakeByTells : List Machine_data → ℕ → ℕ → ℕ → List Arm → View → View → GotOn → Type 0
+TakeByTells machines capacity q p arms v w (got_on.One place x) = ParcelIsTaken machines capacity q p x v w × (label_of (slice_get arms place) ≡ Some x.label)
+TakeByTells machines capacity q p arms v w (got_on.Empty seen) = IsEmpty machines q p seen v w

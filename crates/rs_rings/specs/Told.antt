@@ -5,6 +5,7 @@ use Rattle.rs_model.specs.Data.{Machine_data}
 use Rattle.rs_model.specs.declared.graph.Arm.{Arm}
 use Rattle.rs_model.specs.declared.machines.State.{State}
 use Rattle.rs_model.specs.declared.machines.State.TheVariants.{Done, Puts, Takes}
+use Rattle.rs_core.specs.Choosable.{label_of}
 use Rattle.rs_core.specs.Configurations.{Configuration, state_of}
 use Rattle.rs_core.specs.Histories.{IsLegal}
 use Rattle.rs_core.specs.Safety.{AllEnded}
@@ -59,14 +60,15 @@ HasLooked machines capacity arms p q k got a v m (Found n x) =
     (got ≢ n) × (last_found p a.tails ≤ n) × HasFittingArm arms x × (m ≡ (view_with_part q (taking p x n a) v, (k, None) ∷ [])) × KnowsSent v p q n × KnowsOldest v p q x
     × HadPut machines q a.history p n × (got < n) × (n ≤ got + capacity)
 
--- the whole take
-abbrev pub HasTaken : List Machine_data → ℕ → ℕ → ℕ → ℕ → Part → View → Me (Option Parcel) View → Took → Type 0
-HasTaken machines capacity p q got a v m (took.Nothing n) =
+-- the whole take, by a receiver at a state with these arms
+abbrev pub HasTaken : List Machine_data → ℕ → List Arm → ℕ → ℕ → ℕ → Part → View → Me (Option Parcel) View → Took → Type 0
+HasTaken machines capacity arms p q got a v m (took.Nothing n) =
     (n ≡ got) × (last_found p a.tails ≤ n) × IsAfter q (part_with_parcel p n a) v m × KnowsSent v p q n × HadPut machines q a.history p n
-HasTaken machines capacity p q got a v m (took.One x next) =
+HasTaken machines capacity arms p q got a v m (took.One x place next) =
     (n : ℕ) × (got ≢ n) × (last_found p a.tails ≤ n) × MayTake machines q p a.state x next × Happened machines q a.history (got_act p x)
     × ((l : ℕ) × IsAfter q (getting p x next l (taking p x n a)) v m)
     × KnowsSent v p q n × KnowsOldest v p q x × HadPut machines q a.history p n × (got < n) × (n ≤ got + capacity)
+    × (label_of (slice_get arms place) ≡ Some x.label)
 
 -- q got the parcel from p, as the last step of a take, and the seat knows it
 pub record HasGiven (machines : List Machine_data) (q p : ℕ) (x : Parcel) (next : ℕ) (v : View) (m : Me (Option Parcel) View) : Type 0 where

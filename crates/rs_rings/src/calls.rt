@@ -1,19 +1,21 @@
 //! Puts and takes by a seat and the rows beside it. A run spends its time in them, so they are compiled into their callers,
 //! with the calls above and below them.
-ghost use Rattle.std.specs.Prelude.{◌≡◌};
+ghost use Rattle.std.specs.Prelude.{◌≡◌, Some, slice_get};
 ghost use Rattle.rs_core.specs.Choices.{AreWellFormed};
+ghost use Rattle.rs_core.specs.Configurations.{state_of};
+ghost use Rattle.rs_model.specs.declared.machines.State.TheVariants.{Takes};
 ghost use Rattle.rs_slots.specs.Places.{IsPair};
 ghost use Rattle.rs_rings.specs.Acts.{MayPut, parcels_sent};
 ghost use Rattle.rs_rings.specs.Asked.{IsCountOf, MayAct};
-ghost use Rattle.rs_rings.specs.Passes.{CanPut, CanPutOn, CanTake, PutOnTells, PutTells, TakeTells};
+ghost use Rattle.rs_rings.specs.Passes.{CanPut, CanPutOn, CanTake, PutOnTells, PutTells, TakeByTells, TakeTells};
 ghost use Rattle.rs_rings.specs.Rows.{IsBetweenCalls};
 ghost use Rattle.rs_rings.specs.Rule.{machines_in_key};
 ghost use Rattle.rs_rings.specs.Views.{the_part};
 
-use crate::answers::{Got, Put, Took};
+use crate::answers::{Got, GotOn, Put, Took};
 use crate::rows::Rows;
 use crate::tables::{RingSeat, RingTable, next_of};
-use rs_model::{Role, Value};
+use rs_model::{Arm, Role, Value};
 use rs_slots::Parcel;
 
 impl RingTable {
@@ -105,6 +107,29 @@ impl RingTable {
         }
     }
 
+    // A put into the next state, which the caller knows.
+    #[inline(always)]
+    pub fn put_next(
+        &self,
+        seat: &mut RingSeat,
+        rows: &mut Rows,
+        sender: Role,
+        receiver: Role,
+        parcel: Parcel,
+        next: u32,
+    ) -> Put
+        requires table { seat.old.table_id ≡ self.now.board.shared.table_id }
+        requires well_formed { AreWellFormed (machines_in_key self.now.board.shared.key) }
+        requires may { MayAct sender.0 seat.old.me rows.old.items }
+        requires can { MayPut (machines_in_key self.now.board.shared.key) sender.0 receiver.0 (the_part sender.0 seat.old.me.0.parts).state parcel next }
+        ensures table { seat.new.table_id ≡ seat.old.table_id }
+        ensures kept { IsBetweenCalls seat.new.me rows.new.items }
+        ensures told { PutTells (machines_in_key self.now.board.shared.key) self.now.layout.capacity sender.0 receiver.0 parcel seat.old.me.0 seat.new.me.0 result }
+    {
+        let counts = rows.counts(sender, receiver);
+        self.put_by(seat, rows, sender, receiver, counts.sent, parcel, next)
+    }
+
     #[inline(always)]
     pub fn take(&self, seat: &mut RingSeat, rows: &mut Rows, receiver: Role, sender: Role) -> Got
         requires table { seat.old.table_id ≡ self.now.board.shared.table_id }
@@ -115,13 +140,43 @@ impl RingTable {
         ensures kept { IsBetweenCalls seat.new.me rows.new.items }
         ensures told { TakeTells (machines_in_key self.now.board.shared.key) self.now.layout.capacity receiver.0 sender.0 seat.old.me.0 seat.new.me.0 result }
     {
+        let state = rows.state(receiver);
+        let arms = self.arms_of(receiver, state);
+        match self.take_by(seat, rows, receiver, sender, arms) {
+            GotOn::One { place: _, parcel } => Got::One(parcel),
+            GotOn::Empty { seen } => Got::Empty { seen },
+        }
+    }
+
+    // A take by a receiver at a state with these arms.
+    #[inline(always)]
+    pub fn take_by(
+        &self,
+        seat: &mut RingSeat,
+        rows: &mut Rows,
+        receiver: Role,
+        sender: Role,
+        arms: &[Arm],
+    ) -> GotOn
+        requires table { seat.old.table_id ≡ self.now.board.shared.table_id }
+        requires well_formed { AreWellFormed (machines_in_key self.now.board.shared.key) }
+        requires may { MayAct receiver.0 seat.old.me rows.old.items }
+        requires stands { state_of (slice_get (machines_in_key self.now.board.shared.key) receiver.0) (the_part receiver.0 seat.old.me.0.parts).state ≡ Some (Takes sender arms.now) }
+        ensures table { seat.new.table_id ≡ seat.old.table_id }
+        ensures kept { IsBetweenCalls seat.new.me rows.new.items }
+        ensures told { TakeByTells (machines_in_key self.now.board.shared.key) self.now.layout.capacity receiver.0 sender.0 arms.now seat.old.me.0 seat.new.me.0 result }
+    {
         let counts = rows.counts(receiver, sender);
-        match self.look_take(seat, receiver, sender, counts.state, counts.got) {
-            Took::One { parcel, next } => {
+        match self.look_take(seat, receiver, sender, counts.got, arms) {
+            Took::One {
+                parcel,
+                place,
+                next,
+            } => {
                 rows.note_got(receiver, sender, counts.got + 1, next);
-                Got::One(parcel)
+                GotOn::One { place, parcel }
             }
-            Took::Nothing { seen } => Got::Empty { seen },
+            Took::Nothing { seen } => GotOn::Empty { seen },
         }
     }
 }

@@ -14,7 +14,7 @@ mod rows;
 mod tables;
 mod views;
 
-pub use answers::{Got, Put};
+pub use answers::{Got, GotOn, Put};
 pub use closed::Closed;
 pub use loose::Loose;
 pub use passes::Pass;

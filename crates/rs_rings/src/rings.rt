@@ -5,19 +5,20 @@ ghost use Rattle.rs_model.specs.Limits.{IsCapacity};
 ghost use Rattle.rs_core.specs.Choices.{AreWellFormed};
 ghost use Rattle.rs_core.specs.Configurations.{state_of};
 ghost use Rattle.rs_core.specs.Safety.{IsSafe};
-ghost use Rattle.rs_model.specs.declared.machines.State.TheVariants.{Done};
+ghost use Rattle.rs_model.specs.declared.machines.State.TheVariants.{Done, Takes};
 ghost use Rattle.rs_slots.specs.Places.{ring_count};
+ghost use Rattle.rs_rings.specs.Acts.{MayPut};
 ghost use Rattle.rs_rings.specs.Closed.{IsLeft, IsOver, loose_in};
-ghost use Rattle.rs_rings.specs.Passes.{CanPut, CanPutOn, CanTake, PutOnTells, PutTells, TakeTells};
+ghost use Rattle.rs_rings.specs.Passes.{CanPut, CanPutOn, CanTake, PutOnTells, PutTells, TakeByTells, TakeTells};
 ghost use Rattle.rs_rings.specs.Views.{SpeaksFor, state_in, history_in, starting, view_without_role, alone, joint_view};
 
-use crate::answers::{Got, Put};
+use crate::answers::{Got, GotOn, Put};
 use crate::closed::Closed;
 use crate::loose::Loose;
 use crate::passes::Pass;
 use crate::rows::Rows;
 use crate::tables::RingTable;
-use rs_model::{Machine, NoMemory, Role, Value, copies_of};
+use rs_model::{Arm, Machine, NoMemory, Role, Value, copies_of};
 use rs_slots::Parcel;
 use std::alloc::Global;
 use std::marker::Model;
@@ -129,6 +130,35 @@ impl Rings {
             .put_on(&mut pass.seat, &mut pass.rows, sender, place, value)
     }
 
+    /// Puts the parcel into the ring from `sender` to `receiver`, by an arm that leads to the state `next`.
+    ///
+    /// The outcome is that of [`Rings::put`]. Nothing is looked up.
+    #[inline(always)]
+    pub fn put_next(
+        &self,
+        pass: &mut Pass,
+        sender: Role,
+        receiver: Role,
+        parcel: Parcel,
+        next: u32,
+    ) -> Put
+        requires table { pass.old.table ≡ self.now.table }
+        requires speaks { SpeaksFor pass.old.view sender.0 }
+        requires can { MayPut self.now.machines sender.0 receiver.0 (state_in pass.old.view sender.0) parcel next }
+        requires acts { length (history_in pass.old.view sender.0) < 2 ^ 63 }
+        ensures table { pass.new.table ≡ pass.old.table }
+        ensures told { PutTells self.now.machines self.now.capacity sender.0 receiver.0 parcel pass.old.view pass.new.view result }
+    {
+        self.inner.put_next(
+            &mut pass.seat,
+            &mut pass.rows,
+            sender,
+            receiver,
+            parcel,
+            next,
+        )
+    }
+
     /// Takes the oldest parcel out of the ring from `sender` to `receiver`.
     ///
     /// It loads the ring's tail word, once. Where a parcel is there it empties its slot, stores the head word, and answers
@@ -145,6 +175,23 @@ impl Rings {
     {
         self.inner
             .take(&mut pass.seat, &mut pass.rows, receiver, sender)
+    }
+
+    /// Takes the oldest parcel out of the ring from `sender` to `receiver`, which stands at a state with these arms.
+    ///
+    /// The outcome is that of [`Rings::look_take`], and of a parcel it tells the place of the arm with its label. The state
+    /// isn't looked up.
+    #[inline(always)]
+    pub fn take_by(&self, pass: &mut Pass, receiver: Role, sender: Role, arms: &[Arm]) -> GotOn
+        requires table { pass.old.table ≡ self.now.table }
+        requires speaks { SpeaksFor pass.old.view receiver.0 }
+        requires stands { state_of (slice_get self.now.machines receiver.0) (state_in pass.old.view receiver.0) ≡ Some (Takes sender arms.now) }
+        requires acts { length (history_in pass.old.view receiver.0) < 2 ^ 63 }
+        ensures table { pass.new.table ≡ pass.old.table }
+        ensures told { TakeByTells self.now.machines self.now.capacity receiver.0 sender.0 arms.now pass.old.view pass.new.view result }
+    {
+        self.inner
+            .take_by(&mut pass.seat, &mut pass.rows, receiver, sender, arms)
     }
 
     /// Ends a session in which all roles have ended. Every ring is empty.

@@ -94,6 +94,7 @@ impl Rows {
     }
 
     /// The role's state, and how much it has sent to the peer and got from it.
+    #[inline(always)]
     pub fn counts(&self, role: Role, peer: Role) -> Counts
         requires present { (role.0 < MOST_ROLES) × (peer.0 < MOST_ROLES) }
         requires row { (r : Row) × (row_at self.now.items role.0 ≡ Some r) }
@@ -110,6 +111,7 @@ impl Rows {
     }
 
     /// Notes that the role has sent to the peer, and its next state.
+    #[inline(always)]
     pub fn note_sent(&mut self, role: Role, peer: Role, sent: u64, next: u32)
         requires present { (role.0 < MOST_ROLES) × (peer.0 < MOST_ROLES) }
         ensures { (i : ℕ) → row_at self.new.items i ≡ (if i == role.0 then with_sent_count peer.0 sent next (row_at self.old.items i) else row_at self.old.items i) }
@@ -121,6 +123,7 @@ impl Rows {
     }
 
     /// Notes that the role has got from the peer, and its next state.
+    #[inline(always)]
     pub fn note_got(&mut self, role: Role, peer: Role, got: u64, next: u32)
         requires present { (role.0 < MOST_ROLES) × (peer.0 < MOST_ROLES) }
         ensures { (i : ℕ) → row_at self.new.items i ≡ (if i == role.0 then with_got_count peer.0 got next (row_at self.old.items i) else row_at self.old.items i) }

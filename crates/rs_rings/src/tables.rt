@@ -17,7 +17,7 @@ ghost use Rattle.rs_rings.specs.Passes.{PutsTo};
 ghost use Rattle.rs_rings.specs.Places.{head_word_of, tail_of, slot_place};
 ghost use Rattle.rs_rings.specs.Rows.{IsBetweenCalls};
 ghost use Rattle.rs_rings.specs.Rule.{machines_in_key, first_view};
-ghost use Rattle.rs_rings.specs.Told.{arms_in_state, TakesFrom, IsLegalEnd, HasGiven, HasPut, HasLooked, HasTaken};
+ghost use Rattle.rs_rings.specs.Told.{arms_in_state, IsLegalEnd, HasGiven, HasPut, HasLooked, HasTaken};
 ghost use Rattle.rs_rings.specs.Views.{the_part, speaks, view_without_role, alone, joint_view};
 
 use crate::answers::{Looked, Put, Took};
@@ -31,6 +31,7 @@ use crate::plays::{
 use crate::rows::Rows;
 use crate::views::{Key, View};
 use atomic_table::{Perch, Seat, Table};
+use rs_core::place_by_label;
 use rs_model::{Arm, Label, Machine, NoMemory, Role, State};
 use rs_slots::{Layout, Parcel};
 use std::alloc::Global;
@@ -93,6 +94,7 @@ impl RingTable {
         ))
     }
 
+    #[inline(always)]
     fn head_word(&self, sender: Role, receiver: Role) -> usize
         requires pair { IsPair self.now.layout.roles sender.0 receiver.0 }
         ensures value { result ≡ head_word_of self.now.layout.roles sender.0 receiver.0 }
@@ -101,6 +103,7 @@ impl RingTable {
         self.layout.head_word(self.layout.ring(sender, receiver))
     }
 
+    #[inline(always)]
     fn tail_word(&self, sender: Role, receiver: Role) -> usize
         requires pair { IsPair self.now.layout.roles sender.0 receiver.0 }
         ensures value { result ≡ tail_of self.now.layout.roles sender.0 receiver.0 }
@@ -109,6 +112,7 @@ impl RingTable {
         self.layout.tail_word(self.layout.ring(sender, receiver))
     }
 
+    #[inline(always)]
     fn slot(&self, sender: Role, receiver: Role, count: u64) -> usize
         requires pair { IsPair self.now.layout.roles sender.0 receiver.0 }
         ensures value { result ≡ slot_place self.now.layout.roles self.now.layout.capacity sender.0 receiver.0 count }
@@ -382,25 +386,30 @@ impl RingTable {
         seat: &mut RingSeat,
         receiver: Role,
         sender: Role,
-        state: u32,
         got: u64,
+        arms: &[Arm],
     ) -> Took
         requires table { seat.old.table_id ≡ self.now.board.shared.table_id }
         requires pair { IsPair self.now.layout.roles sender.0 receiver.0 }
         requires idle { IsIdleAt receiver.0 seat.old.me }
-        requires state { (state ≡ (the_part receiver.0 seat.old.me.0.parts).state) × TakesFrom (state_of (slice_get (machines_in_key self.now.board.shared.key) receiver.0) state) sender.0 }
+        requires well_formed { AreWellFormed (machines_in_key self.now.board.shared.key) }
+        requires stands { state_of (slice_get (machines_in_key self.now.board.shared.key) receiver.0) (the_part receiver.0 seat.old.me.0.parts).state ≡ Some (Takes sender arms.now) }
         requires got { IsCountOf got (parcels_got sender.0 (the_part receiver.0 seat.old.me.0.parts).history) }
         ensures table { seat.new.table_id ≡ seat.old.table_id }
-        ensures taken { HasTaken (machines_in_key self.now.board.shared.key) self.now.layout.capacity sender.0 receiver.0 got (the_part receiver.0 seat.old.me.0.parts)
+        ensures taken { HasTaken (machines_in_key self.now.board.shared.key) self.now.layout.capacity arms.now sender.0 receiver.0 got (the_part receiver.0 seat.old.me.0.parts)
             seat.old.me.0 seat.new.me result }
     {
-        let arms = self.arms_of(receiver, state);
         match self.look(seat, receiver, sender, got, arms) {
             Looked::Nothing { seen } => Took::Nothing { seen },
             Looked::Found { seen: _, parcel } => {
-                let next = next_of(arms, parcel.label);
+                let place = place_by_label(arms, parcel.label);
+                let next = arms[place as usize].next;
                 self.give(seat, receiver, sender, got, &parcel, next);
-                Took::One { parcel, next }
+                Took::One {
+                    parcel,
+                    place,
+                    next,
+                }
             }
         }
     }
@@ -417,6 +426,7 @@ impl RingTable {
         }
     }
 
+    #[inline(always)]
     pub fn arms_of(&self, role: Role, state: u32) -> &[Arm]
         requires { IsSome (state_of (slice_get (machines_in_key self.now.board.shared.key) role.0) state) }
         ensures { IfSome (state_of (slice_get (machines_in_key self.now.board.shared.key) role.0) state) (λ s. result.now ≡ arms_in_state s) }

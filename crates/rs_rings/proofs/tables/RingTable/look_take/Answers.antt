@@ -1,4 +1,4 @@
-use Rattle.std.proofs.Common.{◌≡◌, ℕ, List, length, slice_get, Some, sym, ap, ◌∙◌, subst}
+use Rattle.std.proofs.Common.{◌≡◌, ℕ, List, length, slice_index_or, sym, ap, ◌∙◌, subst}
 use Rattle.rs_rings.specs.declared.views.Part.{Part}
 use Rattle.rs_model.specs.declared.graph.Arm.{Arm}
 use Rattle.rs_model.specs.declared.machines.State.TheVariants.{Takes}
@@ -9,8 +9,22 @@ use Rattle.rs_rings.specs.Told.{IsAfter}
 use Rattle.rs_rings.specs.Views.{the_part, speaks, taking, getting}
 use Rattle.rs_core.specs.Configurations.{state_of}
 use Rattle.rs_rings.proofs.Parts.{the_role, speaks_put, the_put_here}
-use Rattle.rs_rings.proofs.StepsAsked.{stands_from, may_take, after_twice}
+use Rattle.rs_rings.proofs.ByLabel.{in_range, may_take_by, some_place, takes_once}
+use Rattle.rs_rings.proofs.StepsAsked.{after_twice}
 use Rattle.rs_rings.proofs.tables.RingTable.look_take.Goals as goal
+
+pub place_by_label-place-requires-clause-once : goal.place_by_label-place-requires-clause-once
+place_by_label-place-requires-clause-once c =
+    takes_once (machines_in_key c.args.self.now.board.shared.key) c.args.receiver.0 (the_part c.args.receiver.0 c.args.seat.now.me.0.parts).state c.args.sender c.args.arms.now
+    c.requires.well_formed c.requires.stands
+
+pub place_by_label-place-requires-clause-some : goal.place_by_label-place-requires-clause-some
+place_by_label-place-requires-clause-some c = some_place c.args.arms.now c.in-Found.parcel c.in-Found.ensures.looked.2
+
+pub bounds-arms-place : goal.bounds-arms-place
+bounds-arms-place c =
+    in_range (machines_in_key c.args.self.now.board.shared.key) c.args.receiver.0 (the_part c.args.receiver.0 c.args.seat.now.me.0.parts).state c.args.sender c.args.arms.now
+    c.requires.well_formed c.requires.stands c.in-Found.parcel c.in-Found.ensures.looked.2 c.place_by_label-place.result c.place_by_label-place.ensures
 
 pub give-requires-clause-middle : goal.give-requires-clause-middle
 give-requires-clause-middle c =
@@ -41,11 +55,10 @@ give-requires-clause-may c =
     let u = c.look.new.seat.me in
     let role = the_role q v.parts c.requires.idle.speaks_for in
     let here : the_part q u.0.parts ≡ y = ap (λ m. the_part q m.0.parts) told.3 ∙ the_put_here q y v.parts role c.requires.idle.speaks_for in
-    let arms : List Arm = c.arms_of-arms.result.now in
-    let st : state_of (slice_get ms q) a.state ≡ Some (Takes (role_of_number p) arms)
-    = ap (λ (s : ℕ). state_of (slice_get ms q) s) (sym c.requires.state.0) ∙ stands_from (state_of (slice_get ms q) c.args.state) p arms c.requires.state.1 c.arms_of-arms.ensures in
-    let may : MayTake ms q p a.state c.in-Found.parcel c.next_of-next.result = may_take ms p q a.state c.in-Found.parcel c.next_of-next.result arms st told.2 c.next_of-next.ensures in
-    subst (λ (z : Part). MayTake ms q p z.state c.in-Found.parcel c.next_of-next.result) (sym here) may
+    let next : ℕ = (slice_index_or c.args.arms.now c.place_by_label-place.result _).next in
+    let may : MayTake ms q p a.state c.in-Found.parcel next
+    = may_take_by ms q a.state c.args.sender c.args.arms.now c.requires.well_formed c.requires.stands c.in-Found.parcel told.2 c.place_by_label-place.result c.place_by_label-place.ensures _ in
+    subst (λ (z : Part). MayTake ms q p z.state c.in-Found.parcel next) (sym here) may
 
 pub give-requires-clause-got : goal.give-requires-clause-got
 give-requires-clause-got c =
@@ -72,10 +85,9 @@ returns-in-Found-clause-taken c =
     let u = c.look.new.seat.me in
     let role = the_role q v.parts c.requires.idle.speaks_for in
     let here : the_part q u.0.parts ≡ y = ap (λ m. the_part q m.0.parts) told.3 ∙ the_put_here q y v.parts role c.requires.idle.speaks_for in
-    let arms : List Arm = c.arms_of-arms.result.now in
-    let st : state_of (slice_get ms q) a.state ≡ Some (Takes (role_of_number p) arms)
-    = ap (λ (s : ℕ). state_of (slice_get ms q) s) (sym c.requires.state.0) ∙ stands_from (state_of (slice_get ms q) c.args.state) p arms c.requires.state.1 c.arms_of-arms.ensures in
-    let may : MayTake ms q p a.state c.in-Found.parcel c.next_of-next.result = may_take ms p q a.state c.in-Found.parcel c.next_of-next.result arms st told.2 c.next_of-next.ensures in (
+    let next : ℕ = (slice_index_or c.args.arms.now c.place_by_label-place.result _).next in
+    let may : MayTake ms q p a.state c.in-Found.parcel next
+    = may_take_by ms q a.state c.args.sender c.args.arms.now c.requires.well_formed c.requires.stands c.in-Found.parcel told.2 c.place_by_label-place.result c.place_by_label-place.ensures _ in (
       c.in-Found.seen,
       told.0,
       told.1,
@@ -83,12 +95,13 @@ returns-in-Found-clause-taken c =
       subst (λ (z : Part). Happened ms q z.history (got_act p c.in-Found.parcel)) here c.give.ensures.given.happened,
       (
         c.give.ensures.given.loads,
-        after_twice q y (getting p c.in-Found.parcel c.next_of-next.result c.give.ensures.given.loads y) v u.0 c.give.new.seat.me c.requires.idle.speaks_for role (ap (λ m. m.0) told.3)
-            (subst (λ (z : Part). IsAfter q (getting p c.in-Found.parcel c.next_of-next.result c.give.ensures.given.loads z) u.0 c.give.new.seat.me) here c.give.ensures.given.after),
+        after_twice q y (getting p c.in-Found.parcel next c.give.ensures.given.loads y) v u.0 c.give.new.seat.me c.requires.idle.speaks_for role (ap (λ m. m.0) told.3)
+            (subst (λ (z : Part). IsAfter q (getting p c.in-Found.parcel next c.give.ensures.given.loads z) u.0 c.give.new.seat.me) here c.give.ensures.given.after),
       ),
       told.4,
       told.5,
       told.6,
       told.7,
       told.8,
+      c.place_by_label-place.ensures,
     )
