@@ -1,13 +1,10 @@
 use Rattle.std.proofs.Common.{◌≡◌, ℕ, List, length, slice_index_or, sym, ap, ◌∙◌, subst}
 use Rattle.rs_rings.specs.declared.views.Part.{Part}
-use Rattle.rs_model.specs.declared.graph.Arm.{Arm}
-use Rattle.rs_model.specs.declared.machines.State.TheVariants.{Takes}
 use Rattle.rs_model.specs.Data.{Machine_data}
-use Rattle.rs_rings.specs.Acts.{parcels_got, MayTake, Happened, role_of_number, got_act}
+use Rattle.rs_rings.specs.Acts.{parcels_got, MayTake, Happened, got_act}
 use Rattle.rs_rings.specs.Rule.{machines_in_key}
 use Rattle.rs_rings.specs.Told.{IsAfter}
 use Rattle.rs_rings.specs.Views.{the_part, speaks, taking, getting}
-use Rattle.rs_core.specs.Configurations.{state_of}
 use Rattle.rs_rings.proofs.Parts.{the_role, speaks_put, the_put_here}
 use Rattle.rs_rings.proofs.ByLabel.{in_range, may_take_by, some_place, takes_once}
 use Rattle.rs_rings.proofs.StepsAsked.{after_twice}

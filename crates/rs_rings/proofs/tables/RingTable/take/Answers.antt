@@ -1,6 +1,5 @@
-use Rattle.std.proofs.Common.{◌≡◌, ℕ, List, Some, slice_get, sym, ap, ◌∙◌}
+use Rattle.std.proofs.Common.{ℕ, List, slice_get, sym, ap, ◌∙◌}
 use Rattle.rs_model.specs.Data.{Machine_data}
-use Rattle.rs_model.specs.declared.machines.State.TheVariants.{Takes}
 use Rattle.rs_core.specs.Configurations.{state_of}
 use Rattle.rs_rings.specs.Rule.{machines_in_key}
 use Rattle.rs_rings.proofs.ByLabel.{arms_read, takes_some}
