@@ -47,12 +47,12 @@ fn starts_by(
     requires { All (λ t. t < length protocol.now.nodes) talks.now }
     ensures { IfOk result (λ found. IfSome found (λ v. AreLedBy protocol.now talks.now v.items (choice_of arm))) }
 {
-    let mut starts = SmallVec::new(alloc);
+    let mut starts = SmallVec::with_capacity(alloc, talks.len())?;
     for talk in talks {
         let Some(other) = arm_with(&protocol.nodes[*talk as usize], arm.label) else {
             return Ok(None);
         };
-        starts.push(other.next)?;
+        starts.push_reserved(other.next);
     }
     Ok(Some(starts))
 }

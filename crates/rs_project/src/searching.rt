@@ -91,10 +91,13 @@ impl<'a> Search<'a> {
         ensures err { IfErr result (λ e. FaultFrom self.old.survey.protocol self.old.survey.role self.old.fronts starts.now e) }
     {
         let survey = self.survey;
+        if let Some(front) = straight_front(alloc, survey, starts) {
+            return number_of(survey.role, &mut self.fronts, front);
+        }
         if let Some(end) = one_end(survey, starts) {
             return self.find_from(alloc, end);
         }
-        let front = front_of_many(alloc, survey, &mut self.marks, starts)?;
+        let front = marked_front(alloc, survey, &mut self.marks, starts)?;
         number_of(survey.role, &mut self.fronts, front)
     }
 
@@ -151,22 +154,6 @@ fn one_end(survey: &Survey, starts: &[u32]) -> Option<u32>
         }
     }
     Some(end)
-}
-
-// What the role meets first from starts whose runs end at different nodes.
-fn front_of_many(
-    alloc: Global,
-    survey: &Survey,
-    marks: &mut Marks,
-    starts: &[u32],
-) -> Result<Front, NoMemory>
-    requires starts { All (λ s. s < length survey.now.protocol.nodes) starts.now }
-    ensures { IfOk result (λ f. IsFrontFrom survey.now.protocol survey.now.role starts.now f) }
-{
-    if let Some(front) = straight_front(alloc, survey, starts)? {
-        return Ok(front);
-    }
-    marked_front(alloc, survey, marks, starts)
 }
 
 // The number of the front of this talk alone, which is added where it is new.

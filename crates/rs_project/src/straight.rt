@@ -1,5 +1,5 @@
 //! Runs: nodes with one arm, along which a role meets the same.
-ghost use Rattle.std.specs.Prelude.{◌≡◌, ◌<◌, length, IfOk, IfSome};
+ghost use Rattle.std.specs.Prelude.{◌≡◌, ◌<◌, length, IfSome};
 ghost use Rattle.std.specs.List.{All};
 ghost use Rattle.rs_project.specs.Filing.{lone_front};
 ghost use Rattle.rs_project.specs.Working.{IsFrontFrom};
@@ -7,7 +7,6 @@ ghost use Rattle.rs_project.specs.Marks.{MeetsOnly, StandsFor};
 
 use crate::fronts::{Front, in_order};
 use crate::surveying::Survey;
-use rs_model::NoMemory;
 use smallvec::SmallVec;
 use std::alloc::Global;
 
@@ -44,28 +43,25 @@ fn only_talk(survey: &Survey, start: u32) -> Option<u32>
 }
 
 /// What the role may meet first from few nodes, where runs lead to one talk from each.
-pub fn straight_front(
-    alloc: Global,
-    survey: &Survey,
-    starts: &[u32],
-) -> Result<Option<Front>, NoMemory>
+#[inline(always)]
+pub fn straight_front(alloc: Global, survey: &Survey, starts: &[u32]) -> Option<Front>
     requires starts { All (λ s. s < length survey.now.protocol.nodes) starts.now }
-    ensures { IfOk result (λ found. IfSome found (λ f. IsFrontFrom survey.now.protocol survey.now.role starts.now f)) }
+    ensures { IfSome result (λ f. IsFrontFrom survey.now.protocol survey.now.role starts.now f) }
 {
     if starts.len() > FEW {
-        return Ok(None);
+        return None;
     }
     let mut talks = SmallVec::new(alloc);
     for start in starts {
         let Some(talk) = only_talk(survey, *start) else {
-            return Ok(None);
+            return None;
         };
-        talks.push(talk)?;
+        talks.push_reserved(talk);
     }
-    Ok(Some(Front {
+    Some(Front {
         talks: in_order(talks),
         ends: false,
-    }))
+    })
 }
 
 /// What a role may meet first where it is this talk alone.

@@ -1,4 +1,4 @@
-use Rattle.std.proofs.Common.{rules, ◌<◌, ℕ, List, inl, refl, length, sym, subst, ◌∙◌, ap}
+use Rattle.std.proofs.Common.{rules, ◌<◌, ℕ, List, inl, refl, length, sym, subst, ◌∙◌}
 use Rattle.std.specs.List.{All}
 use Rattle.rs_graph.specs.Lists.{Among}
 use Rattle.rs_project.specs.Marks.{IsTrueSurvey, Survey_data}

@@ -1,4 +1,4 @@
-use Rattle.std.proofs.Common.{rules, ◌++◌, ◌∷◌, [], get_or, slice_get}
+use Rattle.std.proofs.Common.{rules, arith, ◌∙◌, ◌++◌, ◌∷◌, [], ℕ, List, length, length-append, get_or, slice_get, ap}
 use Rattle.std.specs.List.{flat_map}
 use Rattle.std.proofs.lemmas.Option.{slice_get-get_or}
 use Rattle.rs_project.specs.Marks.{labelled_nexts_of}
@@ -20,9 +20,11 @@ loop-talk-preserved c =
     let stands = read_via pr.nodes c.protocol.inside.nodes.items talk node (search rules) (c.requires i 0 c.loop-talk-test.true) c.index.ensures in
     let has = c.in-Some.ensures in
     record {
-      starts = starts_on pr c.args.arm.label talks i talk node c.loop-talk.starts.items c.push.new.self.items
+      starts = starts_on pr c.args.arm.label talks i talk node c.loop-talk.starts.items c.push_reserved.new.self.items
           (flat_map (λ t. labelled_nexts_of c.args.arm.label (slice_get pr.nodes t)) talks) at stands
-          (led_starts other c.args.arm.label node c.loop-talk.starts.items c.push.new.self.items has.0 has.1 c.in_ok-push.ensures.ok) c.loop-talk.invariant.starts;
+          (led_starts other c.args.arm.label node c.loop-talk.starts.items c.push_reserved.new.self.items has.0 has.1 c.push_reserved.ensures.items) c.loop-talk.invariant.starts;
+      many = (let l = ap (λ (z : List ℕ). length z) c.push_reserved.ensures.items ∙ length-append c.loop-talk.starts.items (other.next ∷ []) in let m = c.loop-talk.invariant.many in omega (arith, l, m));
+      room = (let k = c.push_reserved.ensures.capacity in let r = c.loop-talk.invariant.room in omega (arith, k, r));
       choices = choices_on pr talks i talk node (here ∷ []) (here ∷ []) ((here ∷ []) ++ first_choices (flat_map (λ t. choices_of (slice_get pr.nodes t)) talks) (here ∷ [])) at stands
           (led_choices other here node has.0 has.1) c.loop-talk.invariant.choices;
     }
