@@ -174,6 +174,7 @@ fn number_of_lone(
     add_new_lone(alloc, role, fronts, talk)
 }
 
+#[inline(always)]
 fn add_new_lone(alloc: Global, role: Role, fronts: &mut Fronts, talk: u32) -> Result<u32, ProjFault>
     requires { FrontIsNew fronts.old (lone_front talk) }
     ensures ok { IfOk result (λ n. AddsFront fronts.old (lone_front talk) fronts.new n) }
@@ -189,6 +190,7 @@ fn add_new_lone(alloc: Global, role: Role, fronts: &mut Fronts, talk: u32) -> Re
 }
 
 // The number of a front, which is added where it is new.
+#[inline(always)]
 fn number_of(role: Role, fronts: &mut Fronts, front: Front) -> Result<u32, ProjFault>
     ensures ok { IfOk result (λ n. AddsFront fronts.old front fronts.new n) }
     ensures err { IfErr result (λ e. NumberFault role fronts.old front e) }
@@ -201,6 +203,7 @@ fn number_of(role: Role, fronts: &mut Fronts, front: Front) -> Result<u32, ProjF
     add_new(role, fronts, front, filing)
 }
 
+#[inline(always)]
 fn add_new(role: Role, fronts: &mut Fronts, front: Front, filing: Filing) -> Result<u32, ProjFault>
     requires new { FrontIsNew fronts.old front }
     requires filing { IsFiledUnder filing front }
