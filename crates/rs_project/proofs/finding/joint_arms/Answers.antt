@@ -1,7 +1,7 @@
 use Rattle.std.proofs.Common.{rules, ◌<◌, ℕ, List, inl, refl, length, sym, subst, ◌∙◌}
 use Rattle.std.specs.List.{All}
 use Rattle.rs_graph.specs.Lists.{Among}
-use Rattle.rs_project.specs.Marks.{IsTrueSurvey, Survey_data}
+use Rattle.rs_project.specs.Marks.{IsTrueSurvey}
 use Rattle.rs_project.specs.Projection.{LabelChoice, choice_of}
 use Rattle.rs_project.specs.Working.{IsOneChoice}
 use Rattle.rs_project.proofs.Behind.{some_starts, starts_within}
