@@ -366,3 +366,12 @@ one_for_all pr role talks k node wf is h short all before (suc i) lt = λ c d hc
 
 pub before_some : (pr : Protocol_data) (role : Role) (talks : List ℕ) (e m k : ℕ) → m ≤ e → AgreeBefore pr role talks e k → AgreeBefore pr role talks m k
 before_some pr role talks e m k le b = λ h lt. b h (omega (arith, le, lt))
+
+-- both of two talks agree
+pub pair_agrees : (pr : Protocol_data) (role : Role) (talks : List ℕ) → length talks ≡ 2 → Agree pr role (get_or talks 0 0) (get_or talks 1 0) → AllAgree pr role talks (length talks)
+pair_agrees pr role talks two a h k lt w =
+    let first : 0 ≡ h = omega (arith, lt, w, two) in
+    let last : 1 ≡ k = omega (arith, lt, w, two) in
+    let P : ℕ → Type 0 = λ z. AgreeAt pr role talks z k in
+    let Q : ℕ → Type 0 = λ z. AgreeAt pr role talks 0 z in
+    subst P first (subst Q last (agrees_at pr role talks 0 1 a))

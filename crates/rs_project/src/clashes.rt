@@ -68,6 +68,9 @@ fn talk_clash(
     requires talks { All (λ t. t < length protocol.now.nodes) talks.now }
     ensures { IfOk result (λ found. MatchOption found (AllAgree protocol.now role talks.now (length talks.now)) (λ clash. TalksClash protocol.now role talks.now clash.a clash.b)) }
 {
+    if talks.len() == 2 {
+        return Ok(pair_clash(protocol, role, talks));
+    }
     let sender = first_sender(protocol, talks);
     let mut notes = Notes::new(alloc, talks.len())?;
     for later in 0..talks.len() {
@@ -79,6 +82,22 @@ fn talk_clash(
         }
     }
     Ok(None)
+}
+
+// The two talks, where they clash.
+#[inline(always)]
+fn pair_clash(protocol: &Protocol, role: Role, talks: &[u32]) -> Option<Clash>
+    requires talks { All (λ t. t < length protocol.now.nodes) talks.now }
+    requires two { length talks.now ≡ 2 }
+    ensures { MatchOption result (AllAgree protocol.now role talks.now (length talks.now)) (λ clash. TalksClash protocol.now role talks.now clash.a clash.b) }
+{
+    if do_agree(protocol, role, talks[0], talks[1]) {
+        return None;
+    }
+    Some(Clash {
+        a: talks[0],
+        b: Some(talks[1]),
+    })
 }
 
 // The place of the first talk that clashes with the one at a later place, where those before it agree. While all talks so
