@@ -125,11 +125,6 @@ ArmsFault protocol role old talks choices (Unmergeable r a b) = ⊥
 ArmsFault protocol role old talks choices (Unreached r n) = ⊥
 ArmsFault protocol role old talks choices NoMemory = Unit {0}
 
--- the talk has this choice alone
-pub record IsOnlyChoice (protocol : Protocol_data) (talk : ℕ) (choice : Arm) : Type 0 where
-  pub starts : choice.next ∷ [] ≡ flat_map (λ t. labelled_nexts_of choice.label (slice_get protocol.nodes t)) (talk ∷ [])
-  pub alone : choice_of choice ∷ [] ≡ merged_choices protocol (talk ∷ [])
-
 -- the talks lead to the starts behind the label of the choice, and add no other choice
 pub record AreLedBy (protocol : Protocol_data) (talks starts : List ℕ) (choice : LabelChoice) : Type 0 where
   pub led : starts ≡ flat_map (λ t. labelled_nexts_of choice.label (slice_get protocol.nodes t)) talks

@@ -4,7 +4,7 @@ ghost use Rattle.std.specs.List.{All};
 ghost use Rattle.rs_project.specs.Marks.{IsSurvey, arms_of_node};
 ghost use Rattle.rs_project.specs.Numbered.{nexts_of};
 ghost use Rattle.rs_project.specs.Projection.{choice_of, merged_choices};
-ghost use Rattle.rs_project.specs.Working.{AreFoundFronts, ArmsFault, Discovers, IsOneChoice, IsOnlyChoice};
+ghost use Rattle.rs_project.specs.Working.{AreFoundFronts, ArmsFault, Discovers, IsOneChoice};
 
 use crate::ProjFault;
 use crate::merging::{merged_arms, one_choice, starts_behind};
@@ -32,7 +32,7 @@ pub fn lone_arms(alloc: Global, search: &mut Search, talk: u32) -> Result<Arms, 
 // The arms of a talk that has this choice alone.
 fn only_arm(alloc: Global, search: &mut Search, talk: u32, choice: Arm) -> Result<Arms, ProjFault>
     requires next { choice.next < length search.old.survey.protocol.nodes }
-    requires only { IsOnlyChoice search.old.survey.protocol talk choice }
+    requires only { IsOneChoice search.old.survey.protocol (talk ∷ []) (choice.next ∷ []) (choice_of choice) }
     requires survey { IsSurvey search.old.survey.protocol search.old.survey.role search.old.survey }
     requires found { AreFoundFronts search.old.survey.protocol search.old.survey.role search.old.fronts }
     ensures survey { search.new.survey ≡ search.old.survey }

@@ -20,7 +20,7 @@ only_arm-requires-clause-only c =
     (ap (λ (z : Protocol_data). z.nodes) c.protocol.view_is ∙ ap (λ (z : Survey_data). z.protocol.nodes) (c.survey.view_is ∙ c.survey-survey.ensures.survey)) c.requires.talk c.index.ensures in
     let P : List Arm → Type 0 = λ z. slice_get z 0 ≡ Some a in
     record {
-      starts = start_alone c.args.search.now.survey.protocol c.args.talk node 0 a (subst IsTrueSurvey (c.survey.view_is ∙ c.survey-survey.ensures.survey) c.survey.invariant).well_formed here
+      led = start_alone c.args.search.now.survey.protocol c.args.talk node 0 a (subst IsTrueSurvey (c.survey.view_is ∙ c.survey-survey.ensures.survey) c.survey.invariant).well_formed here
           (subst P c.arms_in.ensures (first_arm arms blank some));
       alone = ap (λ (z : List Arm). map choice_of z) (only_arm arms blank some few ∙ c.arms_in.ensures)
           ∙ choices_in c.args.search.now.survey.protocol c.args.talk node (subst IsTrueSurvey (c.survey.view_is ∙ c.survey-survey.ensures.survey) c.survey.invariant).well_formed here;

@@ -20,7 +20,7 @@ returns-in_err-next-clause-err c =
     c.from_residual.ensures.1
     (subst Q c.requires.only.alone
     (arms_fault pr role fronts fronts talks (a ∷ []) 0 a [] refl (discovers_none pr role fronts talks c.requires.found) e
-    (fault_behind pr role fronts talks a.label (a.next ∷ []) c.requires.only.starts e c.in_err-next.ensures.err)))
+    (fault_behind pr role fronts talks a.label (a.next ∷ []) c.requires.only.led e c.in_err-next.ensures.err)))
 
 pub returns-clause-ok : goal.returns-clause-ok
 returns-clause-ok c =
@@ -35,4 +35,4 @@ returns-clause-ok c =
     subst Q c.requires.only.alone
     (arm_more pr role c.args.search.now.survey fronts fronts new talks (a ∷ []) 0 a [] c.of_one.result n c.requires.survey c.requires.only.alone refl c.of_one.ensures
     (discovers_none pr role fronts talks c.requires.found)
-    (finds_behind pr role fronts talks a.label (a.next ∷ []) new n c.requires.only.starts c.in_ok-next.ensures.ok))
+    (finds_behind pr role fronts talks a.label (a.next ∷ []) new n c.requires.only.led c.in_ok-next.ensures.ok))
