@@ -1,10 +1,10 @@
 -- Public: what a spot can do within the bound, as it is computed: choose one of some spots, or go on to all of them.
-use Rattle.std.specs.Prelude.{ℕ, List, [], length, Bool, true, false, not, ◌==◌, ◌&&◌, nat_lt, nat_le, if◌then◌else◌, slice_get, Option, None, Some}
+use Rattle.std.specs.Prelude.{ℕ, List, [], length, Bool, true, false, not, ◌==◌, ◌&&◌, nat_lt, nat_le, if◌then◌else◌, Option, None, Some}
 use Rattle.std.specs.List.{list_any}
 use Rattle.rs_model.specs.Data.{Machine_data}
 use Rattle.rs_derive.specs.Due.{Due, due, nexts_by}
 use Rattle.rs_derive.specs.Moves.{Spot, owing_receive, owing_send}
-use Rattle.rs_derive.specs.Rules.{arms_of, pushes}
+use Rattle.rs_derive.specs.Rules.{pushes}
 use Rattle.rs_derive.specs.declared.rules.Rule.{Rule}
 use Rattle.rs_derive.specs.declared.rules.Rule.TheVariants.{Stops, Pays, SendsBoth, Guesses, Follows}
 use Rattle.rs_derive.specs.Within.{HasLabelsOnce}
@@ -84,10 +84,6 @@ may_choose arms theirs (Follows r) = length theirs == 1
 -- whether the bound takes the moves by the rule away: there are some, and they would owe more acts
 abbrev pub cuts : ℕ → List Act → List Arm → Rule → Bool
 cuts bound pending theirs rule = pushes rule && (nat_le bound (length pending) && nat_lt 0 (length theirs))
-
--- the arms of a state of the machine
-abbrev pub arms_of_state : Machine_data → ℕ → List Arm
-arms_of_state m s = arms_of (slice_get m.states s)
 
 -- the spots to which a rule leads, if one applies
 abbrev pub spots_by : Spot → List Arm → List Arm → Option Rule → List Spot
