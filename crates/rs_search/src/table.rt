@@ -46,7 +46,7 @@ fn act_code(act: Act) -> u64
 fn next_code(code: u64, act: Act) -> u64
     ensures { result ≡ acts_code code (act ∷ []) }
 {
-    code.wrapping_mul(CODE_FACTOR).wrapping_add(act_code(act))
+    code.wrapping_add(act_code(act)).wrapping_mul(CODE_FACTOR)
 }
 
 // The code of acts, from that of those before them.
@@ -98,8 +98,7 @@ fn bucket_by(size: usize, code: u64, state: u32, above: u32) -> usize
     ensures bucket { result ≡ bucket_by size code state above }
 {
     let states = u64::from(state) * STATE_FACTOR + u64::from(above);
-    let mixed = code.wrapping_mul(CODE_FACTOR).wrapping_add(states);
-    let high = mixed.wrapping_mul(CODE_FACTOR) / STATE_FACTOR;
+    let high = code.wrapping_add(states).wrapping_mul(CODE_FACTOR) / STATE_FACTOR;
     (high * size as u64 / STATE_FACTOR) as usize
 }
 
