@@ -281,15 +281,15 @@ fn number_within(n: usize, limit: usize) -> Result<u32, SearchStop>
     Ok(n as u32)
 }
 
-// How many buckets follow on so many: the usual number, or else four times as many.
+// How many buckets follow on so many: the usual number, or else eight times as many.
 fn more_buckets(size: usize, usual: usize) -> usize
     requires { IsBucketCount usual }
     ensures { IsBucketCount result }
 {
     if size < usual {
         usual
-    } else if size < MOST_BUCKETS / 4 {
-        size * 4 + 1
+    } else if size < MOST_BUCKETS / 8 {
+        size * 8 + 1
     } else {
         MOST_BUCKETS
     }
@@ -451,8 +451,8 @@ impl SpotTable {
         number_within(n, limit)
     }
 
-    /// Files the spots in so many buckets once there are more of them than buckets; and in four times as many buckets once
-    /// there are four times as many spots.
+    /// Files the spots in so many buckets once there are more of them than buckets; and in eight times as many buckets once
+    /// there are twice as many spots.
     #[inline(always)]
     pub(crate) fn spread(&mut self, alloc: Global, buckets: usize) -> Result<(), NoMemory>
         requires buckets { IsBucketCount buckets }
@@ -463,7 +463,7 @@ impl SpotTable {
     {
         let size = self.index.heads.len();
         let count = self.nodes.len();
-        if size < count && (size < buckets || size < count / 4) {
+        if size < count && (size < buckets || size < count / 2) {
             return self.refile(alloc, more_buckets(size, buckets));
         }
         Ok(())
