@@ -1,6 +1,5 @@
 -- What an act of a role makes of its pass.
 use Rattle.std.proofs.Common.{◌≡◌, ℕ, ◌+◌, List, [], ◌∷◌, length, Option, Some, None, slice_get, refl, sym, ap, ◌∙◌, subst, length-append}
-use Rattle.rs_model.specs.Data.{Machine_data}
 use Rattle.rs_model.specs.Sorts.{HasSort}
 use Rattle.rs_model.specs.declared.graph.Arm.{Arm}
 use Rattle.rs_model.specs.declared.graph.Label.{Label}
@@ -13,7 +12,7 @@ use Rattle.rs_core.specs.Choosable.{label_of}
 use Rattle.rs_core.proofs.Stands.{here_is}
 use Rattle.rs_slots.specs.declared.parcels.Parcel.{Parcel}
 use Rattle.rs_rings.specs.Acts.{sent_act, got_act, MayPut}
-use Rattle.rs_rings.specs.Passes.{Rings_data, Pass_data, IsChanged, IsPut, ParcelIsTaken, CanTake}
+use Rattle.rs_rings.specs.Passes.{Rings_data, Pass_data, IsChanged, IsPut, ParcelIsTaken}
 use Rattle.rs_rings.specs.Views.{part_of, state_in, gaining, sending, taking, getting}
 use Rattle.rs_rings.specs.declared.views.Part.{Part}
 use Rattle.rs_rings.specs.declared.views.View.{View}
@@ -69,15 +68,9 @@ pub record Full (rings : Rings_data) (q : ℕ) (x : Parcel) (sent taken : ℕ) (
   pub same : back ≡ x
 
 -- a look
-pub can_take : (rings : Rings_data) (peer : Role) (arms : List Arm) (old : Stage_data) (role : Role) (pass : Pass_data) → sight_of_pass pass role ≡ old
-    → state_of (slice_get rings.machines old.role.0) old.part.state ≡ Some (Takes peer arms) → CanTake rings.machines role.0 peer (state_in pass.view role.0)
-can_take rings peer arms old role pass is stands = record { arms = arms; takes = ap (λ (z : Stage_data). state_of (slice_get rings.machines z.role.0) z.part.state) is ∙ stands }
-
-pub labels_once : (machines : List Machine_data) (r s : ℕ) (peer : Role) (arms : List Arm) → AreWellFormed machines → state_of (slice_get machines r) s ≡ Some (Takes peer arms)
-    → (i j : ℕ) (a b : Arm) → slice_get arms i ≡ Some a → slice_get arms j ≡ Some b → a.label ≡ b.label → i ≡ j
-labels_once machines r s peer arms well_formed stands =
-    let at = here_is (slice_get machines r) s (Takes peer arms) stands in
-    ((well_formed.fits r at.0 at.1).takes s peer arms at.2).once
+pub stands_there : (rings : Rings_data) (peer : Role) (arms : List Arm) (old : Stage_data) (role : Role) (pass : Pass_data) → sight_of_pass pass role ≡ old
+    → state_of (slice_get rings.machines old.role.0) old.part.state ≡ Some (Takes peer arms) → state_of (slice_get rings.machines role.0) (state_in pass.view role.0) ≡ Some (Takes peer arms)
+stands_there rings peer arms old role pass is stands = ap (λ (z : Stage_data). state_of (slice_get rings.machines z.role.0) z.part.state) is ∙ stands
 
 pub arm_of_label : (o : Option Arm) (l : Label) → label_of o ≡ Some l → (arm : Arm) × (o ≡ Some arm) × (arm.label ≡ l)
 arm_of_label None l e = absurd (cc (e))

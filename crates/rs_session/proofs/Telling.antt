@@ -1,5 +1,5 @@
 -- What sends and receives of stages tell.
-use Rattle.std.proofs.Common.{◌≡◌, ℕ, List, Some, IsSome, slice_get, sym, ap, ◌∙◌, subst}
+use Rattle.std.proofs.Common.{◌≡◌, ℕ, List, Some, IsSome, slice_get, refl, sym, ap, ◌∙◌, subst}
 use Rattle.rs_model.specs.Sorts.{HasSort}
 use Rattle.rs_model.specs.declared.graph.Arm.{Arm}
 use Rattle.rs_model.specs.declared.graph.Role.{Role}
@@ -25,6 +25,32 @@ sort_by session stage place value peer arm by to =
     let picked : Some by.arm ≡ Some arm = sym by.picks ∙ ap (λ (l : List Arm). slice_get l place) arms ∙ to.picks in
     let same : by.arm ≡ arm = cc (picked) in
     subst (λ (z : Arm). HasSort value z.sort) same by.has_sort
+
+-- what stands behind an arm that is at hand
+pub sends_to : (session : Rings_data) (old standing : Stage_data) (place : ℕ) (value : Value) (peer : Role) (arm : Arm) → standing ≡ old → (by : SendsBy session old place value) → by.peer ≡ peer
+    → by.arm ≡ arm → SendsTo session standing place peer arm
+sends_to session old standing place value peer arm is by peers same = record {
+  arms = by.arms;
+  stands = ap (state_of_stage session) is ∙ by.stands ∙ ap (λ (r : Role). Some (Puts r by.arms)) peers;
+  picks = by.picks ∙ ap (λ (a : Arm). Some a) same;
+}
+
+-- an arm that was looked up is at hand
+pub sends_by : (session : Rings_data) (old standing : Stage_data) (place : ℕ) (value : Value) (peer : Role) (arm : Arm) → standing ≡ old → SendsBy session old place value
+    → SendsTo session standing place peer arm → (by : SendsBy session old place value) × (by.peer ≡ peer) × (by.arm ≡ arm)
+sends_by session old standing place value peer arm is by to =
+    let to' : SendsTo session old place peer arm = subst (λ (z : Stage_data). SendsTo session z place peer arm) is to in
+    (record { peer = peer; arms = to'.arms; arm = arm; stands = to'.stands; picks = to'.picks; has_sort = sort_by session old place value peer arm by to' }, refl, refl)
+
+-- so of the arms of a state that receives
+pub receives_at : (session : Rings_data) (old standing : Stage_data) (peer : Role) (arms : List Arm) → standing ≡ old → (of : IsReceiving session old) → of.peer ≡ peer → of.arms ≡ arms
+    → state_of_stage session standing ≡ Some (Takes peer arms)
+receives_at session old standing peer arms is of peers same = ap (state_of_stage session) is ∙ of.stands ∙ (λ i. Some (Takes (peers i) (same i)))
+
+pub receives_by : (session : Rings_data) (old standing : Stage_data) (peer : Role) (arms : List Arm) → standing ≡ old → old.table ≡ session.table
+    → state_of_stage session standing ≡ Some (Takes peer arms) → (of : IsReceiving session old) × (of.peer ≡ peer) × (of.arms ≡ arms)
+receives_by session old standing peer arms is table stands =
+    (record { table = table; peer = peer; arms = arms; stands = ap (state_of_stage session) (sym is) ∙ stands }, refl, refl)
 
 -- the stage behind the standing, and the rings of the session
 pub went : (session rings : Rings_data) (old standing moved : Stage_data) (place : ℕ) (value : Value) (peer : Role) (arm : Arm) (new : Stage) → rings ≡ session → standing ≡ old

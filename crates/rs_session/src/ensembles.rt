@@ -2,15 +2,16 @@
 ghost use Rattle.std.specs.Prelude.{◌≡◌, ◌<◌, ◌^◌, ℕ, IfOk, OnOk, Some, length, slice_get};
 ghost use Rattle.rs_model.specs.Limits.{IsCapacity};
 ghost use Rattle.rs_core.specs.Configurations.{state_of};
-ghost use Rattle.rs_model.specs.declared.machines.State.TheVariants.{Done};
+ghost use Rattle.rs_model.specs.declared.machines.State.TheVariants.{Done, Takes};
+ghost use Rattle.rs_rings.specs.Acts.{MayPut};
 ghost use Rattle.rs_rings.specs.Closed.{IsLeft, IsOver};
-ghost use Rattle.rs_rings.specs.Passes.{CanPut, CanPutOn, CanTake, PutOnTells, PutTells, TakeTells};
+ghost use Rattle.rs_rings.specs.Passes.{CanPut, CanPutOn, CanTake, PutOnTells, PutTells, TakeByTells, TakeTells};
 ghost use Rattle.rs_rings.specs.Views.{SpeaksFor, history_in, starting, state_in};
 ghost use Rattle.rs_safety.specs.Accepting.{IsAcceptedSession};
 
 use crate::sessions::Session;
-use rs_model::{NoMemory, Role, Value};
-use rs_rings::{Closed, Got, Pass, Put, Rings};
+use rs_model::{Arm, NoMemory, Role, Value};
+use rs_rings::{Closed, Got, GotOn, Pass, Put, Rings};
 use rs_safety::Accepted;
 use rs_slots::Parcel;
 use std::alloc::Global;
@@ -119,6 +120,31 @@ impl Ensemble {
         session.rings().put_on(&mut self.pass, role, arm, value)
     }
 
+    /// Sends the parcel from `sender` to `receiver`, by an arm that leads to the state `next`. It looks once at their ring, and
+    /// takes no memory.
+    ///
+    /// The outcome is that of [`Ensemble::put`]. Nothing is looked up.
+    #[inline(always)]
+    pub fn put_next(
+        &mut self,
+        session: &Session,
+        sender: Role,
+        receiver: Role,
+        parcel: Parcel,
+        next: u32,
+    ) -> Put
+        requires table { self.old.table ≡ session.now.table }
+        requires speaks { SpeaksFor self.old.view sender.0 }
+        requires can { MayPut session.now.machines sender.0 receiver.0 (state_in self.old.view sender.0) parcel next }
+        requires acts { length (history_in self.old.view sender.0) < 2 ^ 63 }
+        ensures table { self.new.table ≡ self.old.table }
+        ensures told { PutTells session.now.machines session.now.capacity sender.0 receiver.0 parcel self.old.view self.new.view result }
+    {
+        session
+            .rings()
+            .put_next(&mut self.pass, sender, receiver, parcel, next)
+    }
+
     /// Receives the oldest parcel that is under way from `sender` to `receiver`. It looks once at their ring, and takes no memory.
     ///
     /// Where a parcel is there the receiver goes on to the next state of the arm with its label. Else nothing has changed but
@@ -133,5 +159,29 @@ impl Ensemble {
         ensures told { TakeTells session.now.machines session.now.capacity receiver.0 sender.0 self.old.view self.new.view result }
     {
         session.rings().look_take(&mut self.pass, receiver, sender)
+    }
+
+    /// Receives the oldest parcel that is under way from `sender` to `receiver`, which stands at a state with these arms. It
+    /// looks once at their ring, and takes no memory.
+    ///
+    /// The outcome is that of [`Ensemble::look_take`], and of a parcel it tells the place of the arm with its label.
+    #[inline(always)]
+    pub fn take_by(
+        &mut self,
+        session: &Session,
+        receiver: Role,
+        sender: Role,
+        arms: &[Arm],
+    ) -> GotOn
+        requires table { self.old.table ≡ session.now.table }
+        requires speaks { SpeaksFor self.old.view receiver.0 }
+        requires stands { state_of (slice_get session.now.machines receiver.0) (state_in self.old.view receiver.0) ≡ Some (Takes sender arms.now) }
+        requires acts { length (history_in self.old.view receiver.0) < 2 ^ 63 }
+        ensures table { self.new.table ≡ self.old.table }
+        ensures told { TakeByTells session.now.machines session.now.capacity receiver.0 sender.0 arms.now self.old.view self.new.view result }
+    {
+        session
+            .rings()
+            .take_by(&mut self.pass, receiver, sender, arms)
     }
 }

@@ -66,6 +66,7 @@ impl Session {
     }
 
     /// The machine of the role.
+    #[inline(always)]
     pub fn machine(&self, role: Role) -> &Machine
         requires { role.0 < length self.now.machines }
         ensures machine { slice_get self.now.machines role.0 ≡ Some result.now }
@@ -82,6 +83,7 @@ impl Session {
         self.rings.machines().len()
     }
 
+    #[inline(always)]
     pub(crate) fn rings(&self) -> &Rings
         ensures rings { result.now ≡ self.now }
         ensures whole { RingsAreWhole self.now }
@@ -105,6 +107,7 @@ impl Session {
     }
 
     /// The state at which a role stands.
+    #[inline(always)]
     fn state(&self, standing: &Standing) -> &State
         requires { IsSome (state_of_stage self.now standing.now) }
         ensures { state_of_stage self.now standing.now ≡ Some result.now }
@@ -114,6 +117,7 @@ impl Session {
     }
 
     /// The stage of a role that stands at a state of its machine.
+    #[inline(always)]
     pub(crate) fn stage(&self, standing: Standing) -> Stage
         requires table { standing.table ≡ self.now.table }
         requires present { IsSome (state_of_stage self.now standing) }
@@ -128,6 +132,7 @@ impl Session {
     }
 
     /// The peer and the arm at that place, of a role that sends.
+    #[inline(always)]
     pub(crate) fn sending_arm(&self, standing: &Standing, place: u16) -> (Role, Arm)
         requires { (value : Value) × SendsBy self.now standing.now place value }
         ensures { SendsTo self.now standing.now place result.0 result.1 }
@@ -139,6 +144,7 @@ impl Session {
     }
 
     /// The peer and the arms of a role that receives.
+    #[inline(always)]
     pub(crate) fn receiving_arms(&self, standing: &Standing) -> (Role, &[Arm])
         requires { IsReceiving self.now standing.now }
         ensures { state_of_stage self.now standing.now ≡ Some (Takes result.0 result.1.now) }

@@ -5,7 +5,7 @@ ghost use Rattle.rs_session.specs.Stages.{IsReceiving, sight_of_stage};
 
 use crate::sessions::Session;
 use crate::standing::{ParcelFound, Standing};
-use rs_model::{Role, Value};
+use rs_model::{Arm, Role, Value};
 use rs_rings::Put;
 use rs_slots::Parcel;
 use std::marker::Model;
@@ -101,6 +101,7 @@ impl Model for Left {
 
 impl Sending {
     /// The role that it stands for.
+    #[inline(always)]
     pub fn role(&self) -> Role
         ensures { result ≡ self.now.role }
     {
@@ -108,6 +109,7 @@ impl Sending {
     }
 
     /// The number of the state at which the role stands.
+    #[inline(always)]
     pub fn state(&self) -> u32
         ensures { result ≡ self.now.part.state }
     {
@@ -132,9 +134,22 @@ impl Sending {
         requires acts { length self.part.history < 2 ^ 63 }
         ensures told { SendTells session.now self arm value result }
     {
+        let (peer, by) = session.sending_arm(&self.standing, arm);
+        self.send_by(session, peer, arm, by, value)
+    }
+
+    /// Sends the value to the state's peer by the arm, which stands at that place of the state and is at hand.
+    ///
+    /// The outcome is that of [`Sending::send`]. The state isn't looked up.
+    #[inline(always)]
+    pub fn send_by(self, session: &Session, peer: Role, place: u16, arm: Arm, value: Value) -> Sent
+        requires table { self.table ≡ session.now.table }
+        requires by { (by : SendsBy session.now self place value) × (by.peer ≡ peer) × (by.arm ≡ arm) }
+        requires acts { length self.part.history < 2 ^ 63 }
+        ensures told { SendTells session.now self place value result }
+    {
         let Sending { standing } = self;
         let mut standing = standing;
-        let (peer, arm) = session.sending_arm(&standing, arm);
         let parcel = Parcel {
             label: arm.label,
             value,
@@ -157,6 +172,7 @@ impl Sending {
 
 impl Receiving {
     /// The role that it stands for.
+    #[inline(always)]
     pub fn role(&self) -> Role
         ensures { result ≡ self.now.role }
     {
@@ -164,6 +180,7 @@ impl Receiving {
     }
 
     /// The number of the state at which the role stands.
+    #[inline(always)]
     pub fn state(&self) -> u32
         ensures { result ≡ self.now.part.state }
     {
@@ -187,9 +204,21 @@ impl Receiving {
         requires acts { length self.part.history < 2 ^ 63 }
         ensures told { ReceiveTells session.now self result }
     {
+        let (peer, arms) = session.receiving_arms(&self.standing);
+        self.receive_by(session, peer, arms)
+    }
+
+    /// Receives the oldest value that is under way from the peer. Peer and arms are the state's own, at hand.
+    ///
+    /// The outcome is that of [`Receiving::receive`]. The state isn't looked up.
+    #[inline(always)]
+    pub fn receive_by(self, session: &Session, peer: Role, arms: &[Arm]) -> Taken
+        requires of { (of : IsReceiving session.now self) × (of.peer ≡ peer) × (of.arms ≡ arms.now) }
+        requires acts { length self.part.history < 2 ^ 63 }
+        ensures told { ReceiveTells session.now self result }
+    {
         let Receiving { standing } = self;
         let mut standing = standing;
-        let (peer, arms) = session.receiving_arms(&standing);
         match standing.look_take(session.rings(), peer, arms) {
             ParcelFound::One { arm, value } => Taken::Got {
                 arm,

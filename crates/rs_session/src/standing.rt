@@ -7,9 +7,8 @@ ghost use Rattle.rs_rings.specs.Acts.{MayPut};
 ghost use Rattle.rs_rings.specs.Views.{SpeaksFor, part_of, state_in, history_in};
 ghost use Rattle.rs_session.specs.Standing.{FoundTells, StagePutTells, sight_of_pass};
 
-use rs_core::place_by_label;
 use rs_model::{Arm, NoMemory, Role, Value};
-use rs_rings::{Got, Pass, Put, Rings};
+use rs_rings::{GotOn, Pass, Put, Rings};
 use rs_slots::Parcel;
 use std::alloc::{AllocFailed, Global};
 use std::marker::Model;
@@ -54,18 +53,21 @@ pub(crate) enum ParcelFound {
 }
 
 impl RolePass {
+    #[inline(always)]
     fn role(&self) -> Role
         ensures { result ≡ self.now.role }
     {
         self.role
     }
 
+    #[inline(always)]
     fn state(&self) -> u32
         ensures { result ≡ self.now.part.state }
     {
         self.state
     }
 
+    #[inline(always)]
     fn acts(&self) -> u64
         ensures { result ≡ length self.now.part.history }
     {
@@ -88,6 +90,7 @@ impl RolePass {
     }
 
     /// Puts the parcel into the ring to the peer; the role then stands in the state `next`.
+    #[inline(always)]
     fn put(&mut self, rings: &Rings, peer: Role, parcel: Parcel, next: u32) -> Put
         requires table { self.old.table ≡ rings.now.table }
         requires well_formed { AreWellFormed rings.now.machines }
@@ -95,7 +98,7 @@ impl RolePass {
         requires acts { length self.old.part.history < 2 ^ 63 }
         ensures told { StagePutTells rings.now peer.0 parcel next self.old self.new result }
     {
-        match rings.put(&mut self.pass, self.role, peer, parcel) {
+        match rings.put_next(&mut self.pass, self.role, peer, parcel, next) {
             Put::Done => {
                 self.state = next;
                 self.acts += 1;
@@ -114,6 +117,7 @@ impl RolePass {
     }
 
     /// Takes the oldest parcel out of the ring from the peer; the role goes on by the arm with its label.
+    #[inline(always)]
     fn look_take(&mut self, rings: &Rings, peer: Role, arms: &[Arm]) -> ParcelFound
         requires table { self.old.table ≡ rings.now.table }
         requires well_formed { AreWellFormed rings.now.machines }
@@ -121,17 +125,16 @@ impl RolePass {
         requires acts { length self.old.part.history < 2 ^ 63 }
         ensures told { FoundTells rings.now peer.0 arms.now self.old self.new result }
     {
-        match rings.look_take(&mut self.pass, self.role, peer) {
-            Got::One(parcel) => {
-                let arm = place_by_label(arms, parcel.label);
-                self.state = arms[arm as usize].next;
+        match rings.take_by(&mut self.pass, self.role, peer, arms) {
+            GotOn::One { place, parcel } => {
+                self.state = arms[place as usize].next;
                 self.acts += 1;
                 ParcelFound::One {
-                    arm,
+                    arm: place,
                     value: parcel.value,
                 }
             }
-            Got::Empty { seen } => ParcelFound::Nothing { seen },
+            GotOn::Empty { seen } => ParcelFound::Nothing { seen },
         }
     }
 }
@@ -166,18 +169,21 @@ impl Standing {
         }
     }
 
+    #[inline(always)]
     pub(crate) fn role(&self) -> Role
         ensures { result ≡ self.now.role }
     {
         self.inside.role()
     }
 
+    #[inline(always)]
     pub(crate) fn state(&self) -> u32
         ensures { result ≡ self.now.part.state }
     {
         self.inside.state()
     }
 
+    #[inline(always)]
     pub(crate) fn acts(&self) -> u64
         ensures { result ≡ length self.now.part.history }
     {
