@@ -12,7 +12,7 @@ use Rattle.rs_model.specs.declared.values.Value.{Value}
 use Rattle.rs_core.specs.Choices.{AreWellFormed}
 use Rattle.rs_core.specs.Configurations.{state_at, state_of}
 use Rattle.rs_core.specs.Core.{configuration_of}
-use Rattle.rs_core.specs.Choosable.{CanChoose}
+use Rattle.rs_core.specs.Choosable.{CanChoose, CanChooseBy, label_of}
 use Rattle.rs_core.proofs.Ends.{get_there}
 use Rattle.rs_safety.specs.Accepting.{Accepted_data, IsAcceptedSession}
 use Rattle.rs_rings.proofs.Seats.{first_part_is, first_speaks}
@@ -23,7 +23,7 @@ use Rattle.rs_core.specs.declared.transcripts.Entry.TheVariants as entry
 use Rattle.rs_core.proofs.Stands.{here_is}
 use Rattle.rs_slots.specs.declared.parcels.Parcel.{Parcel}
 use Rattle.rs_rings.specs.Acts.{MayPut, message_of, role_of_number, sent_act, got_act, parcels_sent, parcels_got}
-use Rattle.rs_rings.specs.Passes.{CanPutOn, IsChanged, IsPut, ParcelIsTaken, IsEmpty, Pass_data, Rings_data}
+use Rattle.rs_rings.specs.Passes.{IsChanged, IsPut, ParcelIsTaken, IsEmpty, Pass_data, Rings_data}
 use Rattle.rs_rings.specs.Passes as passes
 use Rattle.rs_rings.specs.Views.{SpeaksFor, history_in, part_of, start_of, starting, state_in, part_with_room, part_with_parcel}
 use Rattle.rs_rings.specs.declared.views.Part.{Part}
@@ -130,20 +130,20 @@ module _ (session : Rings_data) where
       }
 
   -- what a receive tells
-  pub record GotBy (r : ℕ) (v w : View) (peer : Role) (x : Parcel) (arms : List Arm) : Type 0 where
+  pub record GotBy (r : ℕ) (v w : View) (peer : Role) (x : Parcel) (arms : List Arm) (by : ℕ) : Type 0 where
     pub place : ℕ
     pub arm : Arm
     pub picks : slice_get arms place ≡ Some arm
     pub same_label : arm.label ≡ x.label
-    pub told : FetchTells (core_of ms v) r peer (core_of ms w) (Some (message_of x))
+    pub told : FetchTells (core_of ms v) r peer (core_of ms w) (Some (record { arm = by; message = message_of x }))
     pub noted : IsLongerBy r (entry.Got peer x.label x.value) (notes_of v) (notes_of w)
     pub goes : state_in w r ≡ arm.next
     pub present : IsSome (state_of (slice_get ms r) arm.next)
 
-  pub got_by : (r : ℕ) (v w : View) (peer : Role) (arms : List Arm) (x : Parcel) → AreWellFormed ms → ((y : ℕ) → y < length ms → SpeaksFor v y) → r < length ms
+  pub got_by : (r : ℕ) (v w : View) (peer : Role) (arms : List Arm) (place : ℕ) (x : Parcel) → AreWellFormed ms → ((y : ℕ) → y < length ms → SpeaksFor v y) → r < length ms
       → state_of (slice_get ms r) (state_in v r) ≡ Some (Takes peer arms)
-      → ParcelIsTaken ms session.capacity r peer.0 x v w → GotBy r v w peer x arms
-  got_by r v w peer arms x wf speaks there stands take =
+      → ParcelIsTaken ms session.capacity r peer.0 x v w × (label_of (slice_get arms place) ≡ Some x.label) → GotBy r v w peer x arms place
+  got_by r v w peer arms place x wf speaks there stands (take, by) =
       let s : ℕ = state_in v r in
       let at = here_is (slice_get ms r) s (Takes peer arms) stands in
       let fit = (wf.fits r at.0 at.1).takes s peer arms at.2 in
@@ -164,6 +164,9 @@ module _ (session : Rings_data) where
             refl,
           ),
           refl,
+          λ other others takes. (let one : Some (Takes peer arms) ≡ Some (Takes other others) = sym stands ∙ sym (state_is ms v r there) ∙ takes in
+              let same : arms ≡ others = cc (one) in
+              subst (λ (l : List Arm). label_of (slice_get l place) ≡ Some x.label) same by),
         );
         noted = noted_on v w r (part_of w r) (got_act peer.0 x) (record { part = refl; spoken = take.changed.spoken; others = take.changed.others }) (ap (λ (z : Part). z.history) take.changed.part);
         goes = goes;
@@ -190,25 +193,32 @@ module _ (session : Rings_data) where
       }
 
   -- what the hand knows of a send that is asked for
-  pub record CanPost (all : Pass_data) (r : ℕ) (peer : Role) (place : ℕ) (value : Value) : Type 0 where
+  pub record CanPost (all : Pass_data) (r : ℕ) (peer : Role) (place : ℕ) (arm : Arm) (value : Value) : Type 0 where
     pub present : r < length ms
     pub arms : List Arm
-    pub arm : Arm
     pub stands : state_of (slice_get ms r) (state_in all.view r) ≡ Some (Puts peer arms)
     pub picks : slice_get arms place ≡ Some arm
     pub has : HasSort value arm.sort
 
-  pub can_post : (h : Hand_data) (all : Pass_data) (count r : ℕ) (peer : Role) (place : ℕ) (value : Value) → record { session = session; all = all; count = count } ≡ h
-      → CanChoose (core_of h.session.machines h.all.view) r (place, value) peer → r < length h.session.machines → CanPost all r peer place value
-  can_post h all count r peer place value is can low =
-      let can' : CanChoose (core_of ms all.view) r (place, value) peer = subst (λ (z : Hand_data). CanChoose (core_of z.session.machines z.all.view) r (place, value) peer) (sym is) can in
+  pub can_post : (h : Hand_data) (all : Pass_data) (count r : ℕ) (peer : Role) (place : ℕ) (arm : Arm) (value : Value) → record { session = session; all = all; count = count } ≡ h
+      → CanChooseBy (core_of h.session.machines h.all.view) r (place, value) peer arm → r < length h.session.machines → CanPost all r peer place arm value
+  can_post h all count r peer place arm value is can low =
+      let by : CanChooseBy (core_of ms all.view) r (place, value) peer arm = subst (λ (z : Hand_data). CanChooseBy (core_of z.session.machines z.all.view) r (place, value) peer arm) (sym is) can in
+      let can' : CanChoose (core_of ms all.view) r (place, value) peer = by.0 in
       let there : r < length ms = subst (λ (z : Hand_data). r < length z.session.machines) (sym is) low in
       let stands : state_of (slice_get ms r) (state_in all.view r) ≡ Some (Puts peer can'.arms) = sym (state_is ms all.view r there) ∙ can'.puts in
-      record { present = there; arms = can'.arms; arm = can'.arm; stands = stands; picks = can'.picks; has = can'.has_sort }
+      record {
+        present = there;
+        arms = can'.arms;
+        stands = stands;
+        picks = can'.picks ∙ ap (λ (a : Arm). Some a) by.1;
+        has = subst (λ (a : Arm). HasSort value a.sort) by.1 can'.has_sort;
+      }
 
   -- by which arm it is put
-  abbrev pub put_by : (all : Pass_data) (r : ℕ) (peer : Role) (place : ℕ) (value : Value) → CanPost all r peer place value → CanPutOn ms r (state_in all.view r) place value
-  put_by all r peer place value p = record { peer = peer; arm = p.arm; by = record { arms = p.arms; puts = p.stands; picks = p.picks }; has_sort = p.has }
+  abbrev pub put_by : (all : Pass_data) (r : ℕ) (peer : Role) (place : ℕ) (arm : Arm) (value : Value) → CanPost all r peer place arm value
+      → MayPut ms r peer.0 (state_in all.view r) (record { label = arm.label; value = value }) arm.next
+  put_by all r peer place arm value p = record { arms = p.arms; place = place; arm = arm; puts = p.stands; picks = p.picks; same_label = refl; has_sort = p.has; goes = refl }
 
   -- the arm of a choice at that state
   pub same_arm : (v : View) (r : ℕ) (peer : Role) (place : ℕ) (value : Value) (arms : List Arm) (a : Arm) → r < length ms → state_of (slice_get ms r) (state_in v r) ≡ Some (Puts peer arms)

@@ -54,6 +54,14 @@ arm_below session at peer arms place value stands by =
     let same = same_puts session at peer by.peer arms by.arms stands by.stands in
     slice_get_within arms place by.arm (ap (λ (l : List Arm). slice_get l place) same.arms' ∙ by.picks)
 
+-- the arm at that place, at hand
+pub arm_at_hand : (session : Rings_data) (at : Stage_data) (peer : Role) (arms : List Arm) (place : ℕ) (value : Value) (d : Arm) → state_of_stage session at ≡ Some (Puts peer arms)
+    → SendsBy session at place value → (by : SendsBy session at place value) × (by.peer ≡ peer) × (by.arm ≡ get_or arms place d)
+arm_at_hand session at peer arms place value d stands by =
+    let same = same_puts session at peer by.peer arms by.arms stands by.stands in
+    let picks : slice_get arms place ≡ Some by.arm = ap (λ (l : List Arm). slice_get l place) same.arms' ∙ by.picks in
+    (by, sym same.peers, sym (get_or_from_slice_get arms place by.arm d picks))
+
 -- one entry more
 entries_more : (h h' : History) (a : Action) (items items' : List Entry) (e : Entry) → items ≡ transcript_of h → h' ≡ h ++ a ∷ [] → items' ≡ items ++ e ∷ [] → e ≡ entry_of a
     → items' ≡ transcript_of h'

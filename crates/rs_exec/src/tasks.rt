@@ -104,6 +104,7 @@ impl<A: Actor> RoleTask<A> {
     }
 
     /// One turn: at most one act. Only the actor's own calls take memory.
+    #[inline(always)]
     pub fn turn(&mut self, alloc: Global, session: &Session) -> Turn
         requires of { IsTaskOf session.now self.old }
         ensures of { IsTaskOf session.now self.new }
@@ -148,6 +149,7 @@ impl<A: Actor> RoleTask<A> {
 }
 
 /// Puts the stage back into its empty place.
+#[inline(always)]
 fn put_back(place: &mut Option<Stage>, stage: Stage)
     requires { place.old ≡ None }
     ensures { place.new ≡ Some stage }
@@ -159,6 +161,7 @@ fn put_back(place: &mut Option<Stage>, stage: Stage)
 }
 
 impl<A: Actor> TurnTaker<A> {
+    #[inline(always)]
     fn turn(&mut self, alloc: Global, session: &Session, stage: Stage) -> (Stage, Turn)
         requires of { IsTaskOf session.now (task_with stage self.old) }
         requires in_time { IsInTime stage self.old }
@@ -184,6 +187,7 @@ impl<A: Actor> TurnTaker<A> {
         }
     }
 
+    #[inline(always)]
     fn send(&mut self, alloc: Global, session: &Session, stage: Sending) -> (Stage, Turn)
         requires of { IsTaskOf session.now (task_with (kind.Sending stage) self.old) }
         requires in_time { IsInTime (kind.Sending stage) self.old }
@@ -199,10 +203,11 @@ impl<A: Actor> TurnTaker<A> {
                 self.failed = true;
                 (Stage::Sending(stage), Turn::NoMemory)
             }
-            Ok((arm, value)) => {
-                let label = arms[arm as usize].label;
-                match stage.send(session, arm, value) {
+            Ok((place, value)) => {
+                let arm = arms[place as usize];
+                match stage.send_by(session, peer, place, arm, value) {
                     Sent::Went(next) => {
+                        let label = arm.label;
                         self.note(Entry::Sent { peer, label });
                         (next, Turn::Moved)
                     }
@@ -212,7 +217,7 @@ impl<A: Actor> TurnTaker<A> {
                         sent,
                         taken,
                     } => {
-                        self.kept = Some((arm, value));
+                        self.kept = Some((place, value));
                         (
                             Stage::Sending(stage),
                             Turn::Waits(Why::Full { peer, sent, taken }),
@@ -223,6 +228,7 @@ impl<A: Actor> TurnTaker<A> {
         }
     }
 
+    #[inline(always)]
     fn receive(&mut self, alloc: Global, session: &Session, stage: Receiving) -> (Stage, Turn)
         requires of { IsTaskOf session.now (task_with (kind.Receiving stage) self.old) }
         requires in_time { IsInTime (kind.Receiving stage) self.old }
@@ -233,7 +239,7 @@ impl<A: Actor> TurnTaker<A> {
         ensures tells { TaskTurnTells session.now A.behaviour (task_with (kind.Receiving stage) self.old) (task_with result.0 self.new) result.1 }
     {
         let (peer, arms) = receiving_arms(session, &stage);
-        match stage.receive(session) {
+        match stage.receive_by(session, peer, arms) {
             Taken::Empty { stage, seen } => (
                 Stage::Receiving(stage),
                 Turn::Waits(Why::Empty { peer, seen }),
@@ -254,6 +260,7 @@ impl<A: Actor> TurnTaker<A> {
     }
 
     /// What the role offers to send: the choice that was kept, or else what the actor chooses.
+    #[inline(always)]
     fn offer(&mut self, alloc: Global, arms: &[Arm]) -> Result<(u16, Value), NoMemory>
         requires some { arms.now ≢ [] }
         requires bounded { length arms.now ≤ 2 ^ 16 }
@@ -269,6 +276,7 @@ impl<A: Actor> TurnTaker<A> {
     }
 
     /// Appends an entry, for which there is room.
+    #[inline(always)]
     fn note(&mut self, entry: Entry)
         requires room { length self.old.entries.items < vec_capacity self.old.entries }
         ensures entries { self.new.entries.items ≡ self.old.entries.items ++ entry ∷ [] }
@@ -283,6 +291,7 @@ impl<A: Actor> TurnTaker<A> {
 }
 
 /// The peer and the arms of a role that sends.
+#[inline(always)]
 fn sending_arms<'a>(session: &'a Session, stage: &Sending) -> (Role, &'a [Arm])
     requires { IsSending session.now stage.now }
     ensures stands { state_of_stage session.now stage.now ≡ Some (Puts result.0 result.1.now) }
@@ -301,6 +310,7 @@ fn sending_arms<'a>(session: &'a Session, stage: &Sending) -> (Role, &'a [Arm])
 }
 
 /// The peer and the arms of a role that receives.
+#[inline(always)]
 fn receiving_arms<'a>(session: &'a Session, stage: &Receiving) -> (Role, &'a [Arm])
     requires { IsReceiving session.now stage.now }
     ensures { state_of_stage session.now stage.now ≡ Some (Takes result.0 result.1.now) }

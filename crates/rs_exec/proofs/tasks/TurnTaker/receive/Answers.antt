@@ -9,6 +9,10 @@ use Rattle.rs_exec.proofs.tasks.TurnTaker.receive.Goals as goal
 abbrev blank : Arm
 blank = record { label = record { 0 = 0 }; sort = Unit; next = 0 }
 
+pub receive_by-requires-clause-of : goal.receive_by-requires-clause-of
+receive_by-requires-clause-of g c =
+    (record { table = c.requires.of.of.table; peer = c.receiving_arms.result.0; arms = c.receiving_arms.result.1.now; stands = c.receiving_arms.ensures }, refl, refl)
+
 pub returns-in-Empty-clause-tells : goal.returns-in-Empty-clause-tells
 returns-in-Empty-clause-tells g c = (
   record { below = c.requires.below; limit = refl; was = c.requires.well; unfailed = c.requires.well },
