@@ -35,6 +35,7 @@ pub(crate) struct Job<A: Drop> {
 
 impl<A: Actor> Job<A> {
     /// One turn of its task.
+    #[inline(always)]
     pub(crate) fn turn(&mut self, alloc: Global, session: &Session) -> Turn
         requires of { IsTaskOf session.now self.old.task }
         ensures of { IsTaskOf session.now self.new.task }
@@ -47,6 +48,7 @@ impl<A: Actor> Job<A> {
     }
 }
 
+#[inline(always)]
 fn progress_after(turn: &Turn) -> Progress
     ensures { result ≡ progress_after turn.now }
 {
@@ -60,6 +62,7 @@ fn progress_after(turn: &Turn) -> Progress
 }
 
 /// What is counted for a job.
+#[inline(always)]
 pub(crate) fn amount_of(progress: Progress) -> u64
     ensures { result ≡ amount_of progress }
 {

@@ -29,6 +29,7 @@ pub(crate) struct WorkerSeat<A: Actor> {
 
 impl<A: Actor, N: StartName<A>> PoolTable<A, N> {
     /// One turn of the role's task, between the gate's two calls.
+    #[inline(always)]
     fn turn<G: Gate>(
         &self,
         session: &Session,
@@ -49,6 +50,7 @@ impl<A: Actor, N: StartName<A>> PoolTable<A, N> {
     }
 
     /// Turns of the role's task as long as they move it, and at most so many; whether something moved.
+    #[inline(always)]
     fn turns<G: Gate>(
         &self,
         session: &Session,
