@@ -1,6 +1,6 @@
 -- A document while a role of it is improved.
-use Rattle.std.proofs.Common.{◌≡◌, ◌⊎◌, inl, inr, ℕ, ◌<◌, ◌≤◌, List, length, Option, Some, None, Result, Ok, Err, slice_get, slice_set, refl, sym, ap, ◌∙◌, subst, arith}
-use Rattle.std.specs.Prelude.{IfErr, IfOk}
+use Rattle.std.proofs.Common.{◌≡◌, ◌⊎◌, inl, inr, ℕ, ◌<◌, List, length, Option, Some, None, Result, Ok, Err, slice_get, slice_set, sym, ap, ◌∙◌, subst, arith}
+use Rattle.std.specs.Prelude.{IfOk}
 use Rattle.std.proofs.lemmas.Option.{slice_get_within}
 use Rattle.rs_derive.specs.Data.{Derivation_data}
 use Rattle.rs_derive.specs.Derivations.{IsProper}
@@ -14,7 +14,6 @@ use Rattle.rs_improve.specs.Improved.{IsImproved, RefusesToImprove}
 use Rattle.rs_improve.specs.declared.improving.ImproveFault.TheVariants.{TooLarge}
 use Rattle.rs_model.proofs.Lists.{item_at}
 use Rattle.rs_model.specs.Data.{Machine_data}
-use Rattle.rs_model.specs.declared.limits.TheConstants.{MOST_STATES}
 use Rattle.rs_model.specs.declared.memory.NoMemory.{NoMemory}
 use Rattle.rs_project.specs.Data.{Projection_data}
 use Rattle.rs_text.proofs.Numbers.{place_below}

@@ -1,11 +1,10 @@
 -- There is one answer of `improve` to a document, and no other.
-use Rattle.std.proofs.Common.{◌≡◌, ℕ, ◌<◌, ◌++◌, List, length, Option, Some, None, slice_get, slice_set, refl, sym, ap, ◌∙◌, subst, arith}
+use Rattle.std.proofs.Common.{◌≡◌, ℕ, ◌<◌, ◌++◌, List, length, Option, Some, None, slice_get, refl, sym, ap, ◌∙◌, subst, arith}
 use Rattle.rs_derive.specs.Data.{Derivation_data}
 use Rattle.rs_documents.proofs.OneCanonical.{one_text_each, some_lines}
 use Rattle.rs_documents.proofs.SpeltAgain.{spelt_again}
 use Rattle.rs_documents.proofs.SpeltSessions.{IsSpeltSession, spelt_session}
-use Rattle.rs_documents.specs.Again.{CanBeReadAgain}
-use Rattle.rs_documents.specs.Canonical.{AreShown, CanBeShown, IsCanonicalDocument, derivations_text}
+use Rattle.rs_documents.specs.Canonical.{AreShown, IsCanonicalDocument, derivations_text}
 use Rattle.rs_documents.specs.Data.{Document_data}
 use Rattle.rs_documents.specs.Documents.{SpellsDocument}
 use Rattle.rs_global.proofs.Canonical.{canonical_is_there, canonical_text_is_one}
@@ -27,7 +26,6 @@ use Rattle.rs_answers.specs.Derivations.{AreCanonical}
 use Rattle.rs_answers.specs.Improves.{HasNoRole, Improves, IsImprovedSession, IsRefused, IsShown, ShowsBehind, improved_document, swaps_line, unknown_role, with_own}
 use Rattle.rs_answers.specs.Refusals.{HasNoDerivations, refusal_answer}
 use Rattle.rs_answers.specs.Sessions.{HasMachines}
-use Rattle.rs_answers.specs.declared.refusals.Refusal.{Refusal}
 use Rattle.rs_answers.specs.declared.verdicts.Verdict.TheVariants.{Fine}
 use Rattle.rs_answers.proofs.ImprovedSessions.{above_fits, runs_its_projection, shown_as_improved, spelt_without}
 use Rattle.rs_answers.proofs.OneReason.{not_refused, one_refusal, one_session_derived, same_session}

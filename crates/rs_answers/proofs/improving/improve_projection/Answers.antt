@@ -1,8 +1,7 @@
-use Rattle.std.proofs.Common.{◌≡◌, ◌∙◌, ℕ, ap, sym, subst, Some, slice_get}
+use Rattle.std.proofs.Common.{◌≡◌, ◌∙◌, ℕ, ap, sym, subst}
 use Rattle.std.proofs.lemmas.Option.{same_Some}
 use Rattle.rs_derive.specs.Derivations.{IsProper}
 use Rattle.rs_improve.specs.Improved.{IsImproved, RefusesToImprove}
-use Rattle.rs_improve.specs.declared.improving.ImproveFault.{ImproveFault}
 use Rattle.rs_improve.specs.declared.improving.ImproveFault.TheVariants.{TooLarge}
 use Rattle.rs_model.specs.Data.{Machine_data}
 use Rattle.rs_project.specs.Data.{Projection_data}
