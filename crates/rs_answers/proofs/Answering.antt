@@ -1,5 +1,5 @@
 -- What an answer that was made says of its document.
-use Rattle.std.proofs.Common.{◌≡◌, ℕ, ◌⊎◌, List, Bool, true, false, Some, None, Result, Ok, Err, refl, sym, ap, subst, inl, inr}
+use Rattle.std.proofs.Common.{◌≡◌, ℕ, ◌⊎◌, List, Bool, true, false, Option, Some, None, Result, Ok, Err, refl, sym, ap, ap₂, ◌∙◌, subst, inl, inr}
 use Rattle.std.specs.Prelude.{IfOk, IfErr, IsErrAnd}
 use Rattle.rs_model.specs.Data.{Machine_data}
 use Rattle.rs_model.specs.declared.checks.MachineFault.{MachineFault}
@@ -13,13 +13,16 @@ use Rattle.rs_derive.specs.Data.{Derivation_data}
 use Rattle.rs_search.specs.declared.faults.SearchFault.{SearchFault}
 use Rattle.rs_search.specs.declared.faults.SearchFault.TheVariants as search
 use Rattle.rs_answers.specs.Derivations.{AreCanonical, IsUnderivable}
+use Rattle.rs_wellformed.proofs.Faults.{no_fault}
 use Rattle.rs_wellformed.specs.Faults.{first_fault}
 use Rattle.rs_wellformed.specs.declared.checks.WfFault.{WfFault}
 use Rattle.rs_answers.specs.declared.verdicts.Verdict.TheVariants as verdict
 use Rattle.rs_answers.specs.Checks as checks
 use Rattle.rs_answers.specs.Checks.{Checks, with_derivations}
 use Rattle.rs_documents.specs.Data.{Document_data}
+use Rattle.rs_documents.specs.Ready.{DocumentIsReady}
 use Rattle.rs_answers.specs.Data.{Answer_data}
+use Rattle.rs_answers.specs.OwnMachines.{first_own_refusal}
 use Rattle.rs_answers.specs.RefusalTexts.{wf_answer, proj_answer}
 use Rattle.rs_answers.specs.Refusals.{HasNoDerivations, HasNoSession, IsIllFormed, HasNoProjection, HasIllMachine, IsWithoutSession, HasNoDerivation, of_projecting, of_searching, refusal_answer}
 use Rattle.rs_answers.specs.declared.derivations.Underivable.{Underivable}
@@ -30,6 +33,7 @@ use Rattle.rs_answers.specs.Sessions.{HasMachines, Refuses, first_refusal, machi
 use Rattle.rs_answers.specs.Shown.{Shows}
 use Rattle.rs_answers.specs.Tables as tables
 use Rattle.rs_answers.specs.Tables.{Projects}
+use Rattle.rs_answers.proofs.EachRole.{first_is_own}
 
 -- an answer that was made is the one that is meant
 meant : (P : Answer_data → Type 0) (r : Result Answer_data NoMemory) (a : Answer_data) → IfOk r (λ m. m ≡ a) → ((m : Answer_data) → m ≡ a → P m) → IfOk r P
@@ -79,6 +83,17 @@ ill_machine d ps ms role f none h e s =
 pub has_machines : (d : Document_data) (ps : List Projection_data) (ms : List Machine_data) → first_fault d.protocol ≡ None → AreNumberedProjections d.protocol ps → ms ≡ machines_of d.machines ps
     → first_refusal d.protocol.roles ms ≡ None → HasMachines d ps ms
 has_machines d ps ms none h e s = record { projections_are = record { well_formed = none; projected = h }; machines_are = e; well_formed = s }
+
+-- where the protocol has projections, its own machines tell whether it has a session
+pub ill_own : (d : Document_data) (ps : List Projection_data) (own : List (Option Machine_data)) (roles : ℕ) (role : Role) (f : MachineFault) → DocumentIsReady d → first_fault d.protocol ≡ None
+    → AreNumberedProjections d.protocol ps → own ≡ d.machines → roles ≡ d.protocol.roles → first_own_refusal roles own ≡ Some (record { role = role; fault = f }) → HasNoSession d (refusal.IllMachine role f)
+ill_own d ps own roles role f ready none h machines many is =
+    ill_machine d ps (machines_of d.machines ps) role f none h refl (first_is_own d ps ready (no_fault d.protocol none) h ∙ sym (ap₂ first_own_refusal many machines) ∙ is)
+
+pub has_own : (d : Document_data) (ps : List Projection_data) (own : List (Option Machine_data)) (roles : ℕ) → DocumentIsReady d → first_fault d.protocol ≡ None → AreNumberedProjections d.protocol ps
+    → own ≡ d.machines → roles ≡ d.protocol.roles → first_own_refusal roles own ≡ None → HasMachines d ps (machines_of d.machines ps)
+has_own d ps own roles ready none h machines many is =
+    has_machines d ps (machines_of d.machines ps) none h refl (first_is_own d ps ready (no_fault d.protocol none) h ∙ sym (ap₂ first_own_refusal many machines) ∙ is)
 
 pub no_derivation : (bound : ℕ) (d : Document_data) (ps : List Projection_data) (ms : List Machine_data) (u : Underivable) → HasMachines d ps ms
     → (u.fault ≡ search.NoMemory) ⊎ IsUnderivable bound ms ps u.role u.fault

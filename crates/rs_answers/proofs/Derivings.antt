@@ -1,5 +1,5 @@
 -- The session of a document, and the derivations that are found for it.
-use Rattle.std.proofs.Common.{◌≡◌, ◌⊎◌, inl, inr, ℕ, zero, suc, ◌+◌, ◌<◌, List, [], ◌∷◌, ◌++◌, All, length, Option, Some, None, slice_get, get_or, refl, sym, ap, ◌∙◌, subst, arith, length-append}
+use Rattle.std.proofs.Common.{◌≡◌, ◌⊎◌, inl, inr, ℕ, zero, suc, ◌+◌, List, [], ◌∷◌, ◌++◌, All, length, Option, Some, None, slice_get, get_or, refl, sym, ap, ◌∙◌, subst, arith, length-append}
 use Rattle.std.proofs.lemmas.Option.{slice_get-get_or, slice_get_within, same_Some}
 use Rattle.rs_model.specs.Data.{Machine_data, Protocol_data}
 use Rattle.rs_model.specs.Faults.{first_fault}
@@ -9,14 +9,13 @@ use Rattle.rs_model.specs.declared.graph.Role.{Role}
 use Rattle.rs_model.proofs.Faults as of_machines
 use Rattle.rs_core.specs.Safety.{IsSafe}
 use Rattle.rs_derive.specs.Data.{Derivation_data}
-use Rattle.rs_derive.specs.Derivations.{IsProper}
 use Rattle.rs_derive.specs.declared.faults.DeriveFault.{DeriveFault}
 use Rattle.rs_project.specs.Data.{Projection_data}
 use Rattle.rs_project.specs.Numbered.{AreNumberedProjections}
 use Rattle.rs_safety.specs.Accepting.{FirstRefused}
 use Rattle.rs_safety.specs.Sessions.{AreDerivations, AreOneEach, IsSession}
 use Rattle.rs_safety.specs.Figures.{OwesFew}
-use Rattle.rs_safety.proofs.Accepts.{accepted_safe, accepted_session, all_owe_few_shown, gets, machine_proper, projection_proper}
+use Rattle.rs_safety.proofs.Accepts.{accepted_safe, accepted_session, all_owe_few_shown, machine_proper, projection_proper}
 use Rattle.rs_safety.proofs.Sessions.{no_machine, no_projection}
 use Rattle.rs_search.proofs.Accepted.{accepted, derives, remembers}
 use Rattle.rs_search.proofs.Determined.{few_nodes}
@@ -202,13 +201,3 @@ never_refused bound pr ps ms ds place cause s h r =
     let none = accepted r.machine r.projection.machine bound r.derivation (machine_proper pr ps ms s place r.machine r.runs) (projection_proper pr ps ms s place r.projection r.projects) f in
     let fault = r.fault in
     cc (none, fault)
-
--- the machines are as the search asks
-pub ours_proper : (pr : Protocol_data) (ps : List Projection_data) (ms : List Machine_data) → IsSession pr ps ms → (place : ℕ) (m : Machine_data) → place < length ms → m ≡ get_or ms place m
-    → IsProper m
-ours_proper pr ps ms s place m h e = machine_proper pr ps ms s place m (gets ms place m h e)
-
--- a projection stands at each place of a machine
-pub projects_at : (pr : Protocol_data) (ps : List Projection_data) (ms : List Machine_data) → IsSession pr ps ms → (place : ℕ) (j : Projection_data) → place < length ms → j ≡ get_or ps place j
-    → slice_get ps place ≡ Some j
-projects_at pr ps ms s place j h e = gets ps place j (omega (arith, h, s.a_machine_each, s.projected.many)) e

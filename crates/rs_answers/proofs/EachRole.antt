@@ -1,10 +1,11 @@
 -- The projections and machines of a session, as they are found one by one.
 use Rattle.std.proofs.Common.{min, drop, append-nil, slice_index_or, ◌≡◌, ◌⊎◌, ℕ, zero, suc, ◌+◌, ◌<◌, ◌≤◌, List, [], ◌∷◌, ◌++◌, length, Option, Some, None, refl, sym, ap, subst, ◌∙◌, inl, inr}
-use Rattle.std.proofs.Common.{arith, slice_get, length-append}
-use Rattle.std.proofs.lemmas.Option.{same_Some, slice_get-get_or, slice_get_within}
+use Rattle.std.proofs.Common.{All, IfSome, arith, slice_get, length-append}
+use Rattle.std.proofs.lemmas.Option.{slice_get-get_or, slice_get_within}
 use Rattle.rs_model.specs.Data.{Protocol_data, Machine_data}
 use Rattle.rs_model.proofs.Faults.{right}
 use Rattle.rs_model.specs.Faults.{first_fault}
+use Rattle.rs_model.specs.declared.checks.MachineFault.{MachineFault}
 use Rattle.rs_model.specs.declared.limits.TheConstants.{MOST_STATES}
 use Rattle.rs_project.proofs.Machines.{projection_machine}
 use Rattle.rs_project.specs.Data.{Projection_data}
@@ -16,7 +17,8 @@ use Rattle.rs_project.specs.declared.projecting.ProjFault.TheVariants as proj
 use Rattle.rs_wellformed.specs.WellFormed.{IsWellFormed}
 use Rattle.rs_documents.specs.Data.{Document_data}
 use Rattle.rs_documents.specs.Ready.{AreShort, DocumentIsReady}
-use Rattle.rs_answers.specs.Sessions.{OthersHaveNoFault, Refuses, first_refusal, machine_or, machines_of, refusal_or}
+use Rattle.rs_answers.specs.OwnMachines.{first_own_refusal}
+use Rattle.rs_answers.specs.Sessions.{MachineRefusal, Refuses, first_refusal, machine_or, machines_of, refusal_or}
 
 pub last_or_before : {A : Type 0} (xs : List A) (y : A) (q : ℕ) (x : A) → slice_get (xs ++ y ∷ []) q ≡ Some x → (slice_get xs q ≡ Some x) ⊎ ((q ≡ length xs) × (y ≡ x))
 last_or_before [] y zero x e = inr (refl, cc)
@@ -124,49 +126,36 @@ chosen_small_by d own projections machines e ready h is =
 pub projections_are : (protocol : Protocol_data) (projections : List Projection_data) → AreNumberedProjections protocol projections → AreProjections protocol projections
 projections_are protocol projections h = record { many = h.many; each = λ p projection e. let x = h.each p projection e in x.is_projection }
 
--- where nothing is said against the machine at a place, the same is refused from the next one on
-pub passed : (roles : ℕ) (machines : List Machine_data) (place : ℕ) (m : Machine_data) → slice_get machines place ≡ Some m → first_fault m roles ≡ None
-    → first_refusal roles (drop (suc place) machines) ≡ first_refusal roles (drop place machines)
-passed roles [] place m e none = absurd cc
-passed roles (x ∷ machines) zero m e none =
-    let same : x ≡ m = cc (e) in
-    let fine : first_fault x roles ≡ None = ap (λ (z : Machine_data). first_fault z roles) same ∙ none in
-    sym (ap (λ o. refusal_or o x.role (first_refusal roles machines)) fine)
-passed roles (x ∷ machines) (suc place) m e none = passed roles machines place m e none
+-- the machine of a projection is well formed
+projection_fits : (protocol : Protocol_data) (projections : List Projection_data) → IsWellFormed protocol → AreNumberedProjections protocol projections
+    → (place : ℕ) (p : Projection_data) → slice_get projections place ≡ Some p → first_fault p.machine protocol.roles ≡ None
+projection_fits protocol projections well h place p at =
+    let known : place < length projections = slice_get_within projections place p at in
+    right p.machine protocol.roles
+    (projection_machine protocol (record { 0 = place }) p well (let many = h.many in omega (arith, known, many)) (h.each place p at).is_projection)
 
--- so it is at a place without an own machine
-pub other_passed : (roles : ℕ) (own : List (Option Machine_data)) (machines : List Machine_data) (place : ℕ) (o : Option Machine_data) (m : Machine_data) → OthersHaveNoFault roles own machines
-    → place < length own → place < length machines → o ≡ slice_index_or own place o → o ≡ None → m ≡ slice_index_or machines place m
-    → first_refusal roles (drop (place + 1) machines) ≡ first_refusal roles (drop place machines)
-other_passed roles own machines place o m others there known is none stands =
-    let here : slice_get own place ≡ Some None = slice_get-get_or own place o there ∙ ap Some (sym is ∙ none) in
-    let at : slice_get machines place ≡ Some m = slice_get-get_or machines place m known ∙ ap Some (sym stands) in
-    let next : place + 1 ≡ suc place = omega arith in
-    ap (λ (n : ℕ). first_refusal roles (drop n machines)) next ∙ passed roles machines place m at (others place m here at)
+-- so the first machine that isn't well formed is an own one
+refused_of_own : (roles : ℕ) (own : List (Option Machine_data)) (projections : List Projection_data) → length own ≡ length projections
+    → ((place : ℕ) (p : Projection_data) → slice_get projections place ≡ Some p → first_fault p.machine roles ≡ None)
+    → first_refusal roles (machines_of own projections) ≡ first_own_refusal roles own
+refused_of_own roles [] projections e fit = refl
+refused_of_own roles (x ∷ own) [] e fit = absurd cc
+refused_of_own roles (None ∷ own) (p ∷ projections) e fit =
+    ap (λ (o : Option MachineFault). refusal_or o p.machine.role (first_refusal roles (machines_of own projections))) (fit 0 p refl)
+    ∙ refused_of_own roles own projections (cc (e)) (λ place q at. fit (suc place) q at)
+refused_of_own roles (Some m ∷ own) (p ∷ projections) e fit =
+    ap (λ (later : Option MachineRefusal). refusal_or (first_fault m roles) m.role later)
+    (refused_of_own roles own projections (cc (e)) (λ place q at. fit (suc place) q at))
 
--- where there is no own machine, it's the projection's
-chosen_projection : (own : List (Option Machine_data)) (projections : List Projection_data) (place : ℕ) (m : Machine_data) → slice_get own place ≡ Some None
-    → slice_get (machines_of own projections) place ≡ Some m → (p : Projection_data) × (slice_get projections place ≡ Some p) × (p.machine ≡ m)
-chosen_projection [] projections place m none e = absurd cc
-chosen_projection (x ∷ own) [] place m none e = absurd cc
-chosen_projection (Some y ∷ own) (p ∷ projections) zero m none e = absurd cc
-chosen_projection (None ∷ own) (p ∷ projections) zero m none e = (p, refl, cc (e))
-chosen_projection (x ∷ own) (p ∷ projections) (suc place) m none e = chosen_projection own projections place m none e
+pub first_is_own : (d : Document_data) (projections : List Projection_data) → DocumentIsReady d → IsWellFormed d.protocol → AreNumberedProjections d.protocol projections
+    → first_refusal d.protocol.roles (machines_of d.machines projections) ≡ first_own_refusal d.protocol.roles d.machines
+first_is_own d projections ready well h =
+    refused_of_own d.protocol.roles d.machines projections (sizes d.machines d projections refl ready ready.a_name_each h) (projection_fits d.protocol projections well h)
 
--- so it is the projection's at that place
-pub same_as_projection : (own : List (Option Machine_data)) (projections : List Projection_data) (machines : List Machine_data) (place : ℕ) (m : Machine_data) (p : Projection_data)
-    → machines ≡ machines_of own projections → slice_get own place ≡ Some None → slice_get machines place ≡ Some m → slice_get projections place ≡ Some p → m ≡ p.machine
-same_as_projection own projections machines place m p is none e at =
-    let P : List Machine_data → Type 0 = λ z. slice_get z place ≡ Some m in
-    let c = chosen_projection own projections place m none (subst P is e) in
-    sym c.2 ∙ ap (λ (z : Projection_data). z.machine) (same_Some c.0 p (sym c.1 ∙ at))
+-- no own machine has many states
+small_own : (o : Option Machine_data) → ((m : Machine_data) → o ≡ Some m → length m.states ≤ MOST_STATES) → IfSome o (λ m. length m.states < 4294967296)
+small_own None short = tt
+small_own (Some m) short = (let few = short m refl in omega (arith, few))
 
--- what isn't an own machine is well formed
-pub others_have_no_fault : (protocol : Protocol_data) (own : List (Option Machine_data)) (projections : List Projection_data) (machines : List Machine_data) → IsWellFormed protocol
-    → AreNumberedProjections protocol projections → machines ≡ machines_of own projections → OthersHaveNoFault protocol.roles own machines
-others_have_no_fault protocol own projections machines well h is place m none e =
-    let P : List Machine_data → Type 0 = λ z. slice_get z place ≡ Some m in
-    let c = chosen_projection own projections place m none (subst P is e) in
-    let known : place < length projections = slice_get_within projections place c.0 c.1 in
-    let fits = projection_machine protocol (record { 0 = place }) c.0 well (let many = h.many in omega (arith, known, many)) (h.each place c.0 c.1).is_projection in
-    subst (λ (z : Machine_data). first_fault z protocol.roles ≡ None) c.2 (right c.0.machine protocol.roles fits)
+pub all_small : (own : List (Option Machine_data)) → AreShort own → All (λ (o : Option Machine_data). IfSome o (λ m. length m.states < 4294967296)) own
+all_small own short k o known = small_own (slice_index_or own k o) (λ m is. short k m (slice_get-get_or own k o known ∙ ap Some is))

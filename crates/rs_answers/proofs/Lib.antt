@@ -1,5 +1,6 @@
 pub mod EachRole
 pub mod Derivings
+pub mod Figuring
 pub mod Answering
 pub mod Reporting
 pub mod Outcomes

@@ -4,11 +4,13 @@ pub mod Data
 pub mod DemoSessions
 pub mod Demos
 pub mod Derivations
+pub mod Figures
 pub mod Improves
 pub mod Improving
 pub mod Lines
 pub mod Machines
 pub mod Migrates
+pub mod OwnMachines
 pub mod Pools
 pub mod Ready
 pub mod RefusalTexts

@@ -1,5 +1,5 @@
 -- Public: the session of a document: its projections and its machines.
-use Rattle.std.specs.Prelude.{◌≡◌, ℕ, ◌<◌, List, [], ◌∷◌, Option, Some, None, slice_get}
+use Rattle.std.specs.Prelude.{◌≡◌, ℕ, ◌<◌, List, [], ◌∷◌, Option, Some, None}
 use Rattle.rs_model.specs.Data.{Machine_data, Protocol_data}
 use Rattle.rs_model.specs.Faults.{first_fault}
 use Rattle.rs_model.specs.declared.checks.MachineFault.{MachineFault}
@@ -42,10 +42,6 @@ refusal_or None role later = later
 abbrev pub first_refusal : ℕ → List Machine_data → Option MachineRefusal
 first_refusal roles [] = None
 first_refusal roles (machine ∷ machines) = refusal_or (first_fault machine roles) machine.role (first_refusal roles machines)
-
--- the machines of roles without an own one are well formed
-abbrev pub OthersHaveNoFault : ℕ → List (Option Machine_data) → List Machine_data → Type 0
-OthersHaveNoFault roles own machines = (place : ℕ) (m : Machine_data) → slice_get own place ≡ Some None → slice_get machines place ≡ Some m → first_fault m roles ≡ None
 
 -- these are the document's projections, and its machines are well formed
 pub record HasMachines (d : Document_data) (projections : List Projection_data) (machines : List Machine_data) : Type 0 where

@@ -7,8 +7,9 @@ ghost use Rattle.rs_documents.specs.Ready.{DocumentIsReady};
 
 use crate::answers::Answer;
 use crate::derivations::derived_session;
+use crate::figures::session_figures;
+use crate::lines::report_by_figures;
 use crate::refusals::refusal_answer;
-use crate::reports::report;
 use crate::shown::show;
 use rs_derive::Derivation;
 use rs_documents::Document;
@@ -16,18 +17,14 @@ use rs_model::{Bound, NoMemory};
 use std::alloc::Global;
 
 /// What `check` answers to a document, with a search within the bound: the first reason to refuse it, else the report of
-/// its session, with the figures of the derivations that were found.
+/// its session, with the figures of its derivations.
 pub fn check(alloc: Global, document: &Document, bound: Bound) -> Result<Answer, NoMemory>
     requires ready { DocumentIsReady document.now }
     ensures { IfOk result (Checks bound false document.now) }
 {
     let names = &document.names;
-    match derived_session(alloc, document, bound) {
-        Ok(session) => report(
-            alloc,
-            names.roles.as_slice(),
-            session.derivations.as_slice(),
-        ),
+    match session_figures(alloc, document, bound) {
+        Ok(figures) => report_by_figures(alloc, names.roles.as_slice(), figures.as_slice()),
         Err(refusal) => refusal_answer(alloc, names, refusal),
     }
 }

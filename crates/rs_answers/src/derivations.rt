@@ -1,13 +1,13 @@
 //! The derivations of a session, role by role.
 
-ghost use Rattle.std.specs.Prelude.{◌≡◌, ◌⊎◌, IfOk, IfErr, OnOk, None, Some, length, slice_get, true};
+ghost use Rattle.std.specs.Prelude.{◌≡◌, ◌⊎◌, IfOk, IfErr, OnOk};
 ghost use Rattle.rs_model.specs.Data.{Protocol_data};
 ghost use Rattle.rs_derive.specs.Derivations.{IsProper};
 ghost use Rattle.rs_model.specs.Limits.{IsBound};
 ghost use Rattle.rs_search.specs.Canonical.{IsCanonical, SearchRefuses};
 ghost use Rattle.rs_safety.specs.Sessions.{IsSession};
 ghost use Rattle.rs_answers.specs.Derivations.{AreCanonical, IsUnderivable};
-ghost use Rattle.rs_answers.specs.Machines.{machines_of};
+ghost use Rattle.rs_answers.specs.Machines.{machine_or, machines_of};
 ghost use Rattle.rs_documents.specs.Ready.{DocumentIsReady};
 ghost use Rattle.rs_answers.specs.Refusals.{HasNoDerivations};
 ghost use Rattle.rs_answers.specs.Sessions.{HasMachines};
@@ -28,31 +28,22 @@ pub struct Underivable {
     pub fault: SearchFault,
 }
 
-// Whether the role at that place has no machine of its own, and so runs its projection.
-fn runs_projection(own: &[Option<Machine>], place: usize) -> bool
-    ensures { result ≡ true → slice_get own.now place ≡ Some None }
-{
-    matches!(own.get(place), Some(None))
-}
-
-// The canonical derivation of a role's machine from its projection, where it may be known that they are the same.
+// The canonical derivation of a role's own machine from its projection; without one, of the projection from itself.
 fn derivation_of(
     alloc: Global,
-    is_projection: bool,
-    machine: &Machine,
-    projection: &Machine,
+    own: &Option<Machine>,
+    projection: &Projection,
     bound: u8,
 ) -> Result<Derivation, SearchFault>
-    requires ours { IsProper machine.now }
-    requires theirs { IsProper projection.now }
-    requires same { is_projection ≡ true → machine.now ≡ projection.now }
-    ensures ok { IfOk result (λ d. IsCanonical machine.now projection.now bound d) }
-    ensures err { IfErr result (λ e. SearchRefuses machine.now projection.now bound e) }
+    requires ours { IsProper (machine_or own.now projection.now) }
+    requires theirs { IsProper projection.now.machine }
+    ensures ok { IfOk result (λ d. IsCanonical (machine_or own.now projection.now) projection.now.machine bound d) }
+    ensures err { IfErr result (λ e. SearchRefuses (machine_or own.now projection.now) projection.now.machine bound e) }
 {
-    if is_projection {
-        return search_own(alloc, machine, bound);
+    match own {
+        Some(machine) => search(alloc, machine, &projection.machine, bound),
+        None => search_own(alloc, &projection.machine, bound),
     }
-    search(alloc, machine, projection, bound)
 }
 
 /// The canonical derivations of a session's machines from their projections within the bound, in role order; or the first
@@ -61,26 +52,16 @@ pub fn derivations_of(
     alloc: Global,
     own: &[Option<Machine>],
     projections: &[Projection],
-    machines: &[Machine],
     bound: u8,
 ) -> Result<Vec<Derivation>, Underivable>
-    requires session { (protocol : Protocol_data) × IsSession protocol projections.now machines.now }
-    requires machines { machines.now ≡ machines_of own.now projections.now }
-    ensures ok { IfOk result (λ derivations. AreCanonical bound machines.now projections.now derivations.items) }
-    ensures err { IfErr result (λ u. (u.fault ≡ SearchFault.NoMemory) ⊎ IsUnderivable bound machines.now projections.now u.role u.fault) }
+    requires session { (protocol : Protocol_data) × IsSession protocol projections.now (machines_of own.now projections.now) }
+    ensures ok { IfOk result (λ derivations. AreCanonical bound (machines_of own.now projections.now) projections.now derivations.items) }
+    ensures err { IfErr result (λ u. (u.fault ≡ SearchFault.NoMemory) ⊎ IsUnderivable bound (machines_of own.now projections.now) projections.now u.role u.fault) }
 {
     let mut derivations = Vec::new(alloc);
-    for place in 0..machines.len() {
+    for place in 0..projections.len() {
         let role = Role(place as u8);
-        let projection = &projections[place];
-        let is_projection = runs_projection(own, place);
-        let derivation = match derivation_of(
-            alloc,
-            is_projection,
-            &machines[place],
-            &projection.machine,
-            bound,
-        ) {
+        let derivation = match derivation_of(alloc, &own[place], &projections[place], bound) {
             Ok(derivation) => derivation,
             Err(fault) => return Err(Underivable { role, fault }),
         };
@@ -121,13 +102,7 @@ pub fn derived_session(
         machines,
     } = session_of(alloc, document)?;
     let own = document.machines.as_slice();
-    let derivations = derivations_of(
-        alloc,
-        own,
-        projections.as_slice(),
-        machines.as_slice(),
-        bound.number(),
-    )?;
+    let derivations = derivations_of(alloc, own, projections.as_slice(), bound.number())?;
     Ok(DerivedSession {
         projections,
         machines,

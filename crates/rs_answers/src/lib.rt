@@ -6,6 +6,7 @@ mod answers;
 mod checks;
 mod demos;
 mod derivations;
+mod figures;
 mod improving;
 pub mod laws;
 mod limits;

@@ -5,7 +5,8 @@ ghost use Rattle.std.specs.List.{All};
 ghost use Rattle.rs_project.specs.Numbered.{AreNumberedProjections};
 ghost use Rattle.rs_documents.specs.Ready.{DocumentIsReady};
 ghost use Rattle.rs_answers.specs.Refusals.{HasNoSession};
-ghost use Rattle.rs_answers.specs.Sessions.{HasMachines, OthersHaveNoFault, Refuses, first_refusal, machine_or, machines_of};
+ghost use Rattle.rs_answers.specs.OwnMachines.{first_own_refusal};
+ghost use Rattle.rs_answers.specs.Sessions.{HasMachines, Refuses, machine_or, machines_of};
 ghost use Rattle.rs_wellformed.specs.WellFormed.{IsWellFormed};
 
 use crate::refusals::Refusal;
@@ -70,27 +71,38 @@ pub fn machines_of(
     Ok(machines)
 }
 
-/// The first machine among so many roles that isn't well formed: its role and its first fault. Only the roles' own machines
-/// are tested, since the others are projections.
-pub fn first_refusal(
-    own: &[Option<Machine>],
-    machines: &[Machine],
-    roles: u8,
-) -> Option<(Role, MachineFault)>
-    requires small { All (λ m. length m.states < 2 ^ 32) machines.now }
-    requires others { OthersHaveNoFault roles own.now machines.now }
-    ensures some { IfSome result (λ r. first_refusal roles machines.now ≡ Some (record { role = r.0; fault = r.1 })) }
-    ensures none { IfNone result (first_refusal roles machines.now ≡ None) }
+/// The first of the roles' own machines that isn't well formed among so many roles: its role and its first fault. The machines of
+/// the other roles are projections, and need no test.
+fn first_refusal(own: &[Option<Machine>], roles: u8) -> Option<(Role, MachineFault)>
+    requires { All (λ held. IfSome held (λ m. length m.states < 2 ^ 32)) own.now }
+    ensures some { IfSome result (λ r. first_own_refusal roles own.now ≡ Some (record { role = r.0; fault = r.1 })) }
+    ensures none { IfNone result (first_own_refusal roles own.now ≡ None) }
 {
-    for (place, machine) in machines.iter().enumerate() {
-        if let Some(None) = own.get(place) {
+    for held in own {
+        let Some(machine) = held else {
             continue;
-        }
+        };
         if let Err(fault) = machine.check(roles) {
             return Some((machine.role, fault));
         }
     }
     None
+}
+
+/// The projections of the document's session, where its own machines are well formed; or the first reason why it has no
+/// session.
+pub fn session_projections(alloc: Global, document: &Document) -> Result<Vec<Projection>, Refusal>
+    requires { DocumentIsReady document.now }
+    ensures ok { IfOk result (λ projections. HasMachines document.now projections.items (machines_of document.now.machines projections.items)) }
+    ensures err { IfErr result (λ r. (r ≡ Refusal.NoMemory) ⊎ HasNoSession document.now r) }
+{
+    let protocol = &document.protocol;
+    well_formed(protocol)?;
+    let projections = projections_of(alloc, protocol)?;
+    match first_refusal(document.machines.as_slice(), protocol.roles) {
+        Some((role, fault)) => Err(Refusal::IllMachine { role, fault }),
+        None => Ok(projections),
+    }
 }
 
 /// The session of the document; or the first reason why it has none.
@@ -99,16 +111,11 @@ pub fn session_of(alloc: Global, document: &Document) -> Result<ProjectedSession
     ensures ok { IfOk result (λ s. HasMachines document.now s.projections.items s.machines.items) }
     ensures err { IfErr result (λ r. (r ≡ Refusal.NoMemory) ⊎ HasNoSession document.now r) }
 {
-    let protocol = &document.protocol;
-    well_formed(protocol)?;
-    let projections = projections_of(alloc, protocol)?;
+    let projections = session_projections(alloc, document)?;
     let own = document.machines.as_slice();
     let machines = machines_of(alloc, own, projections.as_slice())?;
-    match first_refusal(own, machines.as_slice(), protocol.roles) {
-        Some((role, fault)) => Err(Refusal::IllMachine { role, fault }),
-        None => Ok(ProjectedSession {
-            projections,
-            machines,
-        }),
-    }
+    Ok(ProjectedSession {
+        projections,
+        machines,
+    })
 }

@@ -204,13 +204,7 @@ fn explain_session(
     ensures { IfOk result (ExplainsBy places.now bound document.now) }
 {
     let own = document.machines.as_slice();
-    match derivations_of(
-        alloc,
-        own,
-        session.projections.as_slice(),
-        session.machines.as_slice(),
-        bound.number(),
-    ) {
+    match derivations_of(alloc, own, session.projections.as_slice(), bound.number()) {
         Ok(derivations) => explain_accepted(
             alloc,
             document,

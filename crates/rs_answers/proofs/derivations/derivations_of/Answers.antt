@@ -1,54 +1,40 @@
-use Rattle.std.proofs.Common.{rules, ◌≡◌, ◌∷◌, ◌++◌, ◌+◌, ◌∙◌, [], List, sym, ap, subst}
+use Rattle.std.proofs.Common.{rules, ◌≡◌, ◌∷◌, ◌++◌, ◌+◌, [], List, sym, subst}
 use Rattle.rs_derive.specs.Data.{Derivation_data}
-use Rattle.rs_derive.specs.Derivations.{IsProper}
-use Rattle.rs_model.specs.Data.{Machine_data}
-use Rattle.rs_project.specs.Data.{Projection_data}
-use Rattle.rs_safety.proofs.Accepts.{gets, projection_proper}
-use Rattle.rs_search.specs.Canonical.{IsCanonical, SearchRefuses}
 use Rattle.rs_answers.specs.Derivations.{AreFirstCanonical}
-use Rattle.rs_answers.proofs.Derivings.{next_canonical, ours_proper, projects_at, underivable}
-use Rattle.rs_answers.proofs.EachRole.{same_as_projection}
+use Rattle.rs_answers.specs.Machines.{machine_or, machines_of}
+use Rattle.rs_answers.proofs.Derivings.{next_canonical, underivable}
+use Rattle.rs_answers.proofs.Figuring.{place_of_role, role_at}
 use Rattle.rs_answers.proofs.derivations.derivations_of.Goals as goal
+
+pub bounds-own-place : goal.bounds-own-place
+bounds-own-place c = place_of_role c.requires.session.0 c.args.own.now c.args.projections.now c.requires.session.1 c.loop-place.place (search rules)
 
 pub derivation_of-requires-clause-ours : goal.derivation_of-requires-clause-ours
 derivation_of-requires-clause-ours c =
-    ours_proper c.requires.session.0 c.args.projections.now c.args.machines.now c.requires.session.1 c.loop-place.place c.index-machines-place.result (search rules) c.index-machines-place.is
+    (role_at c.requires.session.0 c.args.own.now c.args.projections.now c.requires.session.1 c.loop-place.place (search rules) c.index-own-place.result c.index-projections-place.result
+    c.index-own-place.is c.index-projections-place.is).ours
 
 pub derivation_of-requires-clause-theirs : goal.derivation_of-requires-clause-theirs
 derivation_of-requires-clause-theirs c =
-    let at = projects_at c.requires.session.0 c.args.projections.now c.args.machines.now c.requires.session.1 c.loop-place.place c.index-projections-place.result (search rules)
-    c.index-projections-place.is in
-    subst IsProper (sym (ap (λ (j : Projection_data). j.machine) c.projection.view_is))
-    (projection_proper c.requires.session.0 c.args.projections.now c.args.machines.now c.requires.session.1 c.loop-place.place c.index-projections-place.result at)
-
-pub derivation_of-requires-clause-same : goal.derivation_of-requires-clause-same
-derivation_of-requires-clause-same c is =
-    let at = projects_at c.requires.session.0 c.args.projections.now c.args.machines.now c.requires.session.1 c.loop-place.place c.index-projections-place.result (search rules)
-    c.index-projections-place.is in
-    same_as_projection c.args.own.now c.args.projections.now c.args.machines.now c.loop-place.place c.index-machines-place.result c.index-projections-place.result c.requires.machines
-    (c.runs_projection-is_projection.ensures is)
-    (gets c.args.machines.now c.loop-place.place c.index-machines-place.result (search rules) c.index-machines-place.is) at
-    ∙ sym (ap (λ (j : Projection_data). j.machine) c.projection.view_is)
+    (role_at c.requires.session.0 c.args.own.now c.args.projections.now c.requires.session.1 c.loop-place.place (search rules) c.index-own-place.result c.index-projections-place.result
+    c.index-own-place.is c.index-projections-place.is).theirs
 
 pub returns-in-Err-clause-err : goal.returns-in-Err-clause-err
 returns-in-Err-clause-err c =
-    let at = projects_at c.requires.session.0 c.args.projections.now c.args.machines.now c.requires.session.1 c.loop-place.place c.index-projections-place.result (search rules)
+    let own = c.args.own.now in
+    let ps = c.args.projections.now in
+    let here = role_at c.requires.session.0 own ps c.requires.session.1 c.loop-place.place (search rules) c.index-own-place.result c.index-projections-place.result c.index-own-place.is
     c.index-projections-place.is in
-    let P : Machine_data → Type 0 = λ z. SearchRefuses c.index-machines-place.result z c.args.bound c.in-Err.fault in
-    underivable c.args.bound c.args.machines.now c.args.projections.now (record { 0 = c.loop-place.place })
-    c.loop-place.derivations.items c.index-machines-place.result c.index-projections-place.result c.in-Err.fault c.loop-place.invariant
-    (gets c.args.machines.now c.loop-place.place c.index-machines-place.result (search rules) c.index-machines-place.is) at
-    (subst P (ap (λ (j : Projection_data). j.machine) c.projection.view_is) c.in-Err.ensures.err)
+    underivable c.args.bound (machines_of own ps) ps (record { 0 = c.loop-place.place }) c.loop-place.derivations.items (machine_or c.index-own-place.result c.index-projections-place.result)
+    c.index-projections-place.result c.in-Err.fault c.loop-place.invariant here.runs here.projects c.in-Err.ensures.err
 
 pub loop-place-preserved : goal.loop-place-preserved
 loop-place-preserved c =
-    let at = projects_at c.requires.session.0 c.args.projections.now c.args.machines.now c.requires.session.1 c.loop-place.place c.index-projections-place.result (search rules)
+    let own = c.args.own.now in
+    let ps = c.args.projections.now in
+    let here = role_at c.requires.session.0 own ps c.requires.session.1 c.loop-place.place (search rules) c.index-own-place.result c.index-projections-place.result c.index-own-place.is
     c.index-projections-place.is in
-    let P : Machine_data → Type 0 = λ z. IsCanonical c.index-machines-place.result z c.args.bound c.in-Ok.derivation in
-    let Q : List Derivation_data → Type 0 = λ z. AreFirstCanonical c.args.bound c.args.machines.now c.args.projections.now (c.loop-place.place + 1) z in
     let is : c.push.new.self.items ≡ c.loop-place.derivations.items ++ (c.in-Ok.derivation ∷ []) = search rules in
-    subst Q (sym is)
-    (next_canonical c.args.bound c.args.machines.now c.args.projections.now c.loop-place.place c.loop-place.derivations.items c.index-machines-place.result c.index-projections-place.result
-    c.in-Ok.derivation c.loop-place.invariant
-    (gets c.args.machines.now c.loop-place.place c.index-machines-place.result (search rules) c.index-machines-place.is) at
-    (subst P (ap (λ (j : Projection_data). j.machine) c.projection.view_is) c.in-Ok.ensures.ok))
+    subst (λ (z : List Derivation_data). AreFirstCanonical c.args.bound (machines_of own ps) ps (c.loop-place.place + 1) z) (sym is)
+    (next_canonical c.args.bound (machines_of own ps) ps c.loop-place.place c.loop-place.derivations.items (machine_or c.index-own-place.result c.index-projections-place.result)
+    c.index-projections-place.result c.in-Ok.derivation c.loop-place.invariant here.runs here.projects c.in-Ok.ensures.ok)

@@ -1,6 +1,6 @@
 use Rattle.std.proofs.Common.{◌≡◌, drop}
-use Rattle.rs_answers.specs.Sessions.{first_refusal}
+use Rattle.rs_answers.specs.OwnMachines.{first_own_refusal}
 use Rattle.rs_answers.proofs.sessions.first_refusal.Given as goal
 
-abbrev pub invariant-loop-place : goal.invariant-loop-place
-invariant-loop-place l = first_refusal l.roles (drop l.place l.machines) ≡ first_refusal l.roles l.machines
+abbrev pub invariant-loop-held : goal.invariant-loop-held
+invariant-loop-held l = first_own_refusal l.roles (drop l.held-index l.own) ≡ first_own_refusal l.roles l.own
