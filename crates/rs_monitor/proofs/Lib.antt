@@ -1,0 +1,4 @@
+pub mod Letting
+pub mod Refusing
+pub mod Making
+pub mod Reaching
