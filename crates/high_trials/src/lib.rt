@@ -1,36 +1,8 @@
-//! Tests of the high libraries: runs on one thread and by workers, sessions over rings, what is taken, `command` over sources and
-//! sinks that fail, and a search whose steps are counted.
+//! Tests of the program as a call: `command` over sources and sinks that fail, with one worker and with several, and the documents
+//! of pipelines. A file is named by the crate that it tests.
 #![tactic(auto)]
 
 #[cfg(test)]
-mod commands;
+mod of_rs_tool;
 #[cfg(test)]
-mod counting;
-#[cfg(test)]
-mod demos;
-#[cfg(test)]
-mod documents;
-#[cfg(test)]
-mod gates;
-#[cfg(test)]
-mod guesses;
-#[cfg(test)]
-mod held;
-#[cfg(test)]
-mod pipelines;
-#[cfg(test)]
-mod played;
-#[cfg(test)]
-mod rings;
-#[cfg(test)]
-mod runs;
-#[cfg(test)]
-mod stages;
-#[cfg(test)]
-mod steps;
-#[cfg(test)]
-mod taken;
-#[cfg(test)]
-mod transcripts;
-#[cfg(test)]
-mod workers;
+mod of_rs_tool_pipelines;

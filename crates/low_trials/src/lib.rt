@@ -1,29 +1,32 @@
-//! Tests of the low libraries, in what no document shows: sources and sinks that fail, values that no text spells.
+//! Tests of the low libraries, of what no document shows: sources and sinks that fail, values that no text spells, and a search
+//! whose steps are counted. A file is named by the crate that it tests.
 #![tactic(auto)]
 
 #[cfg(test)]
-mod actors;
+mod of_rs_core;
 #[cfg(test)]
-mod acts;
+mod of_rs_derivations;
 #[cfg(test)]
-mod bytes;
+mod of_rs_io;
 #[cfg(test)]
-mod derivations;
+mod of_rs_io_standard;
 #[cfg(test)]
-mod graphs;
+mod of_rs_machines;
 #[cfg(test)]
-mod machines;
+mod of_rs_machines_readings;
 #[cfg(test)]
-mod messages;
+mod of_rs_model;
 #[cfg(test)]
-mod names;
+mod of_rs_prefix;
 #[cfg(test)]
-mod projections;
+mod of_rs_project;
 #[cfg(test)]
-mod readings;
+mod of_rs_search;
 #[cfg(test)]
-mod shapes;
+mod of_rs_text;
 #[cfg(test)]
-mod standard;
+mod of_rs_text_messages;
 #[cfg(test)]
-mod tokens;
+mod of_rs_text_names;
+#[cfg(test)]
+mod of_rs_wellformed;

@@ -1,5 +1,0 @@
-use Rattle.high_trials.proofs.First.{are_of}
-use Rattle.high_trials.proofs.held.Begun.of.Goals as goal
-
-pub returns : goal.returns
-returns g c = are_of c.in-Some.session c.in-Some.stages.items c.in-Some.ensures
