@@ -1,4 +1,4 @@
--- Steps: the machines of kernel, source and sink.
+-- Public: the machines of kernel, source and sink.
 use Rattle.std.specs.Prelude.{ℕ, [], ◌∷◌, List}
 use Rattle.rs_model.specs.Data.{Machine_data}
 use Rattle.rs_model.specs.declared.graph.Arm.{Arm}
@@ -6,12 +6,15 @@ use Rattle.rs_model.specs.declared.machines.State.TheVariants.{Done, Puts, Takes
 use Rattle.rs_model.specs.declared.values.Sort.TheVariants as sort
 use Rattle.buffering.specs.declared.names.TheConstants.{KERNEL_ROLE, SOURCE_ROLE, SINK_ROLE}
 
+-- the arm `ready()`, which leads to that state
 abbrev pub ready_then : ℕ → Arm
 ready_then next = record { label = record { 0 = 0 }; sort = sort.Unit; next = next }
 
+-- the arm `copy(bytes)`, which leads to that state
 abbrev pub copy_then : ℕ → Arm
 copy_then next = record { label = record { 0 = 1 }; sort = sort.Octets; next = next }
 
+-- the arm `stop()`, which leads to that state
 abbrev pub stop_then : ℕ → Arm
 stop_then next = record { label = record { 0 = 2 }; sort = sort.Unit; next = next }
 

@@ -1,6 +1,6 @@
 //! The actor that plays a talker.
 
-ghost use Rattle.std.specs.Prelude.{◌≡◌, ◌≤◌, ◌^◌, length};
+ghost use Rattle.std.specs.Prelude.{◌≡◌, ◌≤◌, ◌^◌, IfOk, OnErr};
 ghost use Rattle.rs_model.specs.Serving.{serves};
 ghost use Rattle.rs_actors.specs.Choosing.{chooses_by_sorts};
 ghost use Rattle.rs_actors.specs.Talking.{arm_place, by_sorts};
@@ -51,16 +51,27 @@ impl<T: Drop> TalkingActor<T> {
 }
 
 /// The place of the first arm where a value of the sort may stand.
-fn arm_place(sort: Sort, arms: &[Arm]) -> Option<u16>
-    requires bounded { length arms.now ≤ 2 ^ 16 }
+fn arm_place(sort: Sort, arms: &[Arm]) -> Option<usize>
     ensures { result ≡ arm_place sort arms.now }
 {
     for (place, arm) in arms.iter().enumerate() {
         if sort.serves(arm.sort) {
-            return Some(place as u16);
+            return Some(place);
         }
     }
     None
+}
+
+/// The place as an actor returns it, in 16 bits. The arms of a state have labels of their own, so there are 65,536 at most: at
+/// more arms a place that is too large is refused as if memory had run out.
+fn place_number(place: usize) -> Result<u16, NoMemory>
+    ensures same { IfOk result (λ number. number ≡ place) }
+    ensures large { OnErr result (2 ^ 16 ≤ place) }
+{
+    match u16::try_from(place) {
+        Ok(number) => Ok(number),
+        Err(_) => Err(NoMemory),
+    }
 }
 
 impl<T: Talker> Actor for TalkingActor<T> {
@@ -69,7 +80,10 @@ impl<T: Talker> Actor for TalkingActor<T> {
     /// Sends what the talker has at hand by the first arm where its sort may stand, else an empty value by the first arm.
     fn choose(&mut self, alloc: Global, arms: &[Arm]) -> Result<(u16, Value), NoMemory> {
         match arm_place(self.talker.sort(), arms) {
-            Some(place) => Ok((place, carried(self.talker.send(alloc)?))),
+            Some(place) => {
+                let place = place_number(place)?;
+                Ok((place, carried(self.talker.send(alloc)?)))
+            }
             None => Ok((0, arms[0].sort.empty_value(alloc)?)),
         }
     }

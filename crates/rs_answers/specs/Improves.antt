@@ -15,17 +15,18 @@ use Rattle.rs_text.specs.Names.{place_of}
 use Rattle.rs_answers.specs.Checks.{with_derivations}
 use Rattle.rs_answers.specs.Data.{Answer_data}
 use Rattle.rs_answers.specs.Derivations.{AreCanonical}
-use Rattle.rs_answers.specs.RefusalTexts.{cut_text, malformed_answer}
+use Rattle.rs_answers.specs.RefusalTexts.{cut_text, line_of_answer}
 use Rattle.rs_answers.specs.Refusals.{HasNoDerivations, refusal_answer}
 use Rattle.rs_answers.specs.Sessions.{HasMachines}
 use Rattle.rs_answers.specs.Texts.{joined_texts}
 use Rattle.rs_answers.specs.Verifying.{IsVerified}
 use Rattle.rs_answers.specs.declared.refusals.Refusal.{Refusal}
+use Rattle.rs_answers.specs.declared.verdicts.Verdict.TheVariants as verdict
 use Rattle.rs_answers.specs.declared.verdicts.Verdict.TheVariants.{Fine}
 
--- the roles line has no such role
+-- the roles line has no such role: the line `unknown role`
 abbrev pub unknown_role : Answer_data
-unknown_role = malformed_answer (codes "unknown role")
+unknown_role = line_of_answer (codes "unknown role") [] verdict.Malformed
 
 -- why no more swaps were made
 abbrev pub ceased_text : Ceased → List ℕ

@@ -56,8 +56,8 @@ pub fn what_verifies_is_found()
         → (role : Role) (fault : SearchFault) → IsUnderivable bound machines projections role fault → fault ≡ TooLarge }
 {}
 
-/// What `check --derivations` prints of a document that was read is read again, and `verify` then reports what `check` does. Its
-/// labels may have other numbers.
+/// What `check --derivations` prints of a document that was read spells a document, of which `verify` reports what `check`
+/// reports of the first. Its labels may have other numbers. A text that is longer than a text may be isn't read again.
 pub fn printed_derivations_are_verified()
     ensures { (bound : ℕ) (bytes : List ℕ) (d : Document_data) (printed told : Answer_data) → IsBound bound → SpellsDocument bytes d → DocumentIsReady d → Checks bound true d printed
         → Checks bound false d told → told.verdict ≡ Fine → (e : Document_data) × SpellsDocument printed.text e × verifying.Verifies e told }
@@ -69,8 +69,9 @@ pub fn migrate_refuses_as_verify_does()
     ensures refused { (d : Document_data) (migrated told : Answer_data) → Migrates d migrated → verifying.Verifies d told → (told.verdict ≡ Fine → ⊥) → migrated ≡ told }
 {}
 
-/// What `migrate` prints of a document is read again as the same document with the same derivations, but for the numbers of
-/// labels. To that text `verify` answers what it does to the document, and `migrate` prints it again.
+/// What `migrate` prints of a document spells the same document with the same derivations, but for the numbers of labels. Of
+/// the document that it spells, `verify` reports the same, and `migrate` prints the same text. A text that is longer than a text
+/// may be isn't read again.
 pub fn migrated_text_is_read_again()
     ensures same { (bytes : List ℕ) (d : Document_data) (printed : Answer_data) → SpellsDocument bytes d → Migrates d printed → printed.verdict ≡ Fine
         → (canonical : IsCanonicalDocument d printed.text) × SpellsDocument printed.text (document_by_labels d (labels_of_text d printed.text canonical)) }

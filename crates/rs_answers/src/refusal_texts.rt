@@ -74,7 +74,7 @@ fn malformed_answer(alloc: Global, what: &[Piece]) -> Result<Answer, NoMemory>
 pub(crate) fn unknown_role(alloc: Global) -> Result<Answer, NoMemory>
     ensures { IfOk result (λ a. a ≡ unknown_role) }
 {
-    malformed_answer(alloc, &[Words(b"unknown role")])
+    line_of_answer(alloc, b"unknown role", &[], Verdict::Malformed)
 }
 
 /// The protocol has no projection onto the role.

@@ -71,8 +71,8 @@ impl<'a> PartReader<'a> {
 /// fault in a machine the names have the labels before it.
 ///
 /// A fault has the offset of its token: what was wanted instead, an unknown role, a name that is unbound or unguarded, a
-/// role that is there already, one too many of nesting, roles, heads or labels, or a faulty token. Refused memory has
-/// the offset `at`; then the names have the labels of some of a machine's first tokens.
+/// role that is there already, one too many of nesting, roles, heads or labels, or a faulty token. After
+/// refused memory the names have the labels of some of a machine's first tokens.
 pub fn read_part(
     alloc: Global,
     dialect: Dialect,

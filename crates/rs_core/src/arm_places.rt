@@ -1,5 +1,5 @@
 //! Where a label stands among arms.
-ghost use Rattle.std.specs.Prelude.{◌≡◌, ◌↔◌, ◌<◌, ◌≤◌, ◌^◌, IsTrue, ℕ, Some, slice_get, length};
+ghost use Rattle.std.specs.Prelude.{◌≡◌, ◌↔◌, ◌<◌, ◌^◌, IsTrue, ℕ, Some, slice_get};
 ghost use Rattle.rs_core.specs.Choosable.{label_of};
 ghost use Rattle.rs_model.specs.declared.graph.Arm.{Arm};
 
@@ -21,29 +21,6 @@ pub fn place_by_label(arms: &[Arm], label: Label) -> u16
         }
     }
     unreachable!()
-}
-
-/// Arms with no label twice are no more than there are labels, so each place is a number of 16 bits. The arms aren't looked
-/// at where they are few, as they always are.
-#[inline(always)]
-pub fn arms_are_few(arms: &[Arm])
-    requires once { (i j : ℕ) (a b : Arm) → slice_get arms.now i ≡ Some a → slice_get arms.now j ≡ Some b → a.label ≡ b.label → i ≡ j }
-    ensures { length arms.now ≤ 2 ^ 16 }
-{
-    if arms.len() > 1 << 16 {
-        for arm in arms {
-            number_of(arm);
-        }
-        unreachable!()
-    }
-}
-
-/// The number of the arm's label.
-fn number_of(arm: &Arm) -> u16
-    ensures same { result ≡ arm.now.label.0 }
-    ensures small { arm.now.label.0 < 2 ^ 16 }
-{
-    arm.label.0
 }
 
 #[inline(always)]

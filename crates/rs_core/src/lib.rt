@@ -18,7 +18,7 @@ mod transcripts;
 mod turns;
 
 pub use actors::Actor;
-pub use arm_places::{arms_are_few, place_by_label};
+pub use arm_places::place_by_label;
 pub use messages::{Event, GotBy, Message, Refused, StepFault, Stepped};
 pub use players::Player;
 pub use playing::{End, Finished, play};

@@ -1,5 +1,5 @@
 //! What takes the turns of the roles.
-ghost use Rattle.std.specs.Prelude.{◌≡◌, ◌≢◌, ◌≤◌, ◌^◌, [], map, IfOk, OnOk, length};
+ghost use Rattle.std.specs.Prelude.{◌≡◌, ◌≢◌, [], map, IfOk, OnOk};
 ghost use Rattle.rs_core.specs.Plain.{offer_of};
 
 use crate::Actor;
@@ -21,7 +21,6 @@ impl<A: Actor> Player<A> {
     #[inline(always)]
     pub(crate) fn offer(&mut self, alloc: Global, arms: &[Arm]) -> Result<(u16, Value), NoMemory>
         requires some { arms.now ≢ [] }
-        requires bounded { length arms.now ≤ 2 ^ 16 }
         ensures offers { IfOk result (λ c. offer_of A.behaviour self.old.actor self.old.kept arms.now ≡ ((c.0, c.1), self.new.actor)) }
         ensures kept { OnOk result (self.new.kept ≡ None) }
         ensures transcript { OnOk result (self.new.transcript ≡ self.old.transcript) }

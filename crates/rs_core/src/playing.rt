@@ -47,6 +47,7 @@ pub fn play<Q: Queues, A: Actor>(
     requires actors { length actors.items ≡ length (Q.core queues.old).machines }
     ensures played { IfOk result (λ r. HasPlayed A.behaviour (Q.core queues.old).machines limit (Q.capacity queues.old) actors.items (Q.core queues.new) r.end r.players.items) }
     ensures noted { IfOk result (λ r. AreTranscripts (Q.notes queues.new) r.players.items) }
+    ensures capacity { OnOk result (Q.capacity queues.new ≡ Q.capacity queues.old) }
 {
     let mut players = players_of(alloc, actors)?;
     loop {

@@ -9,7 +9,6 @@ ghost use Rattle.rs_core.specs.Core.{configuration_of};
 ghost use Rattle.rs_core.specs.Queues.{TurnIsNoted};
 ghost use Rattle.rs_core.specs.Turns.{KeepsWell, NextTells, TurnTells};
 
-use crate::arm_places::arms_are_few;
 use crate::players::Player;
 use crate::queues::{Posted, Queues};
 use crate::{Actor, Entry, GotBy, Message};
@@ -116,7 +115,6 @@ fn next_of<Q: Queues, A: Actor>(
                 return Ok(NextAct::Limit);
             }
             let arms = arms.as_slice();
-            arms_are_few(arms);
             let (place, value) = player.offer(alloc, arms)?;
             Ok(NextAct::Sends {
                 peer: *peer,

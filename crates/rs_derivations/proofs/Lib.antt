@@ -10,6 +10,7 @@ pub mod Placing
 pub mod Sounding
 pub mod KnownNames
 pub mod Listed
+pub mod FirstUses
 pub mod Filing
 pub mod Writable
 pub mod Spelt

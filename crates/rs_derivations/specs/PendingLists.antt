@@ -1,5 +1,5 @@
 -- Public: the different lists of pending acts of a derivation, by their numbers.
-use Rattle.std.specs.Prelude.{ℕ, suc, Bool, List, [], ◌∷◌, ◌++◌, map, if◌then◌else◌}
+use Rattle.std.specs.Prelude.{◌≡◌, ℕ, suc, Bool, false, List, [], ◌∷◌, ◌++◌, map, if◌then◌else◌}
 use Rattle.std.specs.List.{list_any}
 use Rattle.rs_model.specs.declared.machines.Act.{Act}
 use Rattle.rs_derive.specs.Data.{Derivation_data}
@@ -22,6 +22,11 @@ with_lists lists (x ∷ xs) = with_lists (with_list lists x) xs
 -- the lists of pending acts that have any, each once, in order of first use
 abbrev pub lists_of : Derivation_data → List (List Act)
 lists_of d = with_lists [] (map (λ n. n.pending) d.nodes)
+
+-- each of these lists is another one than those before it
+abbrev pub AllNew : (before lists : List (List Act)) → Type 0
+AllNew before [] = Unit {0}
+AllNew before (x ∷ xs) = (is_one_of before x ≡ false) × AllNew (before ++ x ∷ []) xs
 
 -- the place of a list among these, where the first of them has the number n
 abbrev pub number_from : ℕ → List (List Act) → List Act → ℕ

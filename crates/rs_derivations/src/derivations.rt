@@ -21,12 +21,12 @@ use std::mem;
 /// nodes, numbered from 1 on, and a node has the number of its list, or 0 for no acts; lists may be repeated or unused.
 ///
 /// Nodes stand in order of their numbers, from 0 on. New labels are added to the names in order of text, and nothing
-/// else changes there; after a fault some of those before it may be there.
+/// else changes there; after a fault or refused memory, further labels may be there.
 ///
 /// A fault has the offset of its token: what was wanted instead (also where a node's number isn't the count of nodes
 /// before it, a list's number isn't one more than the count of lists before it, a node's list isn't there, a format
 /// isn't 2, or a bound isn't from 1 to 64), an unknown role, one too many of nodes or labels, the 65th act of a list or
-/// of a node in format 1, or a faulty token. Refused memory has the offset `at`.
+/// of a node in format 1, or a faulty token.
 pub fn read_derivation(
     alloc: Global,
     bytes: &[u8],

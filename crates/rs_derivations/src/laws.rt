@@ -1,8 +1,9 @@
 //! What the definitions of derivation texts say together. The functions do nothing: each states a law.
 
-ghost use Rattle.std.specs.Prelude.{◌≡◌, ◌≤◌, ◌⊎◌, ◌+◌, ◌++◌, ℕ, List, drop, length};
+ghost use Rattle.std.specs.Prelude.{◌≡◌, ◌≤◌, ◌⊎◌, ◌+◌, ◌++◌, ◌∷◌, [], ℕ, List, drop, false, length, map, take};
 ghost use Rattle.rs_model.specs.Data.{Names_data};
 ghost use Rattle.rs_model.specs.declared.limits.TheConstants.{MOST_LABELS};
+ghost use Rattle.rs_model.specs.declared.machines.Act.{Act};
 ghost use Rattle.rs_derive.specs.Data.{Derivation_data};
 ghost use Rattle.rs_text.specs.declared.faults.TextKind.{TextKind};
 ghost use Rattle.rs_text.specs.Lexing.{next_lexeme};
@@ -11,6 +12,7 @@ ghost use Rattle.rs_derivations.specs.Canonical.{canonical_text, tree_of};
 ghost use Rattle.rs_derivations.specs.Derivations.{derivation_of, names_of};
 ghost use Rattle.rs_derivations.specs.Faults.{FirstFault};
 ghost use Rattle.rs_derivations.specs.Numbers.{AreSmall};
+ghost use Rattle.rs_derivations.specs.PendingLists.{AllNew, is_one_of, lists_of};
 ghost use Rattle.rs_derivations.specs.Printable.{IsPrintable};
 ghost use Rattle.rs_derivations.specs.Spells.{SpellsDerivation};
 
@@ -63,6 +65,15 @@ pub fn canonical_text_is_read_with_older_names()
         → length (names_of old (tree_of names d)).labels ≤ MOST_LABELS → drop at bytes ≡ canonical_text names d ++ rest
         → SpellsDerivation bytes at old (names_of old (tree_of names d)) (derivation_of (names_of old (tree_of names d)) (tree_of names d))
         (next_lexeme bytes (at + length (canonical_text names d))).from }
+{}
+
+/// The lists of format 2 are the different lists of pending acts that the nodes have, without the empty one, in order of first
+/// use: those of some first nodes are the first ones.
+pub fn lists_are_in_order_of_first_use()
+    ensures used { (d : Derivation_data) (act : Act) (later : List Act) → is_one_of (lists_of d) (act ∷ later) ≡ is_one_of (map (λ n. n.pending) d.nodes) (act ∷ later) }
+    ensures none_empty { (d : Derivation_data) → is_one_of (lists_of d) [] ≡ false }
+    ensures once { (d : Derivation_data) → AllNew [] (lists_of d) }
+    ensures order { (d : Derivation_data) (n : ℕ) → (later : List (List Act)) × (lists_of d ≡ lists_of (record d { nodes = take n d.nodes }) ++ later) }
 {}
 
 /// The canonical tree spells the derivation, with the names that it is printed with.

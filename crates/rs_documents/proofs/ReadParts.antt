@@ -34,6 +34,12 @@ pub refused_by : {B : Type 0} (result : Result B TextFault) (First Other : TextK
 refused_by (Ok x) First Other bytes f h = h
 refused_by (Err e) First Other bytes f h = refused First Other bytes e (f e.kind e.at) h
 
+-- and so is what it leaves
+pub left_by : {B : Type 0} (result : Result B TextFault) (Left Other : TextKind → ℕ → Type 0) → ((k : TextKind) (offset : ℕ) → Left k offset → Other k offset) → IfErr result (λ e. Left e.kind e.at)
+    → IfErr result (λ e. Other e.kind e.at)
+left_by (Ok x) Left Other f h = h
+left_by (Err e) Left Other f h = f e.kind e.at h
+
 pub in_protocol : (bytes : List ℕ) (f : TextFault) → (f.kind ≡ kind.NoMemory) ⊎ of_protocols.FirstFault bytes 0 f.kind f.at → Told bytes f
 in_protocol bytes f (inl memory) = inl memory
 in_protocol bytes f (inr h) = inr (InProtocol f.at h)

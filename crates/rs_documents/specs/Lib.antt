@@ -3,6 +3,7 @@ pub mod Canonical
 pub mod Data
 pub mod Documents
 pub mod Parts
+pub mod OwnMachines
 pub mod Reading
 pub mod Spells
 pub mod Ready

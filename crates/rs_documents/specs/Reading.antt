@@ -2,7 +2,6 @@
 use Rattle.std.specs.Prelude.{◌≡◌, ◌||◌, ℕ, ◌<◌, ◌≤◌, codes, suc, List, [], ◌∷◌, length, Bool, true, false, Option, Some, None, Result, slice_get, if◌then◌else◌}
 use Rattle.std.specs.Str.{bytes_eq}
 use Rattle.rs_documents.specs.Parts.{PartKind, PartsRead, GoesOn}
-use Rattle.rs_documents.specs.Spells.{SpellsOwn}
 use Rattle.rs_model.specs.Data.{Names_data, Machine_data}
 use Rattle.rs_text.specs.Lexemes.{Lexeme}
 use Rattle.rs_text.specs.Names.{place_of}
@@ -20,12 +19,6 @@ is_this_word word _ = false
 -- the token is a word with which a machine begins
 abbrev pub machine_word : Sign → Bool
 machine_word s = is_this_word (codes "machine") s || is_this_word (codes "table") s
-
--- the bytes spell it, with no more states than there may be, up to an offset within them
-pub record IsOwnRead (bytes : List ℕ) (at : ℕ) (old new : Names_data) (machine : Machine_data) (until : ℕ) : Type 0 where
-  pub spells : SpellsOwn bytes at old new machine until
-  pub bounded : IsShort machine
-  pub within : until ≤ length bytes
 
 -- whether the role at the place has a part
 abbrev pub is_held : {A : Type 0} → Option (Option A) → Bool

@@ -3,7 +3,8 @@
 ghost use Rattle.rs_documents.specs.Documents.{FirstFault, SpellsDocument, fault_behind, wanted_behind};
 ghost use Rattle.rs_documents.specs.Parts.{BeginsAt, FailsOwn, GoesOn, PartsRead, NextTokenIs, derivation_parts, machine_parts, no_parts, parts_with};
 ghost use Rattle.rs_documents.specs.Reading as spec;
-ghost use Rattle.rs_documents.specs.Reading.{AreGood, IsAdded, IsOwnRead, MachinesAreHeld, role_at};
+ghost use Rattle.rs_documents.specs.OwnMachines.{IsOwnRead, LeavesOwn};
+ghost use Rattle.rs_documents.specs.Reading.{AreGood, IsAdded, MachinesAreHeld, role_at};
 ghost use Rattle.rs_documents.specs.Ready.{DerivationsAreHeld, IsBounded, DocumentIsReady, IsShort};
 ghost use Rattle.rs_text.specs.FirstFaults.{IsRefusal};
 ghost use Rattle.rs_text.specs.Kept.{Keeps};
@@ -128,8 +129,13 @@ fn no_parts<T: Drop>(alloc: Global, roles: &[Name]) -> Result<Vec<Option<T>>, No
     Ok(parts)
 }
 
-/// Reads the machine at the offset, which is a table where the word `table` stands there, else a body of acts.
-fn read_own(
+/// Reads a machine from the offset `at` on, and gives the machine and the offset of the first byte behind it that is
+/// neither a blank nor in a comment, or the length: as `read_table` does if the word `table` is next, and otherwise as
+/// `read_machine` does. The names are sound, with at most 16 roles and 256 labels.
+///
+/// New labels are added to the names in order of text, and nothing else changes there; after a fault the names have the
+/// labels before it, and after refused memory those of some first tokens.
+pub fn read_machine_or_table(
     alloc: Global,
     bytes: &[u8],
     at: usize,
@@ -139,6 +145,7 @@ fn read_own(
     requires names { AreReadable names.old }
     ensures ok { IfOk result (λ r. IsOwnRead bytes.now at names.old names.new r.0 r.1) }
     ensures err { IfErr result (λ e. IsRefusal (FailsOwn names.old bytes.now at) bytes.now e) }
+    ensures left { IfErr result (λ e. LeavesOwn names.old names.new bytes.now at e.kind e.at) }
     ensures names { AreReadable names.new }
     ensures kept { Keeps names.old names.new }
 {
@@ -172,7 +179,7 @@ fn add_machine(
             at: second,
         });
     }
-    match read_own(alloc, bytes, at, names) {
+    match read_machine_or_table(alloc, bytes, at, names) {
         Ok((machine, next)) => {
             put(machines, machine.role, machine);
             Ok(next)

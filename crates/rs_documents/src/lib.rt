@@ -5,5 +5,5 @@ mod documents;
 pub mod laws;
 mod printing;
 
-pub use documents::{Document, read_document};
+pub use documents::{Document, read_document, read_machine_or_table};
 pub use printing::print_document;

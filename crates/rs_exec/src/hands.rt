@@ -58,6 +58,7 @@ impl Hand {
     pub(crate) fn spend(self, end: End) -> Closed
         requires ended { MayEnd self.session.machines self.all.view end }
         ensures closed { (result.machines ≡ self.session.machines) × (result.last ≡ self.all.view) }
+        ensures capacity { result.capacity ≡ self.session.capacity }
         ensures spent { IsSpent end result }
     {
         let Hand {

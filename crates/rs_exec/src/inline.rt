@@ -34,6 +34,7 @@ pub fn run_inline<A: Actor>(
     ensures plain { IfOk result (λ r. (given : ℕ → A) → IsGiven given actors.items
         → (o : Ending A) × IsPlain accepted.now.machines A.behaviour given limit (Some capacity) o × EndingShows (length accepted.now.machines) o r.run.outcome r.run.actors.items) }
     ensures closed { IfOk result (λ r. IsSessionOfRun accepted.now.machines A.behaviour actors.items limit r.closed r.run.outcome r.run.actors.items) }
+    ensures rings { IfOk result (λ r. r.closed.capacity ≡ capacity) }
     ensures full { IfErr result (λ e. (given : ℕ → A) → IsGiven given actors.items → FaultTells accepted.now.machines A.behaviour given limit capacity e) }
     ensures enough { room_of accepted.now.derivations ≤ capacity → IfErr result (λ e. e ≡ fault.NoMemory) }
 {

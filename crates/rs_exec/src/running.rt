@@ -27,6 +27,7 @@ pub(crate) fn run_over<A: Actor>(
     ensures plain { IfOk result (λ r. (given : ℕ → A) → IsGiven given actors.items
         → (o : Ending A) × IsPlain hand.session.machines A.behaviour given limit (Some hand.session.capacity) o × EndingShows (length hand.session.machines) o r.run.outcome r.run.actors.items) }
     ensures closed { IfOk result (λ r. IsSessionOfRun hand.session.machines A.behaviour actors.items limit r.closed r.run.outcome r.run.actors.items) }
+    ensures rings { IfOk result (λ r. r.closed.capacity ≡ hand.session.capacity) }
     ensures full { IfErr result (λ e. (given : ℕ → A) → IsGiven given actors.items → FaultTells hand.session.machines A.behaviour given limit hand.session.capacity e) }
 {
     let mut hand = hand;

@@ -1,5 +1,5 @@
 //! Tasks: an actor that plays its role, turn by turn.
-ghost use Rattle.std.specs.Prelude.{◌≡◌, ◌≢◌, ◌≤◌, ◌<◌, ◌^◌, ◌++◌, ◌∷◌, [], false, IfErr, IfOk, None, OnErr, OnOk, Some, length, slice_get, vec_capacity};
+ghost use Rattle.std.specs.Prelude.{◌≡◌, ◌≢◌, ◌≤◌, ◌<◌, ◌++◌, ◌∷◌, [], false, IfErr, IfOk, None, OnErr, OnOk, Some, length, slice_get, vec_capacity};
 ghost use Rattle.rs_core.specs.Histories.{transcript_of};
 ghost use Rattle.rs_core.specs.Plain.{offer_of};
 ghost use Rattle.rs_exec.specs.TurnTakers.{IsInTime, task_with};
@@ -8,7 +8,7 @@ ghost use Rattle.rs_session.specs.Stages.{IsReceiving, IsSending, sight_of_stage
 ghost use Rattle.rs_session.specs.declared.stages.Stage.TheVariants as kind;
 ghost use Rattle.rs_model.specs.declared.machines.State.TheVariants.{Puts, Takes};
 
-use rs_core::{Actor, Entry, Transcript, arms_are_few};
+use rs_core::{Actor, Entry, Transcript};
 use rs_model::{Arm, NoMemory, Role, State, Value};
 use rs_session::{Left, Receiving, Sending, Sent, Session, Stage, Taken};
 use std::alloc::{AllocFailed, Global};
@@ -263,7 +263,6 @@ impl<A: Actor> TurnTaker<A> {
     #[inline(always)]
     fn offer(&mut self, alloc: Global, arms: &[Arm]) -> Result<(u16, Value), NoMemory>
         requires some { arms.now ≢ [] }
-        requires bounded { length arms.now ≤ 2 ^ 16 }
         ensures offers { IfOk result (λ c. offer_of A.behaviour self.old.actor self.old.kept arms.now ≡ ((c.0, c.1), self.new.actor)) }
         ensures kept { OnOk result (self.new.kept ≡ None) }
         ensures others { (self.new.entries ≡ self.old.entries) × (self.new.limit ≡ self.old.limit) × (self.new.failed ≡ self.old.failed) }
@@ -296,15 +295,10 @@ fn sending_arms<'a>(session: &'a Session, stage: &Sending) -> (Role, &'a [Arm])
     requires { IsSending session.now stage.now }
     ensures stands { state_of_stage session.now stage.now ≡ Some (Puts result.0 result.1.now) }
     ensures some { result.1.now ≢ [] }
-    ensures bounded { length result.1.now ≤ 2 ^ 16 }
 {
     let machine = session.machine(stage.role());
     match &machine.states[stage.state() as usize] {
-        State::Puts { peer, arms } => {
-            let arms = arms.as_slice();
-            arms_are_few(arms);
-            (*peer, arms)
-        }
+        State::Puts { peer, arms } => (*peer, arms.as_slice()),
         _ => unreachable!(),
     }
 }

@@ -20,8 +20,7 @@ use std::alloc::Global;
 /// text has an end. A recursion name stands for the first node of its body.
 ///
 /// A fault has the offset of its token: what was wanted instead, an unknown role, a name that is unbound or unguarded,
-/// a role that is there already, one too many of nesting, roles, talks or labels, or a faulty token. Refused memory has
-/// the offset `at`.
+/// a role that is there already, one too many of nesting, roles, talks or labels, or a faulty token.
 pub fn read_protocol(
     alloc: Global,
     bytes: &[u8],

@@ -16,15 +16,15 @@ use std::marker::Model;
 /// Why a machine isn't swapped again.
 #[derive(Clone, Copy, Debug, PartialEq, Eq)]
 pub enum Ceased {
-    /// As many swaps were made as were asked.
+    /// The number of swaps that was asked for was made.
     Asked,
     /// No state can be swapped.
     NoSwap,
     /// The next machine would have more than 1,024 states.
     TooManyStates,
-    /// Of the next machine there are more than 65,536 candidates.
+    /// The next machine has more than 65,536 candidates.
     TooLarge,
-    /// The next machine has no derivation within the bound; `cut` as in `SearchFault`.
+    /// The search finds no derivation of the next machine within the bound; `cut` as in `SearchFault`.
     NotFound { cut: bool },
     /// The canonical derivation of the next machine forgets, at this node.
     Forgets { node: u32 },
@@ -80,8 +80,11 @@ pub(crate) enum Attempt {
     },
 }
 
-/// Swaps the machine `above` as often as is asked, or until no state can be swapped, or the next machine is too large or
-/// has no derivation from `above` within the bound, which isn't 0.
+/// Swaps the machine `above` as often as is asked, or until no state can be swapped, the next machine has more than 1,024
+/// states, or the search refuses the next machine: it has too many candidates, no derivation from `above` within the
+/// bound, or a canonical derivation that forgets. The bound isn't 0.
+///
+/// The errors are `TooLarge`, if the machine has too many candidates against itself, and `NoMemory`.
 pub fn improve(
     alloc: Global,
     above: &Machine,

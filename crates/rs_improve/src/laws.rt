@@ -41,7 +41,8 @@ pub fn improvements_are_one()
     ensures { (above : Machine_data) (bound asked : ℕ) (a b : Improved_data) → IsImproved above bound asked a → IsImproved above bound asked b → a ≡ b }
 {}
 
-/// A well-formed machine has one, or there are too many candidates of the machine and itself, and never both.
+/// Within a bound above 0 a well-formed machine has one, or there are too many candidates of the machine and itself, and
+/// never both.
 pub fn an_improvement_or_a_refusal()
     ensures either { (above : Machine_data) (bound asked : ℕ) → IsProper above → 0 < bound → ((i : Improved_data) × IsImproved above bound asked i) ⊎ RefusesToImprove above bound TooLarge }
     ensures apart { (above : Machine_data) (bound asked : ℕ) (i : Improved_data) → IsImproved above bound asked i → RefusesToImprove above bound TooLarge → ⊥ }

@@ -21,8 +21,8 @@ use std::alloc::Global;
 /// of text, and nothing else changes there; after a fault the names have the labels before it.
 ///
 /// A fault has the offset of its token: what was wanted instead, an unknown role, a name that is unbound or unguarded,
-/// one too many of nesting, acts or labels, or a faulty token. Refused memory has the offset `at`; then the names have
-/// the labels of some first tokens.
+/// one too many of nesting, acts or labels, or a faulty token. After refused memory the names have the labels of
+/// some first tokens.
 pub fn read_machine(
     alloc: Global,
     bytes: &[u8],

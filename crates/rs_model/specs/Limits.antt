@@ -1,4 +1,4 @@
--- Public: the ranges of what a search and a run are told.
+-- Headline: the ranges of what a search and a run are told.
 use Rattle.std.specs.Prelude.{ℕ, ◌≤◌}
 use Rattle.rs_model.specs.declared.limits.TheConstants.{MOST_BOUND, MOST_CAPACITY, MOST_WORKERS}
 

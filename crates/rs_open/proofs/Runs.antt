@@ -19,10 +19,10 @@ module _ {A : Type 0} (b : Behaviour A) (machines : List Machine_data) (Makes : 
   pub ran_alone : (r : Result (Ran A) RunFault)
       → IfOk r (λ ran. (given : ℕ → A) → IsGiven given actors
       → (o : Ending A) × IsPlain machines b given limit (Some capacity) o × EndingShows (length machines) o ran.run.outcome ran.run.actors.items)
-      → IfOk r (λ ran. IsSessionOfRun machines b actors limit ran.closed ran.run.outcome ran.run.actors.items)
+      → IfOk r (λ ran. IsSessionOfRun machines b actors limit ran.closed ran.run.outcome ran.run.actors.items) → IfOk r (λ ran. ran.closed.capacity ≡ capacity)
       → IfOk r (λ ran. (xs : List A) × AreMadeBy Makes (length machines) xs × IsRunAlone b machines xs limit capacity ran)
-  ran_alone (Ok ran) plain session = (actors, made, record { plain = plain; session = session })
-  ran_alone (Err e) plain session = tt
+  ran_alone (Ok ran) plain session rings = (actors, made, record { plain = plain; session = session; rings = rings })
+  ran_alone (Err e) plain session rings = tt
 
   pub stuck_alone : (r : Result (Ran A) RunFault) → IfErr r (λ e. (given : ℕ → A) → IsGiven given actors → FaultTells machines b given limit capacity e)
       → IfErr r (λ e. (e ≡ fault.NoMemory) ⊎ ((xs : List A) × AreMadeBy Makes (length machines) xs × IsStuckRun b machines xs limit capacity e))
@@ -44,12 +44,13 @@ module _ {A : Type 0} (b : Behaviour A) (session accepted : Accepted_data) (Make
   pub run_told : (r : Result (Ran A) RunFault)
       → IfOk r (λ ran. (given : ℕ → A) → IsGiven given actors
       → (o : Ending A) × IsPlain accepted.machines b given limit (Some messages) o × EndingShows (length accepted.machines) o ran.run.outcome ran.run.actors.items)
-      → IfOk r (λ ran. IsSessionOfRun accepted.machines b actors limit ran.closed ran.run.outcome ran.run.actors.items)
+      → IfOk r (λ ran. IsSessionOfRun accepted.machines b actors limit ran.closed ran.run.outcome ran.run.actors.items) → IfOk r (λ ran. ran.closed.capacity ≡ messages)
       → IfOk r (λ ran. (xs : List A) × AreMadeBy Makes (length session.machines) xs × IsRunAlone b session.machines xs limit capacity ran)
-  run_told r plain closed = ran_alone b session.machines Makes actors limit capacity for_each r
+  run_told r plain closed rings = ran_alone b session.machines Makes actors limit capacity for_each r
       (subst (λ (z : Accepted_data × ℕ). IfOk r (λ ran. (given : ℕ → A) → IsGiven given actors
       → (o : Ending A) × IsPlain z.0.machines b given limit (Some z.1) o × EndingShows (length z.0.machines) o ran.run.outcome ran.run.actors.items)) (λ i. (same i, holds i)) plain)
       (subst (λ (z : Accepted_data). IfOk r (λ ran. IsSessionOfRun z.machines b actors limit ran.closed ran.run.outcome ran.run.actors.items)) same closed)
+      (subst (λ (n : ℕ). IfOk r (λ ran. ran.closed.capacity ≡ n)) holds rings)
 
   pub stuck_told : (r : Result (Ran A) RunFault) → IfErr r (λ e. (given : ℕ → A) → IsGiven given actors → FaultTells accepted.machines b given limit messages e)
       → IfErr r (λ e. (e ≡ fault.NoMemory) ⊎ ((xs : List A) × AreMadeBy Makes (length session.machines) xs × IsStuckRun b session.machines xs limit capacity e))

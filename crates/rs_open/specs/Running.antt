@@ -10,11 +10,12 @@ use Rattle.rs_model.specs.Data.{Machine_data}
 use Rattle.rs_pool.specs.Pool.{AgreesWithPlain, AreNeverHeldUp}
 
 -- what is left is that of the plain run of these actors over queues of this capacity, and the session is the one that they went
--- through
+-- through, over rings of this capacity
 pub record IsRunAlone {A : Type 0} (b : Behaviour A) (machines : List Machine_data) (actors : List A) (limit capacity : ℕ) (ran : Ran A) : Type 0 where
   pub plain : (given : ℕ → A) → IsGiven given actors
       → (o : Ending A) × IsPlain machines b given limit (Some capacity) o × EndingShows (length machines) o ran.run.outcome ran.run.actors.items
   pub session : IsSessionOfRun machines b actors limit ran.closed ran.run.outcome ran.run.actors.items
+  pub rings : ran.closed.capacity ≡ capacity
 
 -- the plain run of these actors over queues of this capacity ends as the fault tells
 abbrev pub IsStuckRun : {A : Type 0} → Behaviour A → List Machine_data → List A → ℕ → ℕ → RunFault → Type 0

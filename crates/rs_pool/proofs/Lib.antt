@@ -3,6 +3,7 @@ mod Known
 mod Acts
 mod Bounds
 mod Turned
+mod TurnsMade
 mod Lists
 mod Endings
 mod Beginnings

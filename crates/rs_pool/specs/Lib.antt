@@ -1,4 +1,5 @@
 pub mod Jobs
+pub mod Turns
 pub mod Rule
 pub mod Plays
 pub mod Calls

@@ -1,7 +1,9 @@
 //! The workers at the table of jobs.
 ghost use Rattle.std.specs.Prelude.{◌≡◌, ◌+◌, ◌<◌, ◌≤◌, [], All, vec_len, vec_capacity};
 ghost use Rattle.rs_pool.specs.Calls.{HasFinished, IsSeated, SeatRests};
+ghost use Rattle.rs_exec.specs.Tasks.{TaskTurnTells};
 ghost use Rattle.rs_pool.specs.Jobs.{JobFits};
+ghost use Rattle.rs_pool.specs.Turns.{HasHadTurns};
 
 use crate::gates::Gate;
 use crate::jobs::{Job, amount_of};
@@ -42,6 +44,7 @@ impl<A: Actor, N: StartName<A>> PoolTable<A, N> {
         requires session { session.now ≡ N.start.session }
         requires fits { JobFits A.behaviour N.start role job.old }
         ensures fits { JobFits A.behaviour N.start role job.new }
+        ensures tells { TaskTurnTells session.now A.behaviour job.old.task job.new.task result }
     {
         gate.before_turn(worker, Role(role));
         let turn = job.turn(alloc, session);
@@ -49,7 +52,8 @@ impl<A: Actor, N: StartName<A>> PoolTable<A, N> {
         turn
     }
 
-    /// Turns of the role's task as long as they move it, and at most so many; whether something moved.
+    /// Turns of the role's task, at least one, as long as they move it, and at most [`MOST_TURNS`]. It returns whether something
+    /// moved.
     #[inline(always)]
     fn turns<G: Gate>(
         &self,
@@ -63,6 +67,7 @@ impl<A: Actor, N: StartName<A>> PoolTable<A, N> {
         requires session { session.now ≡ N.start.session }
         requires fits { JobFits A.behaviour N.start role job.old }
         ensures fits { JobFits A.behaviour N.start role job.new }
+        ensures turns { HasHadTurns session.now A.behaviour job.old.task job.new.task result }
     {
         let mut moved = false;
         for _ in 0..MOST_TURNS {

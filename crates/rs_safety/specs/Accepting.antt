@@ -37,8 +37,18 @@ pub record FirstRefused (machines : List Machine_data) (projections : List Proje
   pub earlier : (p : ℕ) (m : Machine_data) (j : Projection_data) (d : Derivation_data) → p < place → slice_get machines p ≡ Some m
       → slice_get projections p ≡ Some j → slice_get derivations p ≡ Some d → IsDerivation d m j.machine × Remembers d m j.machine
 
--- the role that was refused and why, and the machines that were handed in
+-- the role that was refused and why, and all that was handed in
 pub record AcceptRefused_data : Type 0 where
   pub role : Role
   pub cause : DeriveFault
+  pub protocol : Protocol_data
+  pub projections : List Projection_data
   pub machines : List Machine_data
+  pub derivations : List Derivation_data
+
+-- a refusal hands back this protocol, and these projections, machines and derivations
+pub record HandsBack (protocol : Protocol_data) (projections : List Projection_data) (machines : List Machine_data) (derivations : List Derivation_data) (refused : AcceptRefused_data) : Type 0 where
+  pub same_protocol : refused.protocol ≡ protocol
+  pub same_projections : refused.projections ≡ projections
+  pub same_machines : refused.machines ≡ machines
+  pub same_derivations : refused.derivations ≡ derivations

@@ -3,7 +3,7 @@
 ghost use Rattle.std.specs.Prelude.{◌≡◌, ◌<◌, length, IfOk, IfErr, IfSome, IfNone, OnOk};
 ghost use Rattle.rs_core.specs.Safety.{IsSafe};
 ghost use Rattle.rs_model.specs.Data.{Protocol_data};
-ghost use Rattle.rs_safety.specs.Accepting.{FirstRefused, IsAcceptedSession};
+ghost use Rattle.rs_safety.specs.Accepting.{FirstRefused, HandsBack, IsAcceptedSession};
 ghost use Rattle.rs_safety.specs.Room.{room_of};
 ghost use Rattle.rs_safety.specs.Sessions.{AreDerivations, AreOneEach, IsSession};
 
@@ -75,12 +75,16 @@ impl Accepted {
     }
 }
 
-/// The first role whose derivation is refused, why, and the machines that were handed in.
+/// A session that is refused: the first role whose derivation is refused, the derivation's first fault, and all that was handed
+/// in, unchanged.
 #[derive(Drop)]
 pub struct AcceptRefused {
     pub role: Role,
     pub cause: DeriveFault,
+    pub protocol: Protocol,
+    pub projections: Vec<Projection>,
     pub machines: Vec<Machine>,
+    pub derivations: Vec<Derivation>,
 }
 
 impl Model for AcceptRefused {
@@ -88,7 +92,7 @@ impl Model for AcceptRefused {
 
     ghost Value = { AcceptRefused_data };
 
-    ghost view = { λ r. record { role = r.role; cause = r.cause; machines = r.machines.items } };
+    ghost view = { λ r. record { role = r.role; cause = r.cause; protocol = r.protocol; projections = r.projections.items; machines = r.machines.items; derivations = r.derivations.items } };
 }
 
 /// The first place at which `check` refuses the derivation, and why.
@@ -115,8 +119,8 @@ fn first_refused(
 /// Accepts the machines where each role's derivation shows that its machine may stand for its projection: then they are
 /// safe.
 ///
-/// The error names the first role whose derivation is refused, with its first fault, and hands the machines back. Takes
-/// no memory.
+/// The error names the first role whose derivation is refused, with the derivation's first fault, and hands everything back.
+/// `accept` takes no memory.
 pub fn accept(
     protocol: Protocol,
     projections: Vec<Projection>,
@@ -130,7 +134,7 @@ pub fn accept(
     ensures session { IfOk result IsAcceptedSession }
     ensures safe { OnOk result (IsSafe machines.items) }
     ensures refused { IfErr result (λ e. FirstRefused machines.items projections.items derivations.items e.role.0 e.cause) }
-    ensures back { IfErr result (λ e. e.machines ≡ machines.items) }
+    ensures back { IfErr result (λ e. HandsBack protocol projections.items machines.items derivations.items e) }
 {
     match first_refused(
         projections.as_slice(),
@@ -140,7 +144,10 @@ pub fn accept(
         Some((place, cause)) => Err(AcceptRefused {
             role: Role(place as u8),
             cause,
+            protocol,
+            projections,
             machines,
+            derivations,
         }),
         None => Ok(Accepted {
             protocol,

@@ -1,21 +1,24 @@
 -- The passes of first stages.
-use Rattle.std.proofs.Common.{◌≡◌, ◌≢◌, inl, inr, ℕ, ◌+◌, ◌<◌, ◌≤◌, Bool, true, false, if◌then◌else◌, List, [], ◌∷◌, length, Option, Some, IsSome, slice_get, refl, sym, ap, ◌∙◌, ◌++◌, subst}
+use Rattle.std.proofs.Common.{◌≡◌, ◌≢◌, inl, inr, ℕ, ◌+◌, ◌<◌, ◌≤◌, Bool, true, false, if◌then◌else◌, List, [], ◌∷◌, length, Option, Some, IsSome, slice_get, refl, sym, ap, ◌∙◌, ◌++◌, subst, map, option_map}
 use Rattle.std.proofs.Common.{arith, rules, eq-eqb, length-append}
-use Rattle.std.proofs.lemmas.Bool.Decides.{eqb_tells}
+use Rattle.std.proofs.lemmas.Bool.Decides.{eqb_tells, leb_tells}
+use Rattle.std.proofs.lemmas.Option.{slice_get_within, slice_get-map}
 use Rattle.rs_model.proofs.Lists.{item_at}
 use Rattle.rs_model.specs.Data.{Machine_data}
 use Rattle.rs_core.specs.Choices.{AreWellFormed}
 use Rattle.rs_core.specs.Configurations.{state_of}
-use Rattle.rs_rings.specs.Views.{SpeaksFor, first_part, speaks, the_part, part_of, start_of, starting, view_without_role, alone}
+use Rattle.rs_rings.specs.Views.{SpeaksFor, first_part, speaks, the_part, part_of, start_of, starting, view_without_role, alone, joint_view}
 use Rattle.rs_rings.specs.declared.views.Part.{Part}
 use Rattle.rs_rings.specs.declared.views.View.{View}
 use Rattle.rs_rings.proofs.Parts.{the_role}
 use Rattle.rs_rings.proofs.Seats.{speaks_one, speaks_without, speaks_gone, the_without, first_speaks, first_part_is, first_below}
 use Rattle.rs_rings.specs.Passes.{Rings_data}
+use Rattle.rs_session.specs.Data.{Stage_data}
+use Rattle.rs_session.specs.Ends.{AreAll, AreOf, IsThere}
 use Rattle.rs_session.specs.Stages.{AreFirst, IsOf, first_stage, sight_of_stage}
 use Rattle.rs_session.specs.Standing.{IsFirst}
 use Rattle.rs_session.specs.declared.stages.Stage.{Stage}
-use Rattle.rs_session.proofs.HandedIn.{at_end, in_front}
+use Rattle.rs_session.proofs.HandedIn.{at_end, in_front, first_speaks_on, second_speaks_on, same_tables}
 
 -- the pass speaks for the roles from number k on, each of which has done nothing
 pub record AreFirstFrom (machines : List Machine_data) (k : ℕ) (view : View) : Type 0 where
@@ -82,3 +85,43 @@ begun_more session n stages stages' stage begun of first is = subst (AreBegun se
 
 pub all_begun : (session : Rings_data) (n : ℕ) (stages : List Stage) → AreBegun session n stages → n ≡ length session.machines → AreFirst session stages
 all_begun session n stages begun is = record { count = begun.count ∙ is; each = λ r below. begun.each r (omega arith) }
+
+-- the first stages are stages of the session
+begun_of : (session : Rings_data) (n : ℕ) (stages : List Stage) → AreBegun session n stages → AreOf session stages
+begun_of session n stages begun place stage e =
+    let below = slice_get_within stages place stage e in
+    let at = begun.each place (omega (arith, below, begun.count)) in
+    let same : at.0 ≡ stage = some_once (sym at.1 ∙ e) in
+    subst (IsOf session) same at.2
+  where
+    some_once : {x y : Stage} → Some x ≡ Some y → x ≡ y
+    some_once h = cc (h)
+
+pub begun_tables : (session : Rings_data) (n : ℕ) (stages : List Stage) → AreBegun session n stages → AreAll (λ s. s.table ≡ session.table) (map sight_of_stage stages)
+begun_tables session n stages begun = same_tables session session stages refl (begun_of session n stages begun)
+
+-- one of the first stages is of each of the first roles
+begun_there : (session : Rings_data) (n : ℕ) (stages : List Stage) → AreBegun session n stages → (r : ℕ) → r < n → IsThere (map sight_of_stage stages) r
+begun_there session n stages begun r below = let at = begun.each r below in record {
+  place = r;
+  stage = sight_of_stage at.0;
+  stands = slice_get-map sight_of_stage stages r ∙ ap (option_map sight_of_stage) at.1;
+  role = ap (λ (z : Stage_data). z.role.0) at.3;
+}
+
+-- where a role has no stage its pass comes back, and joins the pass of the roles behind it: this speaks for all from it on
+pub from_it_on : (machines : List Machine_data) (k : ℕ) (rest own joined : View) → AreFirstFrom machines (k + 1) rest → SpeaksFor own k → joined ≡ joint_view rest own
+    → (r : ℕ) → k ≤ r → r < length machines → SpeaksFor joined r
+from_it_on machines k rest own joined all says is r from below = elim (eqb_tells r k) [
+  | inl t ↦ second_speaks_on rest own joined r is (subst (SpeaksFor own) (sym t.1) says)
+  | inr t ↦ (let ne = t.1 in first_speaks_on rest own joined r is (all.speaks r (omega arith) below))
+]
+
+-- with the roles of the first stages these are all roles
+pub all_again : (session : Rings_data) (k : ℕ) (stages : List Stage) (rest all : View) → AreBegun session k stages
+    → ((r : ℕ) → k ≤ r → r < length session.machines → SpeaksFor rest r) → ((r : ℕ) → SpeaksFor rest r → SpeaksFor all r) → ((r : ℕ) → IsThere (map sight_of_stage stages) r → SpeaksFor all r)
+    → (r : ℕ) → r < length session.machines → SpeaksFor all r
+all_again session k stages rest all begun from kept speaks r below = elim (leb_tells k r) [
+  | inl t ↦ kept r (from r t.1 below)
+  | inr t ↦ speaks r (begun_there session k stages begun r t.1)
+]

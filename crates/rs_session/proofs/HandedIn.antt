@@ -191,3 +191,12 @@ some_there n all many each = let first = each 0 (omega arith) in let below = sli
 
 pub itself_speaks : (all : List Stage_data) (view : View) → ((r : ℕ) → IsThere (map (λ s. s) all) r → SpeaksFor view r) → (r : ℕ) → IsThere all r → SpeaksFor view r
 itself_speaks all view speaks = subst (λ (l : List Stage_data). (r : ℕ) → IsThere l r → SpeaksFor view r) (map_itself all) speaks
+
+-- a joint view speaks for the roles of the first view, and for those of the second
+pub first_speaks_on : (v w z : View) (r : ℕ) → z ≡ joint_view v w → SpeaksFor v r → SpeaksFor z r
+first_speaks_on v w z r is t = subst (λ (u : View). SpeaksFor u r) (sym is) (speaks_left r v.parts w.parts t)
+
+pub second_speaks_on : (v w z : View) (r : ℕ) → z ≡ joint_view v w → SpeaksFor w r → SpeaksFor z r
+second_speaks_on v w z r is t =
+    subst (λ (u : View). SpeaksFor u r) (sym is)
+    (⊎_elim (λ (yes' : speaks r v.parts ≡ true). speaks_left r v.parts w.parts yes') (λ (f : speaks r v.parts ≡ false). speaks_right r v.parts w.parts f ∙ t) (bool_cases (speaks r v.parts)))

@@ -109,3 +109,20 @@ pub(crate) fn gather<S: Stands>(rings: &Rings, stages: Vec<S>) -> Pass
     stages.destroy_empty();
     pass
 }
+
+/// The pass with the roles of all stages too.
+pub(crate) fn gather_into(rings: &Rings, pass: Pass, stages: Vec<Stage>) -> Pass
+    requires table { pass.table ≡ rings.now.table }
+    requires tables { AreAll (λ s. s.table ≡ rings.now.table) (map sight_of_stage stages.items) }
+    ensures table { result.table ≡ rings.now.table }
+    ensures kept { (r : ℕ) → SpeaksFor pass.view r → SpeaksFor result.view r }
+    ensures speaks { (r : ℕ) → IsThere (map sight_of_stage stages.items) r → SpeaksFor result.view r }
+{
+    if stages.is_empty() {
+        stages.destroy_empty();
+        return pass;
+    }
+    let mut all = gather(rings, stages);
+    rings.join(&mut all, pass);
+    all
+}

@@ -1,16 +1,17 @@
 //! A session that is shared by threads: its stages, the acts that they allow, and what is left at the end.
-ghost use Rattle.std.specs.Prelude.{◌≡◌, ◌≤◌, ◌<◌, ◌++◌, ◌∷◌, ℕ, [], IfOk, IsSome, Some, length, slice_get, vec_len, vec_capacity};
+ghost use Rattle.std.specs.Prelude.{◌≡◌, ◌≤◌, ◌<◌, ◌++◌, ◌∷◌, ℕ, [], IfErr, IfOk, IsSome, Some, length, slice_get, vec_len, vec_capacity};
 ghost use Rattle.rs_model.specs.Limits.{IsCapacity};
 ghost use Rattle.rs_core.specs.Choices.{AreWellFormed};
 ghost use Rattle.rs_core.specs.Configurations.{state_of};
 ghost use Rattle.rs_model.specs.declared.machines.State.TheVariants.{Takes};
 ghost use Rattle.rs_model.specs.declared.values.Value.{Value};
-ghost use Rattle.rs_rings.specs.Views.{starting};
+ghost use Rattle.rs_rings.specs.Views.{SpeaksFor, starting};
 ghost use Rattle.rs_session.specs.Acts.{SendsBy};
 ghost use Rattle.rs_session.specs.Stages.{AreFirst, IsOf, IsReceiving, first_stage, sight_of_stage, state_of_stage};
 ghost use Rattle.rs_session.specs.Standing.{IsFirst, RingsAreWhole, SendsTo};
 
-use crate::stages::{Ended, Left, Receiving, Sending, Stage};
+use crate::gathering::gather_into;
+use crate::stages::{Ended, Receiving, Sending, Stage};
 use crate::standing::Standing;
 use rs_model::{Arm, Machine, NoMemory, Role, State};
 use rs_rings::{Pass, Rings};
@@ -55,8 +56,13 @@ impl Session {
         match Rings::begin(alloc, machines, capacity) {
             Ok((rings, pass)) => {
                 let session = Session { rings };
-                let stages = session.first_stages(alloc, count as u8, pass, stages)?;
-                Ok((session, stages))
+                match session.first_stages(alloc, count as u8, pass, stages) {
+                    Ok(stages) => Ok((session, stages)),
+                    Err(pass) => {
+                        session.into_rings().abandon(pass);
+                        Err(NoMemory)
+                    }
+                }
             }
             Err(refused) => {
                 stages.destroy_empty();
@@ -155,27 +161,28 @@ impl Session {
         }
     }
 
-    /// The stage of a role that has done nothing. Where memory is refused the pass is given up.
-    fn first(&self, alloc: Global, pass: Pass, role: Role) -> Result<Stage, NoMemory>
+    /// The stage of a role that has done nothing. If the allocation fails, the role's pass comes back.
+    fn first(&self, alloc: Global, pass: Pass, role: Role) -> Result<Stage, Pass>
         requires table { pass.table ≡ self.now.table }
         requires well_formed { AreWellFormed self.now.machines }
         requires first { IsFirst self.now.machines role.0 pass.view }
         ensures of { IfOk result (IsOf self.now) }
         ensures first { IfOk result (λ s. sight_of_stage s ≡ first_stage self.now role.0) }
+        ensures back { IfErr result (λ p. (p.table ≡ pass.table) × SpeaksFor p.view role.0) }
     {
         let start = self.machine(role).start;
         let standing = Standing::first(alloc, pass, role, start)?;
         Ok(self.stage(standing))
     }
 
-    /// The first stage of each role, in role order, into `stages`. Where memory is refused all are given up.
+    /// The first stage of each role, in role order, into `stages`. If an allocation fails, all roles come back in one pass.
     fn first_stages(
         &self,
         alloc: Global,
         count: u8,
         pass: Pass,
         stages: Vec<Stage>,
-    ) -> Result<Vec<Stage>, NoMemory>
+    ) -> Result<Vec<Stage>, Pass>
         requires count { count ≡ length self.now.machines }
         requires some { 2 ≤ count }
         requires well_formed { AreWellFormed self.now.machines }
@@ -183,7 +190,8 @@ impl Session {
         requires pass { pass.view ≡ starting self.now.machines }
         requires none { stages.items ≡ [] }
         requires room { length self.now.machines ≤ vec_capacity stages }
-        ensures { IfOk result (λ v. AreFirst self.now v.items) }
+        ensures first { IfOk result (λ v. AreFirst self.now v.items) }
+        ensures back { IfErr result (λ p. (p.table ≡ self.now.table) × ((r : ℕ) → r < length self.now.machines → SpeaksFor p.view r)) }
     {
         let mut pass = pass;
         let mut stages = stages;
@@ -193,10 +201,9 @@ impl Session {
             let own = self.rings.split(&mut pass, role);
             match self.first(alloc, own, role) {
                 Ok(stage) => push_stage(&mut stages, stage),
-                Err(refused) => {
-                    pass.leave();
-                    leave_stages(stages);
-                    return Err(refused);
+                Err(back) => {
+                    self.rings.join(&mut pass, back);
+                    return Err(gather_into(&self.rings, pass, stages));
                 }
             }
         }
@@ -205,21 +212,9 @@ impl Session {
                 push_stage(&mut stages, stage);
                 Ok(stages)
             }
-            Err(refused) => {
-                leave_stages(stages);
-                Err(refused)
-            }
+            Err(back) => Err(gather_into(&self.rings, back, stages)),
         }
     }
-}
-
-/// Gives the stages up.
-fn leave_stages(mut stages: Vec<Stage>) {
-    while let Some(stage) = stages.pop() {
-        let Left { standing } = stage.leave();
-        standing.into_pass().leave();
-    }
-    stages.destroy_empty();
 }
 
 /// Appends a stage, for which there is room.

@@ -1,5 +1,7 @@
 //! Where a role of a session stands, by what it may do next; and what its acts answer.
 ghost use Rattle.std.specs.Prelude.{◌≡◌, ◌<◌, ◌^◌, length};
+ghost use Rattle.rs_model.specs.declared.limits.TheConstants.{MOST_ROLES};
+ghost use Rattle.rs_rings.specs.Acts.{parcels_sent};
 ghost use Rattle.rs_session.specs.Acts.{SendsBy, SendTells, ReceiveTells};
 ghost use Rattle.rs_session.specs.Stages.{IsReceiving, sight_of_stage};
 
@@ -86,7 +88,10 @@ pub enum Taken {
     },
 }
 
-/// A role of a session that was given up where it stood. It must be spent.
+/// A role of a session that was left where it stood.
+///
+/// It must be spent: [`Session::close_left`](crate::Session::close_left) takes those of all roles and ends the session. The one
+/// other way is [`Left::give_up`], after which the session can't be ended any more.
 pub struct Left {
     pub(crate) standing: Standing,
 }
@@ -268,7 +273,7 @@ impl Stage {
         }
     }
 
-    /// Gives the role up where it stands. Takes no memory.
+    /// Leaves the role where it stands: it acts no more, and is kept for [`Session::close_left`]. Takes no memory.
     pub fn leave(self) -> Left
         ensures { result ≡ sight_of_stage self }
     {
@@ -302,5 +307,22 @@ impl Left {
         ensures { result ≡ self.now.part.state }
     {
         self.standing.state()
+    }
+
+    /// How many messages the role has sent to the peer.
+    pub fn sent(&self, peer: Role) -> u64
+        requires peer { peer.0 < MOST_ROLES }
+        ensures { result ≡ length (parcels_sent peer.0 self.now.part.history) }
+    {
+        self.standing.sent(peer)
+    }
+
+    /// Gives the role up for good: nobody can act for it any more, and its session can't be ended.
+    ///
+    /// For roles whose holder the compiler can't watch, such as a program in another language. Who receives from the role may
+    /// then wait for ever.
+    pub fn give_up(self) {
+        let Left { standing } = self;
+        standing.into_pass().give_up();
     }
 }

@@ -1,13 +1,14 @@
 //! What is behind a stage of any kind.
-ghost use Rattle.std.specs.Prelude.{◌≡◌, ◌<◌, ◌^◌, ℕ, [], IfOk, Some, length, slice_get};
+ghost use Rattle.std.specs.Prelude.{◌≡◌, ◌<◌, ◌^◌, ℕ, [], IfErr, IfOk, Some, length, slice_get};
 ghost use Rattle.rs_core.specs.Choices.{AreWellFormed};
 ghost use Rattle.rs_core.specs.Configurations.{state_of};
 ghost use Rattle.rs_model.specs.declared.machines.State.TheVariants.{Takes};
-ghost use Rattle.rs_rings.specs.Acts.{MayPut};
+ghost use Rattle.rs_model.specs.declared.limits.TheConstants.{MOST_ROLES};
+ghost use Rattle.rs_rings.specs.Acts.{MayPut, parcels_sent};
 ghost use Rattle.rs_rings.specs.Views.{SpeaksFor, part_of, state_in, history_in};
 ghost use Rattle.rs_session.specs.Standing.{FoundTells, StagePutTells, sight_of_pass};
 
-use rs_model::{Arm, NoMemory, Role, Value};
+use rs_model::{Arm, Role, Value};
 use rs_rings::{GotOn, Pass, Put, Rings};
 use rs_slots::Parcel;
 use std::alloc::{AllocFailed, Global};
@@ -72,6 +73,13 @@ impl RolePass {
         ensures { result ≡ length self.now.part.history }
     {
         self.acts
+    }
+
+    fn sent(&self, peer: Role) -> u64
+        requires peer { peer.0 < MOST_ROLES }
+        ensures { result ≡ length (parcels_sent peer.0 self.now.part.history) }
+    {
+        self.pass.sent(self.role, peer)
     }
 
     fn into_pass(self) -> Pass
@@ -140,18 +148,14 @@ impl RolePass {
 }
 
 impl Standing {
-    /// A role that has done nothing. Where memory is refused the pass is given up.
-    pub(crate) fn first(
-        alloc: Global,
-        pass: Pass,
-        role: Role,
-        state: u32,
-    ) -> Result<Standing, NoMemory>
+    /// A role that has done nothing. If the allocation fails, the role's pass comes back.
+    pub(crate) fn first(alloc: Global, pass: Pass, role: Role, state: u32) -> Result<Standing, Pass>
         requires speaks { SpeaksFor pass.view role.0 }
         requires only { (r : ℕ) → SpeaksFor pass.view r → r ≡ role.0 }
         requires state { state ≡ state_in pass.view role.0 }
         requires nothing { history_in pass.view role.0 ≡ [] }
-        ensures { IfOk result (λ s. s ≡ sight_of_pass pass role) }
+        ensures same { IfOk result (λ s. s ≡ sight_of_pass pass role) }
+        ensures back { IfErr result (λ p. (p.table ≡ pass.table) × SpeaksFor p.view role.0) }
     {
         let pass = RolePass {
             pass,
@@ -163,8 +167,7 @@ impl Standing {
             Ok(inside) => Ok(Standing { inside }),
             Err(refused) => {
                 let AllocFailed { value } = refused;
-                value.into_pass().leave();
-                Err(NoMemory)
+                Err(value.into_pass())
             }
         }
     }
@@ -188,6 +191,13 @@ impl Standing {
         ensures { result ≡ length self.now.part.history }
     {
         self.inside.acts()
+    }
+
+    pub(crate) fn sent(&self, peer: Role) -> u64
+        requires peer { peer.0 < MOST_ROLES }
+        ensures { result ≡ length (parcels_sent peer.0 self.now.part.history) }
+    {
+        self.inside.sent(peer)
     }
 
     pub(crate) fn into_pass(self) -> Pass

@@ -33,6 +33,7 @@ use Rattle.rs_tables.specs.Trees.{ArmTree, RowTree, TableTree}
 use Rattle.rs_tables.proofs.Changes.{Change, change}
 use Rattle.rs_tables.proofs.Fitting.{FitsSo, fits_first, fits_on, fits_back}
 use Rattle.rs_tables.proofs.Grows.{Grown, stays, number_step, row_step, label_step, grown_to, role_step, row_grows, grows, GoesOn, goes_on}
+use Rattle.rs_tables.proofs.Labels.{HasLabels, Follows, follows_first, follows_on}
 use Rattle.rs_tables.proofs.Paths.{along, path, one_place, completes, stuck, no_further}
 use Rattle.rs_tables.proofs.ReadTables.{machine_read}
 use Rattle.rs_tables.proofs.Standings.{stand, told, says}
@@ -47,13 +48,10 @@ pub record Stood (old : Names_data) (xs : List Sign) (r : Reader_data) : Type 1 
   pub signs : cut_signs place ≡ xs
   pub reader_is : r ≡ stand old place
   pub fits : FitsSo old place
+  pub follows : Follows old xs r
 
 abbrev pub At : Names_data → List Sign → Sign → Reader_data → Type 1
 At old xs t r = Stood old xs r
-
--- nothing is asked of what is left
-abbrev pub LeavesAny : List Sign → Reader_data → Type 0
-LeavesAny xs r = Unit {0}
 
 -- ---- places
 
@@ -165,18 +163,18 @@ fed_is : (old : Names_data) (xs : List Sign) (t : Sign) (at : ℕ) (n : Lexeme) 
 fed_is old xs t at n r s w = whole_fed t at n r w ∙ ap (λ (z : Reader_data). feed_at z.mode t at z) s.reader_is ∙ says old s.place t at
 
 stood_on : (old : Names_data) (xs : List Sign) (t : Sign) (r d : Reader_data) (s : Stood old xs r) → IsProper t → (c : Cut) → grows s.place t ≡ Some c → fault_of old s.place t ≡ None → d ≡ stand old c
-    → Stood old (xs ++ t ∷ []) d
-stood_on old xs t r d s proper c g f e =
+    → Follows old (xs ++ t ∷ []) d → Stood old (xs ++ t ∷ []) d
+stood_on old xs t r d s proper c g f e follows =
     let on : GoesOn s.place t c = if_some_at (GoesOn s.place t) (grows s.place t) c (goes_on s.place t s.right proper) g in
     let adds : Change old s.place t c = if_some_at (Change old s.place t) (grows s.place t) c (change old s.place t) g in
-    record { place = c; right = on.1; signs = on.0 ∙ ap (λ z. z ++ t ∷ []) s.signs; reader_is = e; fits = fits_on old s.place t c adds f s.fits }
+    record { place = c; right = on.1; signs = on.0 ∙ ap (λ z. z ++ t ∷ []) s.signs; reader_is = e; fits = fits_on old s.place t c adds f s.fits; follows = follows }
 
 taken_by : (t : Sign) → Wholeness t → (old : Names_data) (xs : List Sign) (at : ℕ) (n : Lexeme) (r d : Reader_data) → Stood old xs r → IsProper t → feed_sign feeding t at n r ≡ Ok d
     → Stood old (xs ++ t ∷ []) d
 taken_by _ (a_faulty k) old xs at n r d s proper e = absurd (cc e)
 taken_by _ (a_whole t w) old xs at n r d s proper e =
     let o = told_ok old (grows s.place t) (fault_of old s.place t) (wanted_of s.place) at d (sym (fed_is old xs t at n r s w) ∙ e) in
-    stood_on old xs t r d s proper o.0 o.1 o.2 o.3
+    stood_on old xs t r d s proper o.0 o.1 o.2 o.3 (follows_on old xs t at n r d s.follows e)
 
 same_place : (old : Names_data) (xs : List Sign) (r : Reader_data) (s : Stood old xs r) (d : Cut) → StandsAt xs d → d ≡ s.place
 same_place old xs r s d k = one_place d s.place k.right s.right (k.signs ∙ sym s.signs)
@@ -237,7 +235,7 @@ unexpected old xs t at u r s h w g = record {
 
 verdict_of : (old : Names_data) (xs : List Sign) (t : Sign) (at : ℕ) (n : Lexeme) (r : Reader_data) (s : Stood old xs r) → IsInTable s.place → IsProper t → IsWhole t
     → (g : Option Cut) (f : Option TextKind) → grows s.place t ≡ g → fault_of old s.place t ≡ f
-    → judging.Verdict (FaultAt old) LeavesAny r xs t at n (told old g f (wanted_of s.place) at)
+    → judging.Verdict (FaultAt old) (HasLabels old) r xs t at n (told old g f (wanted_of s.place) at)
 verdict_of old xs t at n r s h proper w None f g e = inl (unexpected old xs t at n.sign r s h w g)
 verdict_of old xs t at n r s h proper w (Some c) None g e = clear_of old xs t n.sign r s proper w c g e
 verdict_of old xs t at n r s h proper w (Some c) (Some k) g e = inl (misplaced old xs t at n.sign r s proper w c k g e)
@@ -258,10 +256,10 @@ faulty old xs j at u r s h = record {
 }
 
 verdict_by : (t : Sign) → Wholeness t → (old : Names_data) (xs : List Sign) (at : ℕ) (n : Lexeme) (r : Reader_data) (s : Stood old xs r) → IsInTable s.place → IsProper t
-    → judging.Verdict (FaultAt old) LeavesAny r xs t at n (feed_sign feeding t at n r)
+    → judging.Verdict (FaultAt old) (HasLabels old) r xs t at n (feed_sign feeding t at n r)
 verdict_by _ (a_faulty j) old xs at n r s h proper = inl (faulty old xs j at n.sign r s h)
 verdict_by _ (a_whole t w) old xs at n r s h proper =
-    subst (λ (z : Fed). judging.Verdict (FaultAt old) LeavesAny r xs t at n z) (sym (fed_is old xs t at n r s w))
+    subst (λ (z : Fed). judging.Verdict (FaultAt old) (HasLabels old) r xs t at n z) (sym (fed_is old xs t at n r s w))
     (verdict_of old xs t at n r s h proper w (grows s.place t) (fault_of old s.place t) refl refl)
 
 -- ---- the whole
@@ -285,18 +283,18 @@ beyond old xs t ys v u r k s h f =
     let e = end_of old s.place (ap is_read (sym s.reader_is) ∙ h) in
     no_further e.0 t ys c.0 (subst IsPlace e.1 s.right) c.1.right (c.1.signs ∙ ap (λ z. z ++ (t ∷ ys)) (sym s.signs ∙ ap cut_signs e.1))
 
-pub judges : (old : Names_data) → Judges feeding (FaultAt old) (At old) LeavesAny
+pub judges : (old : Names_data) → Judges feeding (FaultAt old) (At old) (HasLabels old)
 judges old = record {
   ends = at_end_stops;
   taken = λ xs t at n r d stands name unread e. taken_by t (wholeness t) old xs at n r d stands (proper_sign t name) e;
-  left = λ xs t r stands. tt;
+  left = λ xs t r stands. stands.follows.labels;
   verdict = λ xs t at n r stands name unread. verdict_by t (wholeness t) old xs at n r stands (within old stands.place (ap is_read (sym stands.reader_is) ∙ unread)) (proper_sign t name);
   behind = λ xs t u r k stands h f. behind_clear old xs t u r k stands h f;
   beyond = λ xs t ys s u r k stands h whole f. beyond old xs t ys s u r k stands h f;
 }
 
 pub begins : (old : Names_data) → length old.labels ≤ MOST_LABELS → (t : Sign) → At old [] t (start_of_table old)
-begins old h t = record { place = at_begin; right = tt; signs = refl; reader_is = refl; fits = fits_first old h }
+begins old h t = record { place = at_begin; right = tt; signs = refl; reader_is = refl; fits = fits_first old h; follows = follows_first old }
 
 -- ---- what is read is spelt
 

@@ -3,12 +3,14 @@ pub mod Grows
 pub mod Paths
 pub mod Changes
 pub mod Fitting
+pub mod Labels
 pub mod Standings
 pub mod Judged
 pub mod Placing
 pub mod Sounding
 pub mod Writable
 pub mod Spelt
+pub mod Leaving
 pub mod NamesByPlace
 pub mod Printed
 pub mod Again

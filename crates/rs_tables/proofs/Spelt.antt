@@ -21,7 +21,8 @@ use Rattle.rs_tables.specs.Feeding.{start_of_table, feeding, names_read}
 use Rattle.rs_tables.proofs.ReadTables.{machine_read}
 use Rattle.rs_tables.specs.Printable.{IsTabled}
 use Rattle.rs_tables.specs.Spells.{SpellsTable}
-use Rattle.rs_tables.proofs.Judged.{LeavesAny, judges, begins, sound, complete}
+use Rattle.rs_tables.proofs.Judged.{judges, begins, sound, complete}
+use Rattle.rs_tables.proofs.Labels.{HasLabels}
 use Rattle.rs_tables.proofs.Standings.{stand}
 use Rattle.rs_tables.proofs.Writable.{tabled, tree_small}
 
@@ -111,7 +112,7 @@ by_reading old few bytes at ls (Err f) lexed e =
     inr (
       f.kind,
       f.at,
-      first_of (FaultAt old) LeavesAny bytes at ls f (last_of feeding (start_of_table old) (Ok (start_of_table old)) ls) lexed
+      first_of (FaultAt old) (HasLabels old) bytes at ls f (last_of feeding (start_of_table old) (Ok (start_of_table old)) ls) lexed
           (found (judges old) (start_of_table old) bytes at ls f (begins old few) lexed e),
     )
 

@@ -1,7 +1,8 @@
--- Public: the first fault of a text.
+-- Public: the first fault of a text, and the names that it leaves.
 use Rattle.std.specs.Prelude.{◌≡◌, ℕ, ◌⊎◌, List, [], ◌∷◌, ◌++◌, length, Option, Some, None, nat_le, ◌==◌, if◌then◌else◌}
 use Rattle.rs_model.specs.Data.{Names_data}
 use Rattle.rs_model.specs.declared.limits.TheConstants.{MOST_STATES}
+use Rattle.rs_bodies.specs.Faults.{LeavesSome, names_behind}
 use Rattle.rs_text.specs.ArmCuts.{at_label}
 use Rattle.rs_text.specs.declared.tokens.FaultKind.{FaultKind}
 use Rattle.rs_text.specs.declared.faults.Wanted.{Wanted}
@@ -9,6 +10,7 @@ use Rattle.rs_text.specs.declared.faults.TextKind.{TextKind}
 use Rattle.rs_text.specs.declared.faults.TextKind.TheVariants as kind
 use Rattle.rs_text.specs.Faults.{kind_of}
 use Rattle.rs_text.specs.FirstFaults.{IsWhole, FirstFaultBy}
+use Rattle.rs_text.specs.Lexemes.{signs_of}
 use Rattle.rs_text.specs.NameFaults.{fault_of_label, fault_of_role}
 use Rattle.rs_text.specs.Names.{names_with}
 use Rattle.rs_text.specs.Seen.{plain_text, word_text}
@@ -79,3 +81,11 @@ FaultAt old before t next k = ((w : Wanted) × (k ≡ kind.Expected w) × IsUnex
 -- the fault at the least offset, and at one token the one with the least number
 abbrev pub FirstFault : (old : Names_data) → (bytes : List ℕ) → (at : ℕ) → TextKind → (offset : ℕ) → Type 0
 FirstFault old bytes at kind offset = FirstFaultBy (FaultAt old) bytes at kind offset
+
+-- the first fault leaves the names with the labels of the tokens before it
+abbrev pub LeavesNames : (old new : Names_data) → (bytes : List ℕ) → (at : ℕ) → (kind : TextKind) → (offset : ℕ) → Type 0
+LeavesNames old new bytes at kind offset = (fault : FirstFault old bytes at kind offset) × (new ≡ names_behind old (signs_of fault.before))
+
+-- what a refusal leaves: of the first fault the labels of the tokens before it; of refused memory those of some first tokens
+abbrev pub LeavesLabels : (old new : Names_data) → (bytes : List ℕ) → (at : ℕ) → (kind : TextKind) → (offset : ℕ) → Type 0
+LeavesLabels old new bytes at k offset = ((k ≡ kind.NoMemory) × LeavesSome old new bytes at) ⊎ LeavesNames old new bytes at k offset

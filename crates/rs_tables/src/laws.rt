@@ -9,7 +9,7 @@ ghost use Rattle.rs_text.specs.declared.faults.TextKind.{TextKind};
 ghost use Rattle.rs_text.specs.Lexing.{next_lexeme};
 ghost use Rattle.rs_text.specs.Sound.{IsSound};
 ghost use Rattle.rs_tables.specs.Canonical.{tree_of};
-ghost use Rattle.rs_tables.specs.Faults.{FirstFault};
+ghost use Rattle.rs_tables.specs.Faults.{FirstFault, LeavesNames};
 ghost use Rattle.rs_tables.specs.Machines.{machine_of_table, names_of};
 ghost use Rattle.rs_tables.specs.Printable.{IsTabled};
 ghost use Rattle.rs_tables.specs.Spells.{SpellsTable};
@@ -26,6 +26,12 @@ pub fn text_spells_one_machine()
 pub fn text_has_one_first_fault()
     ensures { (old : Names_data) → length old.labels ≤ MOST_LABELS → (bytes : List ℕ) (at : ℕ) (kind other : TextKind) (offset stop : ℕ) → FirstFault old bytes at kind offset
         → FirstFault old bytes at other stop → (kind ≡ other) × (offset ≡ stop) }
+{}
+
+/// A first fault leaves one list of names.
+pub fn first_fault_leaves_one_list_of_names()
+    ensures { (old new other : Names_data) (bytes : List ℕ) (at : ℕ) (kind another : TextKind) (offset place : ℕ) → LeavesNames old new bytes at kind offset
+        → LeavesNames old other bytes at another place → new ≡ other }
 {}
 
 /// A text spells a machine or has a first fault.

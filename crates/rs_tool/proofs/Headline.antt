@@ -201,9 +201,9 @@ told_is_run words t bytes output reply spells (TellsReadFault keeps is none) run
 told_is_run words t bytes output reply spells (TellsNoMemory keeps is none) run = absurd (subst IsOfRun is run)
 
 -- what was written where the status is that all is fine
-record WasWritten {K : Type 0} (t : Task) (bytes : List ℕ) (output : CallOutput K) : Type 0 where
+record WasWritten {K : Type 0} (words : List (List ℕ)) (bytes : List ℕ) (output : CallOutput K) : Type 0 where
   answer : Answer_data
-  answers : AnswersTask t bytes answer
+  answers : Answers words bytes answer
   written : Appends output.written output.later answer.text
   fine : answer.verdict ≡ verdict.Fine
 
@@ -218,13 +218,13 @@ fine_verdict verdict.Stopped e = absurd cc
 fine_verdict verdict.Full e = absurd cc
 fine_verdict verdict.RoomTooSmall e = absurd cc
 
-told_is_written : {K : Type 0} (words : List (List ℕ)) (t : Task) (bytes : List ℕ) (output : CallOutput K) (reply : Reply) → SpellsTask words t → Tells words bytes output reply
-    → reply.status ≡ status.Fine → WasWritten t bytes output
-told_is_written words t bytes output reply spells (TellsAll a h session text is) fine =
-    record { answer = a; answers = task_is_answered words t bytes a spells h; written = text; fine = fine_verdict a.verdict (sym is ∙ fine) }
-told_is_written words t bytes output reply spells (TellsPart a h session text is) fine = let no = sym is ∙ fine in absurd cc
-told_is_written words t bytes output reply spells (TellsReadFault keeps is none) fine = let no = sym is ∙ fine in absurd cc
-told_is_written words t bytes output reply spells (TellsNoMemory keeps is none) fine = let no = sym is ∙ fine in absurd cc
+told_is_written : {K : Type 0} (words : List (List ℕ)) (bytes : List ℕ) (output : CallOutput K) (reply : Reply) → Tells words bytes output reply → reply.status ≡ status.Fine
+    → WasWritten words bytes output
+told_is_written words bytes output reply (TellsAll a h session text is) fine =
+    record { answer = a; answers = h; written = text; fine = fine_verdict a.verdict (sym is ∙ fine) }
+told_is_written words bytes output reply (TellsPart a h session text is) fine = let no = sym is ∙ fine in absurd cc
+told_is_written words bytes output reply (TellsReadFault keeps is none) fine = let no = sym is ∙ fine in absurd cc
+told_is_written words bytes output reply (TellsNoMemory keeps is none) fine = let no = sym is ∙ fine in absurd cc
 
 -- what `improve` writes spells safe machines
 improves_safely : (options : ImproveOptions) (bytes : List ℕ) (a : Answer_data) → IsBound options.bound → AnswersText (on_document.Improve options) bytes a → a.verdict ≡ verdict.Fine
@@ -259,11 +259,12 @@ module _ {S K : Type 0} (call : Call S K) (reply : Reply) (ends : Ends call repl
       let is = told_is_run call.words (task.OnDocument on_document.Migrate) bytes call.output reply spells told (fine_is_run reply.status fine) in
       migrates_safely bytes is.0 is.1 is.2) ends.answer.told
 
-  pub improved_is_safe : SpellsImprove call.words → IfSome call.input.left (λ bytes. reply.status ≡ status.Fine → WritesSafeMachines call.output)
+  pub improved_is_safe : SpellsImprove call.words → IfSome call.input.left (λ bytes. reply.status ≡ status.Fine → WritesSafeMachines call.words bytes call.output)
   improved_is_safe spells = if_told call.input.left _ _ (λ bytes told fine.
       let within = (spelt_numbers_are_in_range call.words (task.OnDocument (on_document.Improve spells.0)) spells.1).0 in
-      let w = told_is_written call.words (task.OnDocument (on_document.Improve spells.0)) bytes call.output reply spells.1 told fine in
-      record { text = w.answer.text; written = w.written; safe = improves_safely spells.0 bytes w.answer within w.answers w.fine }) ends.answer.told
+      let w = told_is_written call.words bytes call.output reply told fine in
+      let answers = task_is_answered call.words (task.OnDocument (on_document.Improve spells.0)) bytes w.answer spells.1 w.answers in
+      record { answer = w.answer; answers = w.answers; written = w.written; safe = improves_safely spells.0 bytes w.answer within answers w.fine }) ends.answer.told
 
   pub runs_are_safe : (options : RunOptions) → SpellsRun call.words options → IfSome call.input.left (λ bytes. IsOfRun reply.status → SpellsSafeMachines bytes)
   runs_are_safe options spells = if_told call.input.left _ _ (λ bytes told run.

@@ -1,4 +1,4 @@
--- Public: how calls end.
+-- Headline: how calls end.
 use Rattle.std.specs.Prelude.{ℕ}
 use Rattle.rs_tool.specs.declared.statuses.Status.{Status}
 use Rattle.rs_tool.specs.declared.statuses.Status.TheVariants as status

@@ -1,4 +1,4 @@
--- Public: what tasks ask for.
+-- Headline: what tasks ask for.
 use Rattle.std.specs.Prelude.{◌≡◌, ℕ, List, Option, Bool}
 use Rattle.rs_model.specs.declared.demos.Demo.{Demo}
 use Rattle.rs_model.specs.declared.runs.RunOptions.{RunOptions}

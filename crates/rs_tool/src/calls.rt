@@ -141,7 +141,8 @@ pub fn command_serial<S: Source, K: Sink>(
     ensures migrated { IfAnswered result (λ reply. SpellsMigrate (bytes_of_words words.now)
         → IfSome (S.left source.old) (λ bytes. reply.status ≡ Status.Fine → SpellsSafeMachines bytes)) }
     ensures improved { let output = output_of K.written K.faults K.last sink.old sink.new in
-        IfAnswered result (λ reply. SpellsImprove (bytes_of_words words.now) → IfSome (S.left source.old) (λ bytes. reply.status ≡ Status.Fine → WritesSafeMachines output)) }
+        IfAnswered result (λ reply. SpellsImprove (bytes_of_words words.now)
+        → IfSome (S.left source.old) (λ bytes. reply.status ≡ Status.Fine → WritesSafeMachines (bytes_of_words words.now) bytes output)) }
     ensures run { IfAnswered result (λ reply. (options : RunOptions) → SpellsRun (bytes_of_words words.now) options
         → IfSome (S.left source.old) (λ bytes. IsOfRun reply.status → SpellsSafeMachines bytes)) }
     ensures demo { IfAnswered result (λ reply. (kind : Demo) (ring : Option ℕ) → SpellsDemo (bytes_of_words words.now) kind ring
@@ -210,7 +211,8 @@ pub fn command<R: Threads + Wait + Sync, S: Source, K: Sink, G: Gate + Sync>(
     ensures migrated { SpellsMigrate (bytes_of_words words.now)
         → IfSome (S.left source.old) (λ bytes. result.status ≡ Status.Fine → SpellsSafeMachines bytes) }
     ensures improved { let output = output_of K.written K.faults K.last sink.old sink.new in
-        SpellsImprove (bytes_of_words words.now) → IfSome (S.left source.old) (λ bytes. result.status ≡ Status.Fine → WritesSafeMachines output) }
+        SpellsImprove (bytes_of_words words.now)
+        → IfSome (S.left source.old) (λ bytes. result.status ≡ Status.Fine → WritesSafeMachines (bytes_of_words words.now) bytes output) }
     ensures run { (options : RunOptions) → SpellsRun (bytes_of_words words.now) options
         → IfSome (S.left source.old) (λ bytes. IsOfRun result.status → SpellsSafeMachines bytes) }
     ensures demo { (kind : Demo) (ring : Option ℕ) → SpellsDemo (bytes_of_words words.now) kind ring

@@ -1,4 +1,4 @@
--- Public: what each command takes, and which lists of words spell uses of it.
+-- Headline: what each command takes, and which lists of words spell uses of it.
 use Rattle.std.specs.Prelude.{◌≡◌, ◌==◌, ℕ, Bool, true, false, List, [], ◌∷◌, ◌++◌, map, codes, Option, Some, None, flat_map, find}
 use Rattle.std.specs.List.{list_any}
 use Rattle.std.specs.Str.{bytes_eq}

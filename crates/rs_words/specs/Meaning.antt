@@ -1,4 +1,4 @@
--- Public: what a list of words asks for.
+-- Headline: what a list of words asks for.
 use Rattle.std.specs.Prelude.{◌≡◌, ◌==◌, ◌&&◌, ℕ, Bool, List, ◌∷◌, codes, Option, Some, None, option_map, option_and_then, find, if◌then◌else◌, nat_le, is_some, IfSome}
 use Rattle.std.specs.Str.{bytes_eq}
 use Rattle.std.specs.Str.Parse.{digits_value}

@@ -1,4 +1,4 @@
--- Public: who makes the turns of a task's run.
+-- Headline: who makes the turns of a task's run.
 use Rattle.rs_model.specs.declared.runs.Workers.{Workers}
 use Rattle.rs_model.specs.declared.runs.Workers.TheVariants.{One}
 use Rattle.rs_words.specs.declared.tasks.DocumentTask.TheVariants.{Run}

@@ -1,4 +1,4 @@
--- Public: words as lists of bytes.
+-- Headline: words as lists of bytes.
 use Rattle.std.specs.Prelude.{String, string_bytes, map, List, ℕ}
 use Rattle.std.specs.declared.alloc.Global.{Global}
 

@@ -64,6 +64,7 @@ returns-in-Idle g c =
             c.requires.fresh.well_formed inv.so_far r c.end_of-end.ensures);
       };
       noted = c.in_ok-round.ensures.noted;
+      capacity = c.in_ok-round.ensures.capacity ∙ inv.capacity;
     }
 
 pub returns-in-Stopped : goal.returns-in-Stopped
@@ -82,4 +83,5 @@ returns-in-Stopped g c =
         among = tt;
       };
       noted = c.in_ok-round.ensures.noted;
+      capacity = c.in_ok-round.ensures.capacity ∙ inv.capacity;
     }

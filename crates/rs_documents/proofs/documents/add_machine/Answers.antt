@@ -12,7 +12,7 @@ returns-in-Some-clause-err c =
 
 pub returns-in-Ok-clause-ok : goal.returns-in-Ok-clause-ok
 returns-in-Ok-clause-ok c =
-    added_by machine_parts of_machines IsShort c.args.bytes.now c.args.at c.args.names.now c.read_own.new.names c.args.machines.now.items c.put.new.parts.items c.in-Ok.machine c.in-Ok.next
+    added_by machine_parts of_machines IsShort c.args.bytes.now c.args.at c.args.names.now c.read_machine_or_table.new.names c.args.machines.now.items c.put.new.parts.items c.in-Ok.machine c.in-Ok.next
     (c.put.ensures ∙ ap (λ (d : Machine_data). slice_set c.args.machines.now.items d.role.0 (Some c.in-Ok.machine)) c.machine.view_is) c.requires.names c.requires.held c.requires.machine
     (sym (rw c.as_slice.ensures.value at c.in_default.ensures.twice)) c.in-Ok.ensures.ok.spells c.in-Ok.ensures.names c.in-Ok.ensures.kept.roles
     c.in-Ok.ensures.ok.bounded c.in-Ok.ensures.ok.within

@@ -1,4 +1,4 @@
-use Rattle.std.proofs.Common.{ℕ, List, Some, IfErr, IfOk, length, ap, subst, sym, arith}
+use Rattle.std.proofs.Common.{◌≡◌, ℕ, List, Some, IfErr, IfOk, length, ap, subst, sym, arith}
 use Rattle.rs_model.specs.Data.{Machine_data}
 use Rattle.rs_core.specs.Plain.{Ending, IsPlain}
 use Rattle.rs_core.specs.Choices.{AreWellFormed}
@@ -34,3 +34,6 @@ returns-clause-enough g c room =
     only_memory g.A.Actor.behaviour c.args.accepted.now c.args.actors.items c.args.limit c.args.capacity c.run_over.result e.accepted c.requires.actors room
     (subst (λ (z : List Machine_data × ℕ). IfErr c.run_over.result (λ f. (given : ℕ → g.row.A.Denot) → IsGiven given c.args.actors.items → FaultTells z.0 g.A.Actor.behaviour given c.args.limit z.1 f))
     (λ i. (e.machines i, e.capacity i)) c.run_over.ensures.full)
+
+pub returns-clause-rings : goal.returns-clause-rings
+returns-clause-rings g c = subst (λ (z : ℕ). IfOk c.run_over.result (λ r. r.closed.capacity ≡ z)) c.in_ok-hand.ensures.capacity c.run_over.ensures.rings

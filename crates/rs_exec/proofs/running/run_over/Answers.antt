@@ -1,4 +1,4 @@
-use Rattle.std.proofs.Common.{◌∙◌, List, Some, length, ap, subst, sym, arith}
+use Rattle.std.proofs.Common.{◌≡◌, ◌∙◌, ℕ, List, Some, length, ap, subst, sym, arith}
 use Rattle.rs_model.specs.Data.{Machine_data}
 use Rattle.rs_core.specs.Histories.{transcript_of}
 use Rattle.rs_core.specs.Runs.{HasPlayed}
@@ -11,6 +11,9 @@ use Rattle.rs_exec.proofs.Spent.{may_end, session_of_run}
 use Rattle.rs_exec.proofs.Together.{starts_in}
 use Rattle.rs_core.proofs.Shown.{show_fault, show_plain}
 use Rattle.rs_exec.proofs.running.run_over.Goals as goal
+
+same_number : (a b : ℕ) → Some a ≡ Some b → a ≡ b
+same_number a b h = cc (h)
 
 pub play-requires-clause-fresh : goal.play-requires-clause-fresh
 play-requires-clause-fresh g c = record {
@@ -56,3 +59,6 @@ pub returns-in-Err-run_of-clause-full : goal.returns-in-Err-run_of-clause-full
 returns-in-Err-run_of-clause-full g c given is = show_fault g.A.Actor.behaviour c.args.hand.session.machines given c.args.limit c.args.hand.session.capacity c.args.actors.items
     (core_of c.play.new.queues.session.machines c.play.new.queues.all.view)
     c.in-Ok.finished.end c.in-Ok.finished.players.items c.in-Err-run_of.fault c.requires.well_formed c.in-Ok.ensures.played is c.in-Err-run_of.ensures.full
+
+pub returns-in-Ok-run_of-clause-rings : goal.returns-in-Ok-run_of-clause-rings
+returns-in-Ok-run_of-clause-rings g c = c.spend-closed.ensures.capacity ∙ same_number c.play.new.queues.session.capacity c.args.hand.session.capacity c.in-Ok.ensures.capacity

@@ -5,6 +5,7 @@ use Rattle.rs_tables.specs.Feeding.{start_of_table, feeding}
 use Rattle.rs_tables.proofs.Judged.{judges, begins}
 use Rattle.rs_tables.proofs.Placing.{stays_below}
 use Rattle.rs_tables.proofs.Sounding.{keeps_behind, sound_behind}
+use Rattle.rs_tables.proofs.Leaving.{leaves}
 use Rattle.rs_tables.proofs.Spelt.{begins_with, reads_spelt, spelt_bounded}
 use Rattle.rs_tables.proofs.tables.read_table.Goals as goal
 
@@ -45,3 +46,9 @@ pub returns-clause-kept : goal.returns-clause-kept
 returns-clause-kept c =
     let kept = keeps_behind c.new-reader.result c.args.bytes.now c.args.at _ (search rules) c.in-Err.ensures.names in
     search (kept, rules)
+
+pub returns-clause-left : goal.returns-clause-left
+returns-clause-left c =
+    let first : c.new-reader.result ≡ start_of_table c.args.names.now = begins_with c.new-reader.result c.args.names.now _ _ c.new-reader.ensures (search rules) (search rules) in
+    leaves c.in-Err.stop c.args.names.now _ _ c.new-reader.result c.args.bytes.now c.args.at c.into_fault.result c.into_fault.ensures first c.requires.names.labels c.requires.at
+    c.in-Err.ensures.err c.in-Err.ensures.left c.in-Err.ensures.names (search rules) (search rules)

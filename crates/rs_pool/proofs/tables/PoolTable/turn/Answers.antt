@@ -10,4 +10,5 @@ returns g c =
     record {
       fits = turned b g.N.StartName.start c.args.role t old new c.requires.fits (subst (λ (s : Rings_data). IsTaskOf s new.task) c.requires.session c.turn-turn.ensures.of)
           (subst (λ (s : Rings_data). TaskTurnTells s b old.task new.task t) c.requires.session c.turn-turn.ensures.tells) c.turn-turn.ensures.progress;
+      tells = c.turn-turn.ensures.tells;
     }

@@ -1,5 +1,0 @@
-use Rattle.std.proofs.Common.{vec_len}
-use Rattle.rs_session.proofs.sessions.leave_stages.Given as goal
-
-abbrev pub decreases-loop-stage : goal.decreases-loop-stage
-decreases-loop-stage l = vec_len l.stages
