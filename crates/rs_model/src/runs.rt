@@ -144,7 +144,7 @@ impl Crew {
 pub enum Workers {
     /// The thread that calls, round after round.
     One,
-    /// So many workers, on at most so many threads, as they come.
+    /// So many workers, on threads of their own, as they come.
     Several(Crew),
 }
 

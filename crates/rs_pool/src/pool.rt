@@ -285,8 +285,7 @@ fn play<R: Threads + Wait + Sync, A: Actor + Send, G: Gate + Sync>(
 }
 
 /// Runs the machines of an accepted session by so many workers over rings of that capacity, until all roles have ended, or one
-/// has made `limit` acts and hasn't ended. At most so many threads are started, and any number of workers can finish, one
-/// alone too.
+/// has made `limit` acts and hasn't ended. Any number of workers can finish, one alone too.
 ///
 /// There is one actor for each role, and the capacity is at least the room of the session: over such rings some role can go on,
 /// or all have ended, wherever the session comes to. A worker takes the task of some

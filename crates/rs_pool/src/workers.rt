@@ -202,7 +202,7 @@ impl<A: Actor, N: StartName<A>> PoolTable<A, N> {
     }
 }
 
-/// All workers at work, on at most so many threads.
+/// All workers at work, on threads of their own.
 pub(crate) fn run_all<
     R: Threads + Wait + Sync,
     A: Actor + Send,

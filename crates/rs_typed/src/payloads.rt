@@ -122,6 +122,7 @@ impl Payload for Nat {
     ghost comes_back = { nat_comes_back };
 }
 
+/// A whole number goes as itself. A `Natural` that comes is taken as that number.
 impl Payload for i64 {
     ghost use Rattle.rs_model.specs.declared.values.Sort.TheVariants as sort;
     ghost use Rattle.rs_model.specs.declared.values.Value.TheVariants as value;
