@@ -1,0 +1,4 @@
+pub mod Lines
+pub mod Sequences
+pub mod Machines
+pub mod Drawing
