@@ -1,7 +1,8 @@
 -- What is drawn for a place are the lines of whatever body is written for it.
-use Rattle.std.proofs.Common.{◌≡◌, ℕ, suc, ◌+◌, ◌<◌, ◌≤◌, ◌-◌, eqb, List, [], ◌∷◌, ◌++◌, length, codes, Bool, true, false, Option, Some, None, drop, slice_get, refl, sym, ap, ◌∙◌}
+use Rattle.std.proofs.Common.{◌≡◌, ℕ, zero, suc, ◌+◌, ◌<◌, ◌≤◌, ◌-◌, eqb, List, [], ◌∷◌, ◌++◌, length, codes, Bool, true, false, Option, Some, None, drop, get_or, slice_get, refl, sym, ap, ◌∙◌}
 use Rattle.std.proofs.Common.{subst, append_assoc, append-nil, inl, inr, arith}
 use Rattle.std.proofs.lemmas.Grind.{flat_map-append}
+use Rattle.std.proofs.lemmas.Option.{slice_get_read}
 use Rattle.std.proofs.lemmas.Bool.{eq-eqb, eqb-true}
 use Rattle.std.specs.List.{flat_map, list_any, list_all}
 use Rattle.rs_model.specs.Data.{Names_data, Protocol_data}
@@ -27,10 +28,11 @@ use Rattle.rs_bodies.specs.Dialects.{BehindRole, sends_to}
 use Rattle.rs_bodies.specs.Places.{choice, name_of_place, place_of_node, places_of_protocol, IsGoneBackTo}
 use Rattle.rs_bodies.specs.Shapes.{leads_to, place_leads, leads_from}
 use Rattle.rs_bodies.specs.Trees.{Body, ends, again, binds, acts, offers, Branches, one, more}
+use Rattle.rs_global.specs.Trees.{ProtocolTree}
 use Rattle.rs_global.proofs.Places.{stands, is_talk}
 use Rattle.rs_pictures.specs.Drawing.{AddsCases, AddsPlace, AddsTalk, EndsLast, NoEndBelow, case_of}
 use Rattle.rs_pictures.specs.Lines.{Says, message, begins_loop, goes_back, all_end, closes, Line, at, line_text, lines_text}
-use Rattle.rs_pictures.specs.Sequences.{body_lines, case_lines, message_of}
+use Rattle.rs_pictures.specs.Sequences.{body_lines, case_lines, message_of, participants_text, sequence_text}
 
 -- ---- places
 
@@ -88,6 +90,24 @@ pub no_talk : (p : Protocol_data) (n : ℕ) (found : Option Node) → slice_get 
 no_talk p n found e none h arms k =
     let t = is_talk p n h arms k in
     none t.sender t.receiver arms (sym e ∙ t.talks)
+
+-- the talk that was found among the nodes
+pub talk_found : (p : Protocol_data) (n : ℕ) (nodes : List Node) (x : Node) (s r : Role) (arms ours : List Arm) → nodes ≡ p.nodes → n < length nodes → x ≡ get_or nodes n x → x ≡ Talk s r arms → ours ≡ arms
+    → slice_get p.nodes n ≡ Some (Talk s r ours)
+talk_found p n nodes x s r arms ours same low e is our =
+    subst (λ (z : List Node). slice_get z n ≡ Some (Talk s r ours)) same (slice_get_read nodes (length nodes) n x refl low e ∙ ap Some (is ∙ ap (Talk s r) (sym our)))
+
+pub end_found : (p : Protocol_data) (n : ℕ) (nodes : List Node) (x : Node) → nodes ≡ p.nodes → n < length nodes → x ≡ get_or nodes n x → x ≡ Finished → NoTalk p n
+end_found p n nodes x same low e is =
+    no_talk p n (Some x) (subst (λ (z : List Node). slice_get z n ≡ Some x) same (slice_get_read nodes (length nodes) n x refl low e)) (λ s r arms h. cc (some_is x (Talk s r arms) h, is))
+
+beyond : (nodes : List Node) (n : ℕ) → length nodes ≤ n → slice_get nodes n ≡ None
+beyond [] n h = refl
+beyond (x ∷ nodes) zero h = absurd (omega arith)
+beyond (x ∷ nodes) (suc n) h = beyond nodes n (omega arith)
+
+pub none_found : (p : Protocol_data) (n : ℕ) (nodes : List Node) → nodes ≡ p.nodes → length nodes ≤ n → NoTalk p n
+none_found p n nodes same far = no_talk p n None (subst (λ (z : List Node). slice_get z n ≡ None) same (beyond nodes n far)) (λ s r arms h. cc h)
 
 -- ---- lines
 
@@ -233,3 +253,31 @@ cases_added (x ∷ later) names p depth from s r first arm old begun said drawn 
     (lines_text p.roles (body_lines names (depth + 1) body ++ case_lines names depth q t (case_of false) arms)) begun said new b m
     (two_texts said (lines_text p.roles (body_lines names (depth + 1) body)) (lines_text p.roles (case_lines names depth q t (case_of false) arms)) drawn new (adds body h.1) (rest q t arms named h.2)
     ∙ ap (λ z. said ++ z) (sym (flat_map-append (line_text p.roles) (body_lines names (depth + 1) body) (case_lines names depth q t (case_of false) arms)))))
+
+pub cases_behind : (arms later : List Arm) (names : Names_data) (p : Protocol_data) (depth from : ℕ) (s r : Role) (first : Bool) (arm : Arm) (old begun said drawn new : List ℕ) → IsSound names
+    → arms ≡ arm ∷ later → begun ≡ old ++ line_text p.roles (at depth (case_of first (name_at names.labels arm.label.0)))
+    → said ≡ begun ++ line_text p.roles (at (depth + 1) (message s r (name_at names.labels arm.label.0) (shown_sort arm.sort))) → AddsPlace names p (depth + 1) from arm.next said drawn
+    → AddsCases names p depth from s r false later drawn new → AddsCases names p depth from s r first arms old new
+cases_behind arms later names p depth from s r first arm old begun said drawn new sound is b m adds rest =
+    subst (λ (z : List Arm). AddsCases names p depth from s r first z old new) (sym is) (cases_added later names p depth from s r first arm old begun said drawn new sound b m adds rest)
+
+pub only_added : (names : Names_data) (p : Protocol_data) (depth n : ℕ) (s r : Role) (arms : List Arm) (arm : Arm) (old mid new : List ℕ) → IsSound names → slice_get p.nodes n ≡ Some (Talk s r arms)
+    → arms ≡ arm ∷ [] → mid ≡ old ++ line_text p.roles (at depth (message s r (name_at names.labels arm.label.0) (shown_sort arm.sort))) → AddsPlace names p depth (n + 1) arm.next mid new
+    → AddsTalk names p depth n old new
+only_added names p depth n s r arms arm old mid new sound e is = one_added names p depth n s r arm old mid new sound (e ∙ ap (λ z. Some (Talk s r z)) is)
+
+-- ---- the whole picture
+
+text_is : (head whole parts lines begun listed new : List ℕ) → begun ≡ head → listed ≡ begun ++ parts → new ≡ listed ++ lines → whole ≡ head ++ (parts ++ lines) → new ≡ whole
+text_is head whole parts lines begun listed new b l n w = n ∙ ap (λ z. z ++ lines) (l ∙ ap (λ z. z ++ parts) b) ∙ append_assoc head parts lines ∙ sym w
+
+pub picture_is : (names : Names_data) (p : Protocol_data) (root : ℕ) (roles : List (List ℕ)) (tree : ProtocolTree) (begun listed new : List ℕ) → begun ≡ codes "sequenceDiagram\n"
+    → roles ≡ names.roles → listed ≡ begun ++ participants_text 0 roles → root ≡ p.root → length names.roles ≡ p.roles → AddsPlace names p 1 0 root listed new
+    → Draws Talks names (places_of_protocol p) 0 p.root tree.body → new ≡ sequence_text names tree
+picture_is names p root roles tree begun listed new b same l at_root count adds draws =
+    text_is (codes "sequenceDiagram\n") (sequence_text names tree) (participants_text 0 names.roles) (lines_text (length names.roles) (body_lines names 1 tree.body)) begun listed new b
+    (l ∙ ap (λ z. begun ++ participants_text 0 z) same)
+    (adds tree.body (subst (λ (z : ℕ). Draws Talks names (places_of_protocol p) 0 z tree.body) (sym at_root) draws) ∙ ap (λ z. listed ++ lines_text z (body_lines names 1 tree.body)) (sym count)) refl
+
+pub not_only : (arms : List Arm) → (length arms ≡ 1 → ⊥) → (a : Arm) → arms ≡ a ∷ [] → ⊥
+not_only arms h a e = h (ap length e)

@@ -1,7 +1,9 @@
 -- One piece more of a text that is put together piece by piece.
-use Rattle.std.proofs.Common.{◌≡◌, ℕ, zero, suc, ◌+◌, List, [], ◌∷◌, ◌++◌, ◌||◌, codes, drop, map, Some, slice_get, refl, sym, ap, arith}
+use Rattle.std.proofs.Common.{◌≡◌, ℕ, zero, suc, ◌+◌, List, [], ◌∷◌, ◌++◌, ◌||◌, append_assoc, length, codes, drop, map, Some, slice_get, ◌<◌, get_or, slice_index_or, refl, sym, ap, ◌∙◌, arith}
 use Rattle.std.specs.List.{list_any}
+use Rattle.rs_model.specs.declared.graph.Arm.{Arm}
 use Rattle.rs_model.specs.declared.graph.Node.{Node}
+use Rattle.rs_model.specs.declared.values.Sort.TheVariants as sort
 use Rattle.rs_text.proofs.Basics.{some_is}
 use Rattle.rs_bodies.specs.Places.{place_of_node}
 use Rattle.rs_bodies.specs.Shapes.{place_leads}
@@ -29,3 +31,31 @@ participants_on n zero [] name e = absurd (cc e)
 participants_on n (suc k) [] name e = absurd (cc e)
 participants_on n zero (x ∷ names) name e = rw (sym (some_is x name e)) refl
 participants_on n (suc k) (x ∷ names) name e = participants_on n k names name e
+
+-- texts one behind the other, grouped in another way
+pub three_grouped : (t a b c : List ℕ) → ((t ++ a) ++ b) ++ c ≡ t ++ (a ++ b ++ c)
+three_grouped t a b c = simp append_assoc refl
+
+pub four_grouped : (t a b c d : List ℕ) → (((t ++ a) ++ b) ++ c) ++ d ≡ t ++ a ++ (b ++ c ++ d)
+four_grouped t a b c d = simp append_assoc refl
+
+-- the only arm
+pub only_arm : (arms : List Arm) → length arms ≡ 1 → arms ≡ slice_index_or arms 0 (record { label = record { 0 = 0 }; sort = sort.Unit; next = 0 }) ∷ []
+only_arm [] n = absurd (cc n)
+only_arm (y ∷ []) n = refl
+only_arm (y ∷ z ∷ arms) n = absurd (omega arith)
+
+pub map_length : {A B : Type 0} (f : A → B) (xs : List A) → length (map f xs) ≡ length xs
+map_length f [] = refl
+map_length f (x ∷ xs) = ap suc (map_length f xs)
+
+got : {A : Type 0} (xs : List A) (k : ℕ) (x : A) → k < length xs → x ≡ get_or xs k x → slice_get xs k ≡ Some x
+got [] k x low e = absurd (omega arith)
+got (y ∷ xs) zero x low e = ap Some (sym e)
+got (y ∷ xs) (suc k) x low e = got xs k x (omega arith) e
+
+pub participants_behind : (k : ℕ) (names : List (List ℕ)) (name old new : List ℕ) → k < length names → name ≡ get_or names k name → new ≡ old ++ participant_text k name
+    → new ++ participants_text (k + 1) (drop (k + 1) names) ≡ old ++ participants_text k (drop k names)
+participants_behind k names name old new low e h =
+    rw (one_more k) (ap (λ z. z ++ participants_text (suc k) (drop (suc k) names)) h ∙ append_assoc old (participant_text k name) (participants_text (suc k) (drop (suc k) names))
+    ∙ ap (λ z. old ++ z) (sym (participants_on k k names name (got names k name low e))))

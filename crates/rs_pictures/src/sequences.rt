@@ -139,6 +139,7 @@ fn draw_loop(
     requires ends_last { EndsLast protocol.now }
     requires sound { IsSound names.now }
     requires shallow { depth ≤ 2 * number + 1 }
+    requires present { number < length protocol.now.nodes }
     requires stands { slice_get protocol.now.nodes number ≡ Some (Talk sender receiver arms.now) }
     ensures { OnOk result (AddsPlace names.now protocol.now depth number number text.old text.new) }
 {
@@ -153,6 +154,7 @@ fn draw_loop(
 
 /// Draws a talk: one arm as a message, several as a choice of messages.
 #[cycle(drawing)]
+#[tactic(auto, using(crate::proofs::Drawn::none_below))]
 fn draw_talk(
     text: &mut Text,
     names: &Names,
@@ -168,15 +170,18 @@ fn draw_talk(
     requires ends_last { EndsLast protocol.now }
     requires sound { IsSound names.now }
     requires shallow { depth ≤ 2 * number + 2 }
+    requires present { number < length protocol.now.nodes }
     requires stands { slice_get protocol.now.nodes number ≡ Some (Talk sender receiver arms.now) }
     ensures { OnOk result (AddsTalk names.now protocol.now depth number text.old text.new) }
 {
-    if let [arm] = arms {
-        push_message(text, names, depth, sender, receiver, *arm)?;
-        return draw_place(text, names, protocol, depth, number + 1, arm.next as usize);
+    if arms.len() == 1 {
+        let only = arms[0];
+        push_message(text, names, depth, sender, receiver, only)?;
+        draw_place(text, names, protocol, depth, number + 1, only.next as usize)
+    } else {
+        draw_cases(text, names, protocol, depth, number + 1, sender, receiver, true, arms)?;
+        push_close(text, depth)
     }
-    draw_cases(text, names, protocol, depth, number + 1, sender, receiver, true, arms)?;
-    push_close(text, depth)
 }
 
 /// Draws alternatives, of which the first one begins the choice or follows others.
@@ -201,11 +206,13 @@ fn draw_cases(
     requires behind { NoEndBelow protocol.now from }
     ensures { OnOk result (AddsCases names.now protocol.now depth from sender receiver first arms.now text.old text.new) }
 {
-    let [arm, later @ ..] = arms else {
-        return Ok(());
-    };
-    push_case(text, names, depth, first, *arm)?;
-    push_message(text, names, depth + 1, sender, receiver, *arm)?;
-    draw_place(text, names, protocol, depth + 1, from, arm.next as usize)?;
-    draw_cases(text, names, protocol, depth, from, sender, receiver, false, later)
+    match arms.split_first() {
+        None => Ok(()),
+        Some((arm, later)) => {
+            push_case(text, names, depth, first, *arm)?;
+            push_message(text, names, depth + 1, sender, receiver, *arm)?;
+            draw_place(text, names, protocol, depth + 1, from, arm.next as usize)?;
+            draw_cases(text, names, protocol, depth, from, sender, receiver, false, later)
+        }
+    }
 }
