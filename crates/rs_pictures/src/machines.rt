@@ -45,8 +45,22 @@ fn push_state(text: &mut Text, names: &Names, number: u64, state: &State) -> Res
 {
     match state {
         State::Done => push_end(text, number),
-        State::Puts { peer, arms } => push_arrows(text, names, number, *peer, b"!", arms.as_slice()),
-        State::Takes { peer, arms } => push_arrows(text, names, number, *peer, b"?", arms.as_slice()),
+        State::Puts { peer, arms } => push_arrows(
+            text,
+            names,
+            number,
+            *peer,
+            b"!",
+            arms.as_slice(),
+        ),
+        State::Takes { peer, arms } => push_arrows(
+            text,
+            names,
+            number,
+            *peer,
+            b"?",
+            arms.as_slice(),
+        ),
     }
 }
 

@@ -23,11 +23,7 @@ use std::alloc::Global;
 /// what is gone back to as a loop. A role has the alias `R` and its number, so that its name may be any word.
 ///
 /// Refused memory is the only error.
-pub fn sequence_picture(
-    alloc: Global,
-    names: &Names,
-    protocol: &Protocol,
-) -> Result<Text, NoMemory>
+pub fn sequence_picture(alloc: Global, names: &Names, protocol: &Protocol) -> Result<Text, NoMemory>
     requires shaped { IsTextShaped protocol.now }
     requires sound { IsSound names.now }
     requires enough { AreEnough names.now protocol.now }
@@ -112,11 +108,22 @@ fn draw_place(
         return push_back(text, protocol.roles, depth, number as u64);
     }
     match protocol.nodes.get(number) {
-        Some(Node::Talk {
-            sender,
-            receiver,
-            arms,
-        }) => draw_loop(text, names, protocol, depth, number, *sender, *receiver, arms.as_slice()),
+        Some(
+            Node::Talk {
+                sender,
+                receiver,
+                arms,
+            },
+        ) => draw_loop(
+            text,
+            names,
+            protocol,
+            depth,
+            number,
+            *sender,
+            *receiver,
+            arms.as_slice(),
+        ),
         Some(Node::Finished) => push_all_end(text, protocol.roles, depth),
         None => push_all_end(text, protocol.roles, depth),
     }
@@ -145,7 +152,16 @@ fn draw_loop(
 {
     if is_gone_back_to(protocol, number) {
         push_loop(text, depth, number as u64)?;
-        draw_talk(text, names, protocol, depth + 1, number, sender, receiver, arms)?;
+        draw_talk(
+            text,
+            names,
+            protocol,
+            depth + 1,
+            number,
+            sender,
+            receiver,
+            arms,
+        )?;
         push_close(text, depth)
     } else {
         draw_talk(text, names, protocol, depth, number, sender, receiver, arms)
@@ -179,7 +195,17 @@ fn draw_talk(
         push_message(text, names, depth, sender, receiver, only)?;
         draw_place(text, names, protocol, depth, number + 1, only.next as usize)
     } else {
-        draw_cases(text, names, protocol, depth, number + 1, sender, receiver, true, arms)?;
+        draw_cases(
+            text,
+            names,
+            protocol,
+            depth,
+            number + 1,
+            sender,
+            receiver,
+            true,
+            arms,
+        )?;
         push_close(text, depth)
     }
 }
@@ -212,7 +238,9 @@ fn draw_cases(
             push_case(text, names, depth, first, *arm)?;
             push_message(text, names, depth + 1, sender, receiver, *arm)?;
             draw_place(text, names, protocol, depth + 1, from, arm.next as usize)?;
-            draw_cases(text, names, protocol, depth, from, sender, receiver, false, later)
+            draw_cases(
+                text, names, protocol, depth, from, sender, receiver, false, later,
+            )
         }
     }
 }

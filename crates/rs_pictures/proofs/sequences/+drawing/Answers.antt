@@ -35,10 +35,29 @@ draw_place-draw_loop-requires t c =
     let p = c.args.protocol.now in
     let same = c.deref.ensures.value ∙ ap (λ (q : Protocol_data). q.nodes) c.protocol.view_is in
     let low = ltb-true c.args.number (length c.deref.result.now) (sym c.in-Some-Talk.ensures.lookup.0) in
-    let few : length c.deref.result.now ≡ length p.nodes = ap length same in
-    (let d = c.decreases in omega arith, (c.requires.few, (c.requires.roles, (c.requires.ends_last, (c.requires.sound, (omega arith, (omega arith,
-    talk_found p c.args.number c.deref.result.now c.in-Some-Talk.field-0.now c.in-Some-Talk.sender c.in-Some-Talk.receiver c.in-Some-Talk.arms c.as_slice.result.now same low
-    c.in-Some-Talk.ensures.lookup.1 c.in-Some-Talk.field-0-is c.as_slice.ensures)))))))
+    let few : length c.deref.result.now ≡ length p.nodes = ap length same in (
+      let d = c.decreases in omega arith,
+      (
+        c.requires.few,
+        (
+          c.requires.roles,
+          (
+            c.requires.ends_last,
+            (
+              c.requires.sound,
+              (
+                omega arith,
+                (
+                  omega arith,
+                  talk_found p c.args.number c.deref.result.now c.in-Some-Talk.field-0.now c.in-Some-Talk.sender c.in-Some-Talk.receiver c.in-Some-Talk.arms c.as_slice.result.now same low
+                      c.in-Some-Talk.ensures.lookup.1 c.in-Some-Talk.field-0-is c.as_slice.ensures,
+                ),
+              ),
+            ),
+          ),
+        ),
+      ),
+    )
 
 pub draw_place-returns-in-Some-Finished : goal.draw_place-returns-in-Some-Finished
 draw_place-returns-in-Some-Finished t c =
@@ -74,11 +93,49 @@ draw_cases-returns-in_ok-draw_place-in-Some t c =
     (c.in_ok-push_case-in-Some.ensures c.args.protocol.now.roles) (c.in_ok-push_message-in-Some.ensures c.args.protocol.now.roles) c.in_ok-draw_place-in-Some.ensures h) c.draw_cases.ensures
 
 pub draw_talk-draw_place-requires : goal.draw_talk-draw_place-requires
-draw_talk-draw_place-requires t c =
-    (let d = c.decreases in let low = c.requires.present in omega arith, (c.requires.few, (c.requires.roles, (c.requires.ends_last, (c.requires.sound, (omega arith, (omega arith,
-    none_below c.args.protocol.now c.args.number c.args.sender c.args.receiver c.args.arms.now c.requires.ends_last c.requires.stands)))))))
+draw_talk-draw_place-requires t c = (
+  let d = c.decreases in let low = c.requires.present in omega arith,
+  (
+    c.requires.few,
+    (
+      c.requires.roles,
+      (
+        c.requires.ends_last,
+        (
+          c.requires.sound,
+          (
+            omega arith,
+            (
+              omega arith,
+              none_below c.args.protocol.now c.args.number c.args.sender c.args.receiver c.args.arms.now c.requires.ends_last c.requires.stands,
+            ),
+          ),
+        ),
+      ),
+    ),
+  ),
+)
 
 pub draw_talk-draw_cases-requires : goal.draw_talk-draw_cases-requires
-draw_talk-draw_cases-requires t c =
-    (let d = c.decreases in let low = c.requires.present in omega arith, (c.requires.few, (c.requires.roles, (c.requires.ends_last, (c.requires.sound, (omega arith, (omega arith,
-    none_below c.args.protocol.now c.args.number c.args.sender c.args.receiver c.args.arms.now c.requires.ends_last c.requires.stands)))))))
+draw_talk-draw_cases-requires t c = (
+  let d = c.decreases in let low = c.requires.present in omega arith,
+  (
+    c.requires.few,
+    (
+      c.requires.roles,
+      (
+        c.requires.ends_last,
+        (
+          c.requires.sound,
+          (
+            omega arith,
+            (
+              omega arith,
+              none_below c.args.protocol.now c.args.number c.args.sender c.args.receiver c.args.arms.now c.requires.ends_last c.requires.stands,
+            ),
+          ),
+        ),
+      ),
+    ),
+  ),
+)
