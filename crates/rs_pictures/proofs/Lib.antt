@@ -1,2 +1,4 @@
 pub mod Pieces
 pub mod Drawn
+pub mod OnePicture
+pub mod Arrows

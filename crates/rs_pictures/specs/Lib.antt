@@ -2,3 +2,4 @@ pub mod Lines
 pub mod Sequences
 pub mod Machines
 pub mod Drawing
+pub mod Messages

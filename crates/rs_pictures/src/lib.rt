@@ -1,6 +1,7 @@
 //! Pictures of protocols and machines, in the syntax of Mermaid.
 #![tactic(auto)]
 
+pub mod laws;
 mod lines;
 mod machines;
 mod sequences;
