@@ -1,5 +1,6 @@
 -- What was answered is what is due.
-use Rattle.std.proofs.Common.{◌≡◌, ◌⊎◌, ℕ, List, Some, None, Result, Ok, Err, slice_get, sym, ap, subst, ◌∙◌, inl, inr}
+use Rattle.std.proofs.Common.{◌≡◌, ◌⊎◌, ◌<◌, ℕ, List, length, Option, Some, None, Result, Ok, Err, get_or, slice_get, refl, sym, ap, subst, ◌∙◌, inl, inr, arith}
+use Rattle.std.proofs.lemmas.Option.{slice_get_read}
 use Rattle.std.specs.Prelude.{IfOk, OnOk}
 use Rattle.rs_model.specs.Data.{Machine_data}
 use Rattle.rs_model.specs.declared.memory.NoMemory.{NoMemory}
@@ -11,6 +12,8 @@ use Rattle.rs_text.specs.Names.{place_of}
 use Rattle.rs_wellformed.specs.Faults.{first_fault}
 use Rattle.rs_wellformed.specs.declared.checks.WfFault.{WfFault}
 use Rattle.rs_documents.specs.Data.{Document_data}
+use Rattle.rs_documents.specs.Ready.{DocumentIsReady}
+use Rattle.rs_text.proofs.Numbers.{place_below}
 use Rattle.rs_answers.specs.Data.{Answer_data}
 use Rattle.rs_answers.specs.Improves.{unknown_role}
 use Rattle.rs_answers.specs.RefusalTexts.{wf_answer}
@@ -54,3 +57,17 @@ pub projection_drawn : (role : List ℕ) (d : Document_data) (place : ℕ) (r : 
     → IfOk r (DrawsProjection d place) → IfOk r (DrawsRole role d)
 projection_drawn role d place (Err e) known there h = tt
 projection_drawn role d place (Ok a) known there h = HasNoMachine place known there h
+
+-- ---- the role
+
+pub known_role : (asked role : List ℕ) (found roles : List (List ℕ)) (place : ℕ) → Some place ≡ place_of asked found → asked ≡ role → found ≡ roles → place_of role roles ≡ Some place
+known_role asked role found roles place e a r = ap (λ z. place_of role z) (sym r) ∙ ap (λ z. place_of z found) (sym a) ∙ sym e
+
+pub role_below : (role : List ℕ) (d : Document_data) (place : ℕ) → DocumentIsReady d → place_of role d.names.roles ≡ Some place → place < length d.machines
+role_below role d place ready e = let below = place_below d.names.roles role place e in let one = ready.one_each in omega (arith, below, one)
+
+-- what stands in the role's place
+pub held : (d : Document_data) (place : ℕ) (machines : List (Option Machine_data)) (found own : Option Machine_data) → place < length d.machines → machines ≡ d.machines → found ≡ get_or machines place found
+    → found ≡ own → slice_get d.machines place ≡ Some own
+held d place machines found own low same e is =
+    slice_get_read d.machines (length d.machines) place found refl low (e ∙ ap (λ (z : List (Option Machine_data)). get_or z place found) same) ∙ ap Some is

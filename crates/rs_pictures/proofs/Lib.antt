@@ -1,4 +1,3 @@
 pub mod Pieces
 pub mod Drawn
 pub mod OnePicture
-pub mod Arrows
