@@ -4,7 +4,7 @@ ghost use Rattle.std.specs.Prelude.{◌≡◌, ◌<◌, IfOk, None, Some, length
 ghost use Rattle.rs_documents.specs.Canonical.{CanBeShown};
 ghost use Rattle.rs_documents.specs.Ready.{DocumentIsReady};
 ghost use Rattle.rs_answers.specs.Improves as improves;
-ghost use Rattle.rs_draw.specs.Draws.{DrawsProjection, DrawsProtocol, DrawsRole, drawn_machine};
+ghost use Rattle.rs_draw.specs.Draws.{Draws, DrawsProjection, DrawsProtocol, DrawsRole, drawn_machine};
 
 use rs_answers::{Answer, Refusal, Verdict, line_of_answer, projections_of, refusal_answer};
 use rs_documents::Document;
@@ -14,8 +14,20 @@ use rs_text::find;
 use rs_wellformed::well_formed;
 use std::alloc::Global;
 
+/// What `draw` answers to a document: the picture of its protocol, or with the name of a role that of the role's machine.
+pub fn draw(alloc: Global, document: &Document, role: &Option<Name>) -> Result<Answer, NoMemory>
+    requires ready { DocumentIsReady document.now }
+    requires shown { CanBeShown document.now }
+    ensures { IfOk result (Draws role.now document.now) }
+{
+    match role {
+        Some(role) => draw_role(alloc, document, role),
+        None => draw_protocol(alloc, document),
+    }
+}
+
 /// What `draw` answers to a document: the picture of its protocol, whether it is well formed or not.
-pub fn draw_protocol(alloc: Global, document: &Document) -> Result<Answer, NoMemory>
+fn draw_protocol(alloc: Global, document: &Document) -> Result<Answer, NoMemory>
     requires { CanBeShown document.now }
     ensures { IfOk result (DrawsProtocol document.now) }
 {
@@ -61,7 +73,7 @@ fn draw_projection(alloc: Global, document: &Document, place: usize) -> Result<A
 
 /// What `draw` answers to a document and the name of a role: the picture of the role's machine in the document, or of its
 /// projection if the document has no machine for it.
-pub fn draw_role(alloc: Global, document: &Document, role: &Name) -> Result<Answer, NoMemory>
+fn draw_role(alloc: Global, document: &Document, role: &Name) -> Result<Answer, NoMemory>
     requires { DocumentIsReady document.now }
     ensures { IfOk result (DrawsRole role.now document.now) }
 {

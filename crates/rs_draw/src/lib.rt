@@ -3,4 +3,4 @@
 
 mod drawing;
 
-pub use drawing::{draw_protocol, draw_role};
+pub use drawing::draw;

@@ -1,4 +1,4 @@
-use Rattle.std.proofs.Common.{Bool, None, Some, sym, subst}
+use Rattle.std.proofs.Common.{Bool, sym, subst}
 use Rattle.std.specs.Prelude.{IfOk}
 use Rattle.std.proofs.lemmas.Result.{IfOk-weaker}
 use Rattle.rs_answers.specs.Checks.{Checks}
@@ -79,18 +79,13 @@ returns-in-Improve c =
     document_leads c.args.task (on_document.Improve c.in-Improve.options) c.args.bytes.now c.in-Ok.document c.improve_role.result c.answered-in-Improve.result c.in-Improve.is c.requires.short c.in-Ok.ensures.ok
     (λ h. h) c.answered-in-Improve.ensures c.improve_role.ensures
 
-pub draw_protocol-requires : goal.draw_protocol-requires
-draw_protocol-requires c = can_show c.args.bytes.now c.in-Ok.document c.in-Ok.ensures.ok c.in-Ok.ensures.ready.sound
+pub draw-requires-clause-shown : goal.draw-requires-clause-shown
+draw-requires-clause-shown c = can_show c.args.bytes.now c.in-Ok.document c.in-Ok.ensures.ok c.in-Ok.ensures.ready.sound
 
-pub returns-in-Draw-None : goal.returns-in-Draw-None
-returns-in-Draw-None c =
-    document_leads c.args.task (on_document.Draw None) c.args.bytes.now c.in-Ok.document c.draw_protocol.result c.answered-in-Draw-None.result c.in-Draw-None.is c.requires.short c.in-Ok.ensures.ok
-    (λ h. h) c.answered-in-Draw-None.ensures c.draw_protocol.ensures
-
-pub returns-in-Draw-Some : goal.returns-in-Draw-Some
-returns-in-Draw-Some c =
-    document_leads c.args.task (on_document.Draw (Some c.in-Draw-Some.role)) c.args.bytes.now c.in-Ok.document c.draw_role.result c.answered-in-Draw-Some.result c.in-Draw-Some.is c.requires.short
-    c.in-Ok.ensures.ok (λ h. h) c.answered-in-Draw-Some.ensures c.draw_role.ensures
+pub returns-in-Draw : goal.returns-in-Draw
+returns-in-Draw c =
+    document_leads c.args.task (on_document.Draw c.in-Draw.role) c.args.bytes.now c.in-Ok.document c.draw.result c.answered-in-Draw.result c.in-Draw.is c.requires.short c.in-Ok.ensures.ok (λ h. h)
+    c.answered-in-Draw.ensures c.draw.ensures
 
 pub returns-in-Explain : goal.returns-in-Explain
 returns-in-Explain c =
