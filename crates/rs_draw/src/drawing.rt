@@ -1,6 +1,6 @@
 //! What `draw` answers to a document.
 
-ghost use Rattle.std.specs.Prelude.{◌≡◌, ◌<◌, IfOk, None, Some, length, slice_get};
+ghost use Rattle.std.specs.Prelude.{◌≡◌, ◌<◌, IfOk, None, Some, length};
 ghost use Rattle.rs_documents.specs.Canonical.{CanBeShown};
 ghost use Rattle.rs_documents.specs.Ready.{DocumentIsReady};
 ghost use Rattle.rs_answers.specs.Improves as improves;

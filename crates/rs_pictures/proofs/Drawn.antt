@@ -1,10 +1,10 @@
 -- What is drawn for a place are the lines of whatever body is written for it.
 use Rattle.std.proofs.Common.{◌≡◌, ℕ, zero, suc, ◌+◌, ◌<◌, ◌≤◌, ◌-◌, eqb, List, [], ◌∷◌, ◌++◌, length, codes, Bool, true, false, Option, Some, None, drop, get_or, slice_get, refl, sym, ap, ◌∙◌}
-use Rattle.std.proofs.Common.{subst, append_assoc, append-nil, inl, inr, arith}
+use Rattle.std.proofs.Common.{subst, append_assoc, append-nil, arith}
 use Rattle.std.proofs.lemmas.Grind.{flat_map-append}
 use Rattle.std.proofs.lemmas.Option.{slice_get_read}
 use Rattle.std.proofs.lemmas.Bool.{eq-eqb, eqb-true}
-use Rattle.std.specs.List.{flat_map, list_any, list_all}
+use Rattle.std.specs.List.{list_all}
 use Rattle.rs_model.specs.Data.{Names_data, Protocol_data}
 use Rattle.rs_model.specs.declared.graph.Arm.{Arm}
 use Rattle.rs_model.specs.declared.graph.Node.{Node}
@@ -13,7 +13,7 @@ use Rattle.rs_model.specs.declared.graph.Role.{Role}
 use Rattle.rs_model.specs.declared.values.Sort.{Sort}
 use Rattle.rs_text.specs.KnownNames.{role_named}
 use Rattle.rs_text.specs.NamePlaces.{name_at, text_or_none}
-use Rattle.rs_text.specs.Names.{differ, number_or, place_of}
+use Rattle.rs_text.specs.Names.{differ, number_or}
 use Rattle.rs_text.specs.Shown.{shown_sort}
 use Rattle.rs_text.specs.Sound.{IsSound}
 use Rattle.rs_text.proofs.Basics.{some_is, any_stands, stands_any, drop_get, both}
@@ -23,15 +23,15 @@ use Rattle.rs_bodies.specs.declared.dialects.Head.{Head}
 use Rattle.rs_bodies.specs.declared.dialects.Head.TheVariants as head
 use Rattle.rs_bodies.specs.declared.places.Place.{Place}
 use Rattle.rs_bodies.specs.declared.places.Place.TheVariants as place
-use Rattle.rs_bodies.specs.Canonical.{Draws, DrawsHead, DrawsArms, IsHeadOf, IsArmOf, IsPointOf}
+use Rattle.rs_bodies.specs.Canonical.{Draws, DrawsHead, IsHeadOf, IsArmOf}
 use Rattle.rs_bodies.specs.Dialects.{BehindRole, sends_to}
-use Rattle.rs_bodies.specs.Places.{choice, name_of_place, place_of_node, places_of_protocol, IsGoneBackTo}
+use Rattle.rs_bodies.specs.Places.{choice, name_of_place, places_of_protocol, IsGoneBackTo}
 use Rattle.rs_bodies.specs.Shapes.{leads_to, place_leads, leads_from}
-use Rattle.rs_bodies.specs.Trees.{Body, ends, again, binds, acts, offers, Branches, one, more}
+use Rattle.rs_bodies.specs.Trees.{Body, ends, again, binds, acts, offers, one, more}
 use Rattle.rs_global.specs.Trees.{ProtocolTree}
 use Rattle.rs_global.proofs.Places.{stands, is_talk}
 use Rattle.rs_pictures.specs.Drawing.{AddsCases, AddsPlace, AddsTalk, EndsLast, NoEndBelow, case_of}
-use Rattle.rs_pictures.specs.Lines.{Says, message, begins_loop, goes_back, all_end, closes, Line, at, line_text, lines_text}
+use Rattle.rs_pictures.specs.Lines.{message, begins_loop, goes_back, all_end, closes, Line, at, line_text, lines_text}
 use Rattle.rs_pictures.specs.Sequences.{body_lines, case_lines, message_of, participants_text, sequence_text}
 
 -- ---- places

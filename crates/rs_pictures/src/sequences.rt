@@ -1,6 +1,6 @@
 //! The pictures of protocols.
 
-ghost use Rattle.std.specs.Prelude.{◌≡◌, ◌<◌, ◌≤◌, ◌+◌, ◌*◌, ◌^◌, ◌++◌, IfOk, OnOk, Some, drop, length, slice_get};
+ghost use Rattle.std.specs.Prelude.{◌≡◌, ◌<◌, ◌≤◌, ◌+◌, ◌*◌, ◌++◌, IfOk, OnOk, Some, length, slice_get};
 ghost use Rattle.std.specs.List.{list_any};
 ghost use Rattle.rs_model.specs.declared.graph.Node.TheVariants.{Talk};
 ghost use Rattle.rs_model.specs.declared.limits.TheConstants.{MOST_TALKS};

@@ -1,4 +1,4 @@
-use Rattle.std.proofs.Common.{rules, ◌≡◌, ◌∙◌, List, length, ap, refl, sym, subst, Some, slice_get, arith}
+use Rattle.std.proofs.Common.{◌≡◌, List, length, ap, refl, subst, arith}
 use Rattle.std.specs.Prelude.{IfOk}
 use Rattle.std.proofs.lemmas.Option.{slice_get_read}
 use Rattle.rs_project.specs.Data.{Projection_data}

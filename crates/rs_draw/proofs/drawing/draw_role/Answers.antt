@@ -1,11 +1,10 @@
-use Rattle.std.proofs.Common.{rules, ◌≡◌, ◌<◌, ◌∙◌, ℕ, List, length, ap, sym, subst, None, Some, slice_get, arith}
+use Rattle.std.proofs.Common.{◌≡◌, ◌<◌, ◌∙◌, length, ap, subst, None, Some, arith}
 use Rattle.std.specs.Prelude.{IfOk}
-use Rattle.rs_model.specs.Data.{Machine_data, Names_data}
+use Rattle.rs_model.specs.Data.{Names_data}
 use Rattle.rs_text.proofs.Numbers.{place_below}
-use Rattle.rs_text.specs.Names.{place_of}
 use Rattle.rs_documents.specs.Data.{Document_data}
 use Rattle.rs_draw.specs.Draws.{drawn_machine}
-use Rattle.rs_draw.proofs.Answered.{held, known_role, own_drawn, projection_drawn, role_below, role_unknown}
+use Rattle.rs_draw.proofs.Answered.{held, known_role, own_drawn, projection_drawn, role_below}
 use Rattle.rs_draw.proofs.drawing.draw_role.Goals as goal
 
 pub index-requires : goal.index-requires

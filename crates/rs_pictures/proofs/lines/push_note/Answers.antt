@@ -1,4 +1,4 @@
-use Rattle.std.proofs.Common.{rules, ◌++◌, ◌-◌, codes, ap, ◌∙◌}
+use Rattle.std.proofs.Common.{◌++◌, ◌-◌, codes, ap, ◌∙◌}
 use Rattle.std.proofs.lemmas.Result.{on_ok_weaker}
 use Rattle.rs_pictures.specs.Lines.{indent, participant}
 use Rattle.rs_pictures.proofs.Pieces.{four_grouped}

@@ -1,12 +1,10 @@
-use Rattle.std.proofs.Common.{rules, ◌≡◌, ◌<◌, length, ◌+◌, ◌++◌, List, [], ◌∷◌, ℕ, false, slice_index_or, ◌∙◌, sym, ap, subst, arith}
+use Rattle.std.proofs.Common.{rules, ◌≡◌, length, ◌+◌, ◌++◌, false, slice_index_or, ◌∙◌, sym, ap, arith}
 use Rattle.std.proofs.lemmas.Bool.{ltb-true}
 use Rattle.std.proofs.lemmas.Option.{MatchOption-at_none}
 use Rattle.std.proofs.lemmas.Result.{on_ok_weaker}
 use Rattle.rs_model.specs.Data.{Protocol_data}
-use Rattle.rs_model.specs.declared.graph.Arm.{Arm}
 use Rattle.rs_model.specs.declared.values.Sort.TheVariants as sort
 use Rattle.rs_bodies.specs.Places.{name_of_place}
-use Rattle.rs_pictures.specs.Drawing.{AddsCases, AddsTalk}
 use Rattle.rs_pictures.specs.Lines.{all_end, at, goes_back, line_text}
 use Rattle.rs_pictures.proofs.Pieces.{only_arm}
 use Rattle.rs_pictures.proofs.Drawn.{back_added, choice_added, end_added, end_found, cases_behind, loop_added, none_below, none_found, not_only, only_added, plain_added, talk_found}

@@ -1,4 +1,4 @@
-use Rattle.std.proofs.Common.{rules, List, sym, ap, ◌∙◌, drop}
+use Rattle.std.proofs.Common.{List, ap, ◌∙◌, drop}
 use Rattle.std.specs.List.{list_any}
 use Rattle.rs_model.specs.Data.{Protocol_data}
 use Rattle.rs_model.specs.declared.graph.Node.{Node}

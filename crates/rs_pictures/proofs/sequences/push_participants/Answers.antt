@@ -1,5 +1,4 @@
-use Rattle.std.proofs.Common.{rules, ◌≡◌, ◌++◌, suc, ◌+◌, drop, length, Some, slice_get, sym, ap, ◌∙◌, append_assoc, arith}
-use Rattle.rs_pictures.specs.Sequences.{participant_text, participants_text}
+use Rattle.std.proofs.Common.{◌∙◌}
 use Rattle.rs_pictures.proofs.Pieces.{participants_behind}
 use Rattle.rs_pictures.proofs.sequences.push_participants.Goals as goal
 
