@@ -14,6 +14,7 @@ use Rattle.rs_answers.specs.declared.verdicts.Verdict.TheVariants.{Fine, Stopped
 use Rattle.rs_answers.proofs.OneDemo.{one_demo}
 use Rattle.rs_answers.proofs.OneImproved.{one_improving}
 use Rattle.rs_reasons.proofs.OneExplanation.{one_explaining}
+use Rattle.rs_draw.proofs.OneDrawing.{one_drawing}
 use Rattle.rs_words.specs.declared.tasks.DocumentTask.{DocumentTask}
 use Rattle.rs_words.specs.declared.tasks.DocumentTask.TheVariants as on_document
 use Rattle.rs_words.specs.declared.tasks.Task.{Task}
@@ -125,6 +126,7 @@ one_of_document on_document.Migrate bytes d a b doc h k = inl (one_migrating byt
 one_of_document (on_document.Run options workers) bytes d a b doc h k = one_with options workers bytes d a b doc h k
 one_of_document (on_document.Improve options) bytes d a b doc h k = inl (one_improving options.role options.bound options.swaps bytes d a b doc h k)
 one_of_document (on_document.Explain bound) bytes d a b doc h k = inl (one_explaining bound bytes d a b doc h k)
+one_of_document (on_document.Draw role) bytes d a b doc h k = inl (one_drawing role bytes d a b doc h k)
 one_of_document on_document.Show bytes d a b doc h k = inl (one_show bytes d a b doc h k)
 one_of_document on_document.Project bytes d a b doc h k = inl (one_tables d a b h k)
 

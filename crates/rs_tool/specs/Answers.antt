@@ -14,6 +14,7 @@ use Rattle.rs_documents.specs.Data.{Document_data}
 use Rattle.rs_documents.specs.Documents.{FirstFault, SpellsDocument}
 use Rattle.rs_model.specs.declared.demos.Demo.{Demo}
 use Rattle.rs_model.specs.declared.limits.TheConstants.{DEFAULT_BOUND, MOST_BYTES}
+use Rattle.rs_draw.specs.Draws.{Draws}
 use Rattle.rs_tool.specs.Pipelines.{pipeline_text, pipeline_of, pipeline_summary}
 use Rattle.rs_reasons.specs.Explains.{Explains}
 use Rattle.rs_text.specs.declared.faults.TextKind.{TextKind}
@@ -33,6 +34,7 @@ AnswersDocument on_document.Project bytes d answer = Projects d answer
 AnswersDocument (on_document.Run options workers) bytes d answer = RunsWith workers options d answer
 AnswersDocument (on_document.Improve options) bytes d answer = Improves options.role options.bound options.swaps d answer
 AnswersDocument (on_document.Explain bound) bytes d answer = Explains bound bytes d answer
+AnswersDocument (on_document.Draw role) bytes d answer = Draws role d answer
 
 -- the answer of the task to a text
 pub data AnswersText (spelt : DocumentTask) (bytes : List ℕ) (answer : Answer_data) : Type 0 where

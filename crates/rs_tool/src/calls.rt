@@ -121,7 +121,7 @@ fn deliver<K: Sink>(given: Result<AnswerWithSession, CallStop>, sink: &mut K) ->
 
 /// Carries out the words, as the program does, without threads.
 ///
-/// `check`, `explain`, `verify`, `migrate`, `show`, `project`, `run`, `improve` and `demo` read the source to its end and write their answer. The text of an answer is made
+/// `check`, `explain`, `verify`, `migrate`, `show`, `project`, `draw`, `run`, `improve` and `demo` read the source to its end and write their answer. The text of an answer is made
 /// whole before its first byte is written: with the statuses `ReadFault` and `NoMemory` nothing is written, with `WriteFault`
 /// a first part of the text. `gen` and words that spell no task read nothing. That workers are needed is told exactly where the
 /// words are a `run` or a `demo` by several, and nothing was then read or written; only want of memory goes before it.

@@ -21,6 +21,7 @@ use rs_answers::{
     ready_demo, ready_run, show, too_large, verify,
 };
 use rs_documents::read_document;
+use rs_draw::draw;
 use rs_io::{ReadStop, Source, read_all};
 use rs_model::{MOST_BYTES, NoMemory};
 use rs_reasons::explain;
@@ -74,6 +75,7 @@ fn on_text(alloc: Global, task: DocumentTask, bytes: &[u8]) -> Result<Prepared, 
         DocumentTask::Explain { bound } => {
             Prepared::answered(explain(alloc, &document, bytes, bound))
         }
+        DocumentTask::Draw { role } => Prepared::answered(draw(alloc, &document, &role)),
     }
 }
 

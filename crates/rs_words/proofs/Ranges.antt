@@ -120,7 +120,8 @@ task_is_in name value =
     either_is_in (bytes_eq name (codes "demo")) _ _ (demo_is_in (value (codes "name")) (value (codes "ring")) (value (codes "workers"))) (
     either_is_in (bytes_eq name (codes "gen")) _ _ (gen_is_in (value (codes "number"))) (
     either_is_in (bytes_eq name (codes "improve")) _ _ (improve_is_in (value (codes "role")) (value (codes "swaps")) (value (codes "bound"))) (
-    either_is_in (bytes_eq name (codes "explain")) _ None (explain_is_in (value (codes "bound"))) tt)))))))))
+    either_is_in (bytes_eq name (codes "explain")) _ _ (explain_is_in (value (codes "bound"))) (
+    either_is_in (bytes_eq name (codes "draw")) _ None tt tt))))))))))
 
 pub spelt_numbers_are_in_range : (words : List Bytes) (t : Task) → SpellsTask words t → IsInRange t
 spelt_numbers_are_in_range words t s = go (task_of s.form.name (λ id. text_of_use id s.uses)) s.task_is (task_is_in s.form.name (λ id. text_of_use id s.uses))

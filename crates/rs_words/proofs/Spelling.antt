@@ -15,7 +15,7 @@ use Rattle.rs_words.specs.declared.limits.TheConstants.{MOST_GEN}
 use Rattle.rs_words.specs.declared.tasks.DocumentTask.TheVariants as on_document
 use Rattle.rs_words.specs.declared.tasks.Task.{Task}
 use Rattle.rs_words.specs.declared.tasks.Task.TheVariants as task
-use Rattle.rs_words.specs.Grammar.{Bytes, Form, WordPiece, value_joined, flag, positional, nothing, AllStand, AllNew, begins_with_dash, bare_form, check_form, forms, gen_form, improve_form, use_of, words_of}
+use Rattle.rs_words.specs.Grammar.{Bytes, Form, WordPiece, value_joined, flag, positional, nothing, AllStand, AllNew, begins_with_dash, bare_form, check_form, draw_form, forms, gen_form, improve_form, use_of, words_of}
 use Rattle.rs_words.specs.Meaning.{SpellsTask, number_from_to, task_of, text_of_use}
 
 -- ---- numbers
@@ -106,6 +106,9 @@ with_word form id text spelt is has plain task = record {
 
 pub improve_of : (role : Bytes) → begins_with_dash role ≡ false → SpellsTask (codes "improve" ∷ role ∷ []) (task.OnDocument (on_document.Improve (record { role = role; bound = 16; swaps = 1 })))
 improve_of role plain = with_word improve_form (codes "role") role _ refl refl plain refl
+
+pub draw_of : (role : Bytes) → begins_with_dash role ≡ false → SpellsTask (codes "draw" ∷ role ∷ []) (task.OnDocument (on_document.Draw (Some role)))
+draw_of role plain = with_word draw_form (codes "role") role _ refl refl plain refl
 
 pub gen_of : (n : ℕ) → n ≤ MOST_GEN → SpellsTask (codes "gen" ∷ decimal n ∷ []) (task.Gen n)
 gen_of n most =

@@ -50,9 +50,13 @@ improve_form = record { name = codes "improve"; choices = with_values (codes "sw
 abbrev pub explain_form : Form
 explain_form = record { name = codes "explain"; choices = with_values (codes "bound" ∷ []); word = None }
 
+-- draw [ROLE]
+abbrev pub draw_form : Form
+draw_form = record { name = codes "draw"; choices = []; word = Some (codes "role") }
+
 -- all commands
 abbrev pub forms : List Form
-forms = check_form ∷ bare_form (codes "verify") ∷ bare_form (codes "migrate") ∷ bare_form (codes "show") ∷ bare_form (codes "project") ∷ run_form ∷ demo_form ∷ gen_form ∷ improve_form ∷ explain_form ∷ []
+forms = check_form ∷ bare_form (codes "verify") ∷ bare_form (codes "migrate") ∷ bare_form (codes "show") ∷ bare_form (codes "project") ∷ run_form ∷ demo_form ∷ gen_form ∷ improve_form ∷ explain_form ∷ draw_form ∷ []
 
 -- the bytes begin with `-`
 abbrev pub begins_with_dash : Bytes → Bool

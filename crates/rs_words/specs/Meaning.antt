@@ -96,6 +96,10 @@ improve_task role swaps bound =
 abbrev pub explain_task : Option Bytes → Option Task
 explain_task bound = option_map (λ k. task.OnDocument (on_document.Explain k)) (bound_of_option bound)
 
+-- what `draw` asks for, by the text of its role, which may be left out
+abbrev pub draw_task : Option Bytes → Task
+draw_task role = task.OnDocument (on_document.Draw role)
+
 -- what `gen` asks for, by the text of its number
 abbrev pub gen_task : Option Bytes → Option Task
 gen_task number = option_map (λ n. task.Gen n) (option_and_then (number_from_to 0 MOST_GEN) number)
@@ -113,6 +117,7 @@ task_of name value =
     else if bytes_eq name (codes "gen") then gen_task (value (codes "number"))
     else if bytes_eq name (codes "improve") then improve_task (value (codes "role")) (value (codes "swaps")) (value (codes "bound"))
     else if bytes_eq name (codes "explain") then explain_task (value (codes "bound"))
+    else if bytes_eq name (codes "draw") then Some (draw_task (value (codes "role")))
     else None
 
 -- the words spell the task: a command's name, and behind it uses of what the command takes, whose texts ask for the task

@@ -4,7 +4,7 @@ ghost use Rattle.std.specs.Prelude.{◌≡◌, IfOk, true, false};
 ghost use Rattle.clap.specs.Words.{App, app_of, rule_of, with_rule, with_subcommand};
 ghost use Rattle.clap.specs.declared.builder.command.Command.TheViews.{out-Command};
 ghost use Rattle.rs_words.specs.Clap as spec;
-ghost use Rattle.rs_words.specs.Grammar.{check_form, demo_form, explain_form, gen_form, improve_form, run_form};
+ghost use Rattle.rs_words.specs.Grammar.{check_form, demo_form, draw_form, explain_form, gen_form, improve_form, run_form};
 
 use clap::{Arg, ArgAction, Command};
 use std::alloc::{AllocError, Global};
@@ -115,6 +115,14 @@ fn explain_command<'a>(alloc: Global) -> Result<Command<'a>, AllocError>
     with_value(alloc, Command::new(alloc, "explain"), "bound")
 }
 
+/// The command `draw`.
+fn draw_command<'a>(alloc: Global) -> Result<Command<'a>, AllocError>
+    ensures app { IfOk result (λ r. app_of r ≡ spec.app_of_form draw_form) }
+    ensures local { IfOk result (λ r. (out-Command r).has_globals ≡ false) }
+{
+    with_word(alloc, Command::new(alloc, "draw"), "role")
+}
+
 /// The program, before its commands are added.
 fn program<'a>(alloc: Global) -> Command<'a>
     ensures app { app_of result ≡ spec.program }
@@ -159,5 +167,6 @@ pub(crate) fn all_commands<'a>(alloc: Global) -> Result<Command<'a>, AllocError>
     let program = with_made(program, demo_command(alloc))?;
     let program = with_made(program, gen_command(alloc))?;
     let program = with_made(program, improve_command(alloc))?;
-    with_made(program, explain_command(alloc))
+    let program = with_made(program, explain_command(alloc))?;
+    with_made(program, draw_command(alloc))
 }

@@ -1,7 +1,7 @@
 //! Laws about the definitions: each function does nothing, and its contract is the law.
 
 ghost use Rattle.std.specs.Fmt.{decimal};
-ghost use Rattle.std.specs.Prelude.{◌≡◌, ◌∷◌, ◌++◌, ◌≤◌, [], List, ℕ, None, Option, codes, false, true};
+ghost use Rattle.std.specs.Prelude.{◌≡◌, ◌∷◌, ◌++◌, ◌≤◌, [], List, ℕ, None, Option, Some, codes, false, true};
 ghost use Rattle.rs_model.specs.Limits.{IsBound};
 ghost use Rattle.rs_model.specs.declared.demos.Demo.TheVariants as demo;
 ghost use Rattle.rs_model.specs.declared.runs.Workers.TheVariants.{One};
@@ -46,15 +46,17 @@ pub fn names_spell_their_tasks()
     ensures migrate { SpellsTask (codes "migrate" ∷ []) (task.OnDocument on_document.Migrate) }
     ensures show { SpellsTask (codes "show" ∷ []) (task.OnDocument on_document.Show) }
     ensures project { SpellsTask (codes "project" ∷ []) (task.OnDocument on_document.Project) }
+    ensures draw { SpellsTask (codes "draw" ∷ []) (task.OnDocument (on_document.Draw None)) }
     ensures explain { SpellsTask (codes "explain" ∷ []) (task.OnDocument (on_document.Explain 16)) }
     ensures run { SpellsTask (codes "run" ∷ []) (task.OnDocument (on_document.Run (record { bound = 16; ring = None; limit = 10000; seed = 0 }) One)) }
 {}
 
-/// `improve` and a role's name spell one swap within the bound 16, `gen` and a number the pipeline of that number, and `demo`
+/// `improve` and a role's name spell one swap within the bound 16, `draw` and a role's name the picture of the role, `gen` and a number the pipeline of that number, and `demo`
 /// and the name of a demo that demo by one worker.
 pub fn names_and_a_word_spell_their_tasks()
     ensures improve { (role : List ℕ) → begins_with_dash role ≡ false
         → SpellsTask (codes "improve" ∷ role ∷ []) (task.OnDocument (on_document.Improve (record { role = role; bound = 16; swaps = 1 }))) }
+    ensures draw { (role : List ℕ) → begins_with_dash role ≡ false → SpellsTask (codes "draw" ∷ role ∷ []) (task.OnDocument (on_document.Draw (Some role))) }
     ensures generate { (n : ℕ) → n ≤ MOST_GEN → SpellsTask (codes "gen" ∷ decimal n ∷ []) (task.Gen n) }
     ensures double { SpellsTask (codes "demo" ∷ codes "double" ∷ []) (task.OnData (record { kind = demo.Double; ring = None; workers = One })) }
     ensures ring { SpellsTask (codes "demo" ∷ codes "ring" ∷ []) (task.OnData (record { kind = demo.Ring; ring = None; workers = One })) }

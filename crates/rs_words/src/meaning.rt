@@ -144,6 +144,17 @@ fn explain_task(alloc: Global, bound: Option<&str>) -> Result<Option<Task>, Allo
     Ok(Some(Task::OnDocument(DocumentTask::Explain { bound })))
 }
 
+/// What `draw` asks for, by the text of its role.
+fn draw_task(alloc: Global, role: Option<&str>) -> Result<Task, NoMemory>
+    ensures { IfOk result (λ r. r ≡ spec.draw_task (option_map (λ s. s.now) role.entry)) }
+{
+    let role = match role {
+        Some(role) => Some(Name::of(alloc, role.as_bytes())?),
+        None => None,
+    };
+    Ok(Task::OnDocument(DocumentTask::Draw { role }))
+}
+
 /// What `gen` asks for, by the text of its number.
 fn gen_task(alloc: Global, number: Option<&str>) -> Result<Option<Task>, AllocError>
     ensures { IfOk result (λ r. r ≡ spec.gen_task (option_map (λ s. s.now) number.entry)) }
@@ -240,6 +251,8 @@ fn task_of(alloc: Global, name: &str, found: &ArgMatches<'_>) -> Result<Option<T
         improve_task_in(alloc, found)
     } else if name == "explain" {
         Ok(explain_task(alloc, text_found(found, "bound"))?)
+    } else if name == "draw" {
+        Ok(Some(draw_task(alloc, text_found(found, "role"))?))
     } else {
         Ok(None)
     }

@@ -46,6 +46,11 @@ pub enum DocumentTask {
         /// The bound of the search for derivations.
         bound: Bound,
     },
+    /// Its protocol is drawn, or the machine of a role.
+    Draw {
+        /// The name of the role, if one is given.
+        role: Option<Name>,
+    },
 }
 
 /// How a document is checked.

@@ -79,6 +79,14 @@ returns-in-Improve c =
     document_leads c.args.task (on_document.Improve c.in-Improve.options) c.args.bytes.now c.in-Ok.document c.improve_role.result c.answered-in-Improve.result c.in-Improve.is c.requires.short c.in-Ok.ensures.ok
     (λ h. h) c.answered-in-Improve.ensures c.improve_role.ensures
 
+pub draw-requires-clause-shown : goal.draw-requires-clause-shown
+draw-requires-clause-shown c = can_show c.args.bytes.now c.in-Ok.document c.in-Ok.ensures.ok c.in-Ok.ensures.ready.sound
+
+pub returns-in-Draw : goal.returns-in-Draw
+returns-in-Draw c =
+    document_leads c.args.task (on_document.Draw c.in-Draw.role) c.args.bytes.now c.in-Ok.document c.draw.result c.answered-in-Draw.result c.in-Draw.is c.requires.short c.in-Ok.ensures.ok (λ h. h)
+    c.answered-in-Draw.ensures c.draw.ensures
+
 pub returns-in-Explain : goal.returns-in-Explain
 returns-in-Explain c =
     document_leads c.args.task (on_document.Explain c.in-Explain.bound) c.args.bytes.now c.in-Ok.document c.explain.result c.answered-in-Explain.result c.in-Explain.is c.requires.short c.in-Ok.ensures.ok (λ h. h)

@@ -2,7 +2,7 @@ use Rattle.std.proofs.Common.{rules, ◌≡◌, ◌∙◌, ap, ap₂, codes}
 use Rattle.std.proofs.lemmas.Result.{IfOk-weaker}
 use Rattle.clap.specs.Words.{App, app_of, new_app, with_subcommand}
 use Rattle.rs_words.specs.Clap.{app_of_form}
-use Rattle.rs_words.specs.Grammar.{check_form, demo_form, explain_form, gen_form, improve_form, run_form}
+use Rattle.rs_words.specs.Grammar.{check_form, demo_form, draw_form, explain_form, gen_form, improve_form, run_form}
 use Rattle.rs_words.proofs.commands.all_commands.Goals as goal
 
 abbrev add : App → App → App
@@ -23,4 +23,5 @@ returns c =
     let seven = c.in_ok-program-7.ensures (app_of_form demo_form) c.demo_command.ensures.app ∙ ap (λ a. add a (app_of_form demo_form)) six in
     let eight = c.in_ok-program-8.ensures (app_of_form gen_form) c.gen_command.ensures.app ∙ ap (λ a. add a (app_of_form gen_form)) seven in
     let nine = c.in_ok-program-9.ensures (app_of_form improve_form) c.improve_command.ensures.app ∙ ap (λ a. add a (app_of_form improve_form)) eight in
-    IfOk-weaker c.with_made-6.result _ _ (λ r h. h (app_of_form explain_form) c.explain_command.ensures.app ∙ ap (λ a. add a (app_of_form explain_form)) nine) c.with_made-6.ensures
+    let ten = c.in_ok-program-10.ensures (app_of_form explain_form) c.explain_command.ensures.app ∙ ap (λ a. add a (app_of_form explain_form)) nine in
+    IfOk-weaker c.with_made-7.result _ _ (λ r h. h (app_of_form draw_form) c.draw_command.ensures.app ∙ ap (λ a. add a (app_of_form draw_form)) ten) c.with_made-7.ensures

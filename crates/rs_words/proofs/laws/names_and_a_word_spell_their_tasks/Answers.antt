@@ -1,10 +1,13 @@
 use Rattle.std.proofs.Common.{codes, refl}
 use Rattle.rs_words.specs.Grammar.{demo_form}
-use Rattle.rs_words.proofs.Spelling.{gen_of, improve_of, with_word}
+use Rattle.rs_words.proofs.Spelling.{draw_of, gen_of, improve_of, with_word}
 use Rattle.rs_words.proofs.laws.names_and_a_word_spell_their_tasks.Goals as goal
 
 pub returns-clause-improve : goal.returns-clause-improve
 returns-clause-improve c = improve_of
+
+pub returns-clause-draw : goal.returns-clause-draw
+returns-clause-draw c = draw_of
 
 pub returns-clause-generate : goal.returns-clause-generate
 returns-clause-generate c = gen_of

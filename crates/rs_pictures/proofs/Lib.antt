@@ -1,0 +1,5 @@
+pub mod Pieces
+pub mod Drawn
+pub mod OnePicture
+pub mod Arrows
+pub mod States

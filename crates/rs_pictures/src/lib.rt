@@ -1,0 +1,10 @@
+//! Pictures of protocols and machines, in the syntax of Mermaid.
+#![tactic(auto)]
+
+pub mod laws;
+mod lines;
+mod machines;
+mod sequences;
+
+pub use machines::machine_picture;
+pub use sequences::sequence_picture;
