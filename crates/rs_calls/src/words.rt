@@ -6,14 +6,13 @@ ghost use Rattle.rs_words.specs.Words.{bytes_of_words};
 ghost use Rattle.rs_calls.specs.Words.{HasNoText, words_in};
 
 use rs_model::NoMemory;
-use std::alloc::Global;
+use std::alloc::{AllocError, Global};
 
 /// The pieces between the zeros, of which there is one at least.
-fn split_at_zeros(alloc: Global, bytes: &[u8]) -> Result<Vec<&[u8]>, NoMemory>
+fn split_at_zeros(alloc: Global, bytes: &[u8]) -> Result<Vec<&[u8]>, AllocError>
     ensures { IfOk result (λ v. map (λ x. x.now) v.items ≡ slice_split (λ b. b == 0) bytes.now) }
 {
-    let pieces = bytes.split(|byte| *byte == 0).collect(alloc)?;
-    Ok(pieces)
+    bytes.split(|byte| *byte == 0).collect(alloc)
 }
 
 /// The pieces between the zeros; none where there are no bytes.
@@ -24,7 +23,7 @@ fn pieces(alloc: Global, bytes: &[u8]) -> Result<Vec<&[u8]>, NoMemory>
     if bytes.is_empty() {
         return Ok(Vec::new(alloc));
     }
-    split_at_zeros(alloc, bytes)
+    Ok(split_at_zeros(alloc, bytes)?)
 }
 
 /// The piece as a word; None where it isn't UTF-8.
