@@ -1,6 +1,20 @@
-//! What the calls of the library for C do: sessions, endpoints, monitors and texts behind handles, their roles and labels by numbers.
+//! What a session shows to programs that know it by numbers: names of roles and labels, states and their arms, values and messages,
+//! and what each call answers.
 #![tactic(auto)]
 
-mod text_handles;
+mod copies;
+mod kinds;
+pub mod laws;
+mod messages;
+mod monitors;
+mod names;
+mod states;
+mod statuses;
 
-pub use text_handles::{KeptText, TextHandle};
+pub use copies::hand_out;
+pub use kinds::{kind_of, stand_in};
+pub use messages::{MessageView, view_of};
+pub use monitors::{may_send, received, sent};
+pub use names::{name_at, number_of};
+pub use states::{arm_at, standing};
+pub use statuses::CallStatus;

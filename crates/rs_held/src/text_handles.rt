@@ -1,8 +1,8 @@
 //! Handles of texts.
 
 ghost use Rattle.std.specs.Prelude.{◌≡◌, None, Option, Some, option_map};
-ghost use Rattle.rs_numbered.specs.Handles.{text_owns};
-ghost use Rattle.rs_numbered.specs.declared.text_handles.KeptText.{KeptText};
+ghost use Rattle.rs_held.specs.Handles.{text_owns};
+ghost use Rattle.rs_held.specs.declared.text_handles.KeptText.{KeptText};
 
 use rs_handles::OwnedPointer;
 use std::alloc::Global;

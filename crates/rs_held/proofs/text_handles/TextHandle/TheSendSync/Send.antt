@@ -11,9 +11,9 @@ use Rattle.std.proofs.Crossing as heap
 use Rattle.std_alloc.proofs.SendSync.{quiet, lies}
 use Rattle.std_heap.proofs.Global.TheSendSync as handle
 use Rattle.rs_handles.specs.Handles.{handle_owns}
-use Rattle.rs_numbered.specs.contracts.text_handles.KeptText as inner
-use Rattle.rs_numbered.proofs.text_handles.KeptText.TheSendSync.{the_send as inner_send}
-use Rattle.rs_numbered.specs.contracts.text_handles.TextHandle.{the_row, the_type}
+use Rattle.rs_held.specs.contracts.text_handles.KeptText as inner
+use Rattle.rs_held.proofs.text_handles.KeptText.TheSendSync.{the_send as inner_send}
+use Rattle.rs_held.specs.contracts.text_handles.TextHandle.{the_row, the_type}
 
 keyless : (a : Global) (p : Ptr) (v : Option inner.the_row.Denot) → Keyless (handle_owns inner.the_row a p v)
 keyless a p None = tt

@@ -27,11 +27,11 @@ use Rattle.std_heap.specs.contracts.GlobalAllocator.TheImpl.{ghosts}
 use Rattle.rs_handles.proofs.Fields.{both}
 use Rattle.rs_handles.proofs.Owned.{Pointer, pointer_good, pointer_in}
 use Rattle.rs_handles.proofs.Handles.{Z, LZ, null_good, handle_out}
-use Rattle.rs_numbered.specs.contracts.text_handles.KeptText.{the_row as R}
-use Rattle.rs_numbered.specs.contracts.text_handles.TextHandle as handle
-use Rattle.rs_numbered.specs.contracts.text_handles.TextHandle.into_pointer as f
-use Rattle.rs_numbered.proofs.text_handles.TextHandle.into_pointer.Statement.{statement}
-use Rattle.rs_numbered.proofs.text_handles.TextHandle.into_pointer.Code as code
+use Rattle.rs_held.specs.contracts.text_handles.KeptText.{the_row as R}
+use Rattle.rs_held.specs.contracts.text_handles.TextHandle as handle
+use Rattle.rs_held.specs.contracts.text_handles.TextHandle.into_pointer as f
+use Rattle.rs_held.proofs.text_handles.TextHandle.into_pointer.Statement.{statement}
+use Rattle.rs_held.proofs.text_handles.TextHandle.into_pointer.Code as code
 
 abbrev stayed : Stays f.ended.signature.params f.ended.kept
 stayed = (stay_dropped (plain (λ _. handle.the_row)) yes, tt)

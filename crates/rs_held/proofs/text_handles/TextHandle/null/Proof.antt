@@ -21,10 +21,10 @@ use Rattle.core.proofs.cell.Inside.{one}
 use Rattle.std.proofs.raw_atomic.Walks.{proved_at}
 use Rattle.rs_handles.proofs.Fields.{both}
 use Rattle.rs_handles.proofs.Handles.{Z, LZ, null_good, null_in}
-use Rattle.rs_numbered.specs.contracts.text_handles.KeptText.{the_row as R}
-use Rattle.rs_numbered.specs.contracts.text_handles.TextHandle.null as f
-use Rattle.rs_numbered.proofs.text_handles.TextHandle.null.Statement.{statement}
-use Rattle.rs_numbered.proofs.text_handles.TextHandle.null.Code as code
+use Rattle.rs_held.specs.contracts.text_handles.KeptText.{the_row as R}
+use Rattle.rs_held.specs.contracts.text_handles.TextHandle.null as f
+use Rattle.rs_held.proofs.text_handles.TextHandle.null.Statement.{statement}
+use Rattle.rs_held.proofs.text_handles.TextHandle.null.Code as code
 
 abbrev stayed : Stays f.ended.signature.params f.ended.kept
 stayed = (stay_dropped (plain (λ _. Z)) yes, tt)
