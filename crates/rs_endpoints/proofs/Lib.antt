@@ -1,0 +1,5 @@
+mod Beginning
+mod Keeping
+mod Places
+mod Received
+mod Spent

@@ -1,5 +1,5 @@
 //! What the acts of endpoints answer, and when a role may make one.
-ghost use Rattle.std.specs.Prelude.{◌≡◌, ◌<◌, ◌^◌, Some, false, length, true};
+ghost use Rattle.std.specs.Prelude.{◌≡◌, ◌<◌, ◌^◌, ℕ, IfNone, IfSome, Some, false, length, slice_get, true};
 ghost use Rattle.rs_core.specs.Choosable.{label_of};
 ghost use Rattle.rs_model.specs.declared.machines.State.TheVariants.{Puts, Takes};
 ghost use Rattle.rs_session.specs.Acts.{SendsBy};
@@ -90,6 +90,7 @@ pub(crate) fn may_receive(stage: &Receiving) -> bool
 /// The place of the first arm with the label.
 pub(crate) fn place_of(arms: &[Arm], label: Label) -> Option<usize>
     ensures some { IfSome result (λ place. label_of (slice_get arms.now place) ≡ Some label) }
+    ensures first { IfSome result (λ place. (earlier : ℕ) → earlier < place → label_of (slice_get arms.now earlier) ≡ Some label → ⊥) }
     ensures none { IfNone result ((place : ℕ) → label_of (slice_get arms.now place) ≡ Some label → ⊥) }
 {
     for (place, arm) in arms.iter().enumerate() {

@@ -1,6 +1,9 @@
 //! Endpoints, and their acts.
-ghost use Rattle.std.specs.Prelude.{◌≡◌, ◌↔◌, IfNone, IfOk, IfSome, IsTrue, None, Some, true};
-ghost use Rattle.rs_endpoints.specs.Endpoints.{FetchTells, HasArmFor, IsLeftOf, IsOfRole, PostTells, StandsAt};
+ghost use Rattle.std.specs.Arc.{arc_value};
+ghost use Rattle.std.specs.Prelude.{◌≡◌, ◌↔◌, ◌<◌, ◌≤◌, ◌^◌, ℕ, IfNone, IfOk, IfSome, IsSome, IsTrue, None, Some, slice_get};
+ghost use Rattle.rs_core.specs.Configurations.{state_of};
+ghost use Rattle.rs_endpoints.specs.Endpoints.{FetchTells, HasArmFor, IsLeftOf, IsOfRole, IsWhole, PostTells, StandsAt, endpoint_at};
+ghost use Rattle.rs_session.specs.Stages.{IsOf};
 ghost use Rattle.rs_model.specs.declared.machines.State.TheVariants.{Done};
 
 use crate::acts::{Fetched, Posted, may_receive, may_send, place_of, receiving_arms};
@@ -53,6 +56,14 @@ fn state_at<'a>(session: &'a Session, role: Role, state: u32) -> &'a State
     ensures { state_of (slice_get session.now.machines role.0) state ≡ Some result.now }
 {
     &session.machine(role).states[state as usize]
+}
+
+/// The place as a send is told it; None where it's too great for one.
+fn small_place(place: usize) -> Option<u16>
+    ensures some { IfSome result (λ small. small ≡ place) }
+    ensures none { IfNone result (2 ^ 16 ≤ place) }
+{
+    u16::try_from(place).ok()
 }
 
 /// Keeps the pass of the endpoint's role with the session.
@@ -190,7 +201,7 @@ impl Endpoint {
         match self.state() {
             State::Puts { arms, .. } => {
                 let place = place_of(arms.as_slice(), label)?;
-                u16::try_from(place).ok()
+                small_place(place)
             }
             _ => None,
         }

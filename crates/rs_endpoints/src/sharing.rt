@@ -1,5 +1,5 @@
 //! What the endpoints of a session share: the session itself, and a locker for each role's pass.
-ghost use Rattle.std.specs.Prelude.{◌≡◌, All, IfOk, IfSome, length, true};
+ghost use Rattle.std.specs.Prelude.{◌≡◌, ◌<◌, ◌≤◌, ◌++◌, ◌∷◌, [], All, IfOk, IfSome, length, true, vec_capacity, vec_len};
 ghost use Rattle.rs_rings.specs.Acts.{parcels_sent};
 ghost use Rattle.rs_endpoints.specs.Endpoints.{IsLeftOf};
 ghost use Rattle.rs_session.specs.Data.{Stage_data};
@@ -55,9 +55,12 @@ impl Shared {
     pub fn close(self, alloc: Global) -> Result<Option<LeftOver>, NoMemory>
         ensures { IfOk result (λ left. IfSome left (IsLeftOf self.session)) }
     {
-        let Shared { session, lockers } = self;
+        let Shared {
+            session,
+            mut lockers,
+        } = self;
         let mut lefts = Vec::with_capacity(alloc, lockers.len())?;
-        for locker in lockers {
+        while let Some(locker) = lockers.pop() {
             if let Some(left) = locker.into_left() {
                 push_left(&mut lefts, left);
             }

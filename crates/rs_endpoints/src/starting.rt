@@ -1,6 +1,6 @@
 //! Sessions that are begun, with an endpoint for each role.
-ghost use Rattle.std.specs.Prelude.{◌≡◌, IfOk, length, map};
-ghost use Rattle.rs_endpoints.specs.Endpoints.{AreBegun};
+ghost use Rattle.std.specs.Prelude.{◌≡◌, ◌<◌, ◌≤◌, ◌+◌, ◌++◌, ◌∷◌, [], IfOk, Some, map, vec_capacity, vec_len};
+ghost use Rattle.rs_endpoints.specs.Endpoints.{AreBegun, endpoint_at};
 ghost use Rattle.rs_session.specs.Ends.{AreOf};
 ghost use Rattle.std.specs.Arc.{arc_value};
 
@@ -34,7 +34,10 @@ pub fn begin(
         }
     };
     match Arc::new(alloc, shared) {
-        Ok(shared) => endpoints_of(alloc, &shared, stages),
+        Ok(shared) => {
+            let endpoints = endpoints_of(alloc, &shared, stages)?;
+            Ok(endpoints)
+        }
         Err(_) => {
             give_all_up(stages);
             Err(NoMemory)
@@ -62,15 +65,24 @@ fn endpoints_of(
             give_all_up(stages);
             return Err(NoMemory);
         };
-        let endpoint = Endpoint::of(own, stage);
-        if endpoints.push(Some(endpoint)).is_err() {
-            give_all_up(stages);
-            return Err(NoMemory);
-        }
+        append(&mut endpoints, Endpoint::of(own, stage));
     }
     stages.destroy_empty();
     endpoints.reverse();
     Ok(endpoints)
+}
+
+/// Appends an endpoint, for which there is room.
+fn append(endpoints: &mut Vec<Option<Endpoint>>, endpoint: Endpoint)
+    requires room { vec_len endpoints.old < vec_capacity endpoints.old }
+    ensures items { endpoints.new.items ≡ endpoints.old.items ++ Some endpoint ∷ [] }
+    ensures length { vec_len endpoints.new ≡ vec_len endpoints.old + 1 }
+    ensures capacity { vec_capacity endpoints.old ≤ vec_capacity endpoints.new }
+{
+    match endpoints.push(Some(endpoint)) {
+        Ok(()) => {}
+        Err(_) => unreachable!(),
+    }
 }
 
 /// Gives the role up for good.
