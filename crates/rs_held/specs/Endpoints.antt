@@ -26,7 +26,7 @@ IsNoSend endpoint label v = (2 ^ 16 ≤ label) ⊎ ((place : ℕ) → place < 2 
 -- not send so, and nothing has changed
 abbrev pub SendTells : Endpoint_data → ℕ → Value → Endpoint_data → CallStatus → Type 0
 SendTells old label v new Fine = (place : ℕ) × HasArmFor old place (numbered label) × PostTells old place v new posted.Went
-SendTells old label v new Full = (place : ℕ) (back : Value) × HasArmFor old place (numbered label) × PostTells old place v new (posted.Full back)
+SendTells old label v new Full = (place : ℕ) × (back : Value) × HasArmFor old place (numbered label) × PostTells old place v new (posted.Full back)
 SendTells old label v new NotNow = (new ≡ old) × IsNoSend old label v
 SendTells old label v new _ = ⊥
 

@@ -169,13 +169,24 @@ pub fn label_name(
     }
 }
 
-/// The state in which the machine stands; that of a machine that has ended where there is none, which never happens.
-fn state_of(monitor: &Monitor) -> &State
-    ensures { result.now ≡ state_or_end (state_now monitor.now) }
+/// Tells the direction, the peer and the number of arms of the machine's state. A machine without its state, which never happens, has
+/// ended.
+fn standing_of(monitor: &Monitor, direction: &mut u32, peer: &mut u32, arms: &mut u32)
+    ensures { Shows (state_or_end (state_now monitor.now)) direction.new peer.new arms.new }
 {
     match monitor.state() {
-        Some(state) => state,
-        None => &State::Done,
+        Some(state) => standing(state, direction, peer, arms),
+        None => standing(&State::Done, direction, peer, arms),
+    }
+}
+
+/// Tells the label and the kind of the arm at that place of the machine's state.
+fn arm_of(monitor: &Monitor, place: u32, label: &mut u32, kind: &mut u32) -> CallStatus
+    ensures { ArmTells (state_or_end (state_now monitor.now)) place label.old label.new kind.old kind.new result }
+{
+    match monitor.state() {
+        Some(state) => arm_at(state, place, label, kind),
+        None => arm_at(&State::Done, place, label, kind),
     }
 }
 
@@ -192,7 +203,7 @@ pub fn state(
 {
     match monitor.take(alloc) {
         Some(held) => {
-            standing(state_of(&held.monitor), direction, peer, arms);
+            standing_of(&held.monitor, direction, peer, arms);
             monitor.put(held);
             CallStatus::Fine
         }
@@ -213,7 +224,7 @@ pub fn arm(
 {
     match monitor.take(alloc) {
         Some(held) => {
-            let status = arm_at(state_of(&held.monitor), place, label, kind);
+            let status = arm_of(&held.monitor, place, label, kind);
             monitor.put(held);
             status
         }
