@@ -52,7 +52,7 @@ begun machines capacity session held stages endpoints same is-machines is-capaci
       capacity_is = is-capacity;
       count = ap length made ∙ (length-map stages (endpoint_at session) ∙ (first.count ∙ ap length is-machines));
       each = λ r below. (
-        let found = first.each r (subst (λ (ms : List Machine_data). r < length ms) (sym is-machines) below) in
-        (found.0, ap (λ (l : List (Option Endpoint_data)). slice_get l r) made ∙ (slice_get-map (endpoint_at session) stages r ∙ ap (option_map (endpoint_at session)) found.1), found.2, found.3)
-      );
+          let found = first.each r (subst (λ (ms : List Machine_data). r < length ms) (sym is-machines) below) in
+          (found.0, ap (λ (l : List (Option Endpoint_data)). slice_get l r) made ∙ (slice_get-map (endpoint_at session) stages r ∙ ap (option_map (endpoint_at session)) found.1), found.2, found.3)
+          );
     }

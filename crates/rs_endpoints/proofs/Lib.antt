@@ -1,4 +1,5 @@
 mod Beginning
+mod Gathering
 mod Keeping
 mod Places
 mod Received

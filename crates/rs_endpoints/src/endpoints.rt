@@ -186,9 +186,21 @@ impl Endpoint {
         ensures { StandsAt self.now result.now }
     {
         match &self.stage {
-            Some(Stage::Sending(stage)) => state_at(&self.shared.session, stage.role(), stage.state()),
-            Some(Stage::Receiving(stage)) => state_at(&self.shared.session, stage.role(), stage.state()),
-            Some(Stage::Ended(stage)) => state_at(&self.shared.session, stage.role(), stage.state()),
+            Some(Stage::Sending(stage)) => state_at(
+                &self.shared.session,
+                stage.role(),
+                stage.state(),
+            ),
+            Some(Stage::Receiving(stage)) => state_at(
+                &self.shared.session,
+                stage.role(),
+                stage.state(),
+            ),
+            Some(Stage::Ended(stage)) => state_at(
+                &self.shared.session,
+                stage.role(),
+                stage.state(),
+            ),
             None => unreachable!(),
         }
     }

@@ -156,7 +156,5 @@ fn has_sent(left: &Left, sender: Role, receiver: Role, sent: u64) -> bool
     ensures role { result ≡ true → left.now.role ≡ sender }
     ensures sent { result ≡ true → sent ≡ length (parcels_sent receiver.0 left.now.part.history) }
 {
-    left.role() == sender
-        && usize::from(receiver.0) < MOST_ROLES
-        && left.sent(receiver) == sent
+    left.role() == sender && usize::from(receiver.0) < MOST_ROLES && left.sent(receiver) == sent
 }

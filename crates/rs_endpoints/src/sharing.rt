@@ -1,5 +1,5 @@
 //! What the endpoints of a session share: the session itself, and a locker for each role's pass.
-ghost use Rattle.std.specs.Prelude.{◌≡◌, ◌<◌, ◌≤◌, ◌++◌, ◌∷◌, [], All, IfOk, IfSome, length, true, vec_capacity, vec_len};
+ghost use Rattle.std.specs.Prelude.{◌≡◌, ◌<◌, ◌≤◌, ◌+◌, ◌++◌, ◌∷◌, [], All, IfOk, IfSome, length, true, vec_capacity, vec_len};
 ghost use Rattle.rs_rings.specs.Acts.{parcels_sent};
 ghost use Rattle.rs_endpoints.specs.Endpoints.{IsLeftOf};
 ghost use Rattle.rs_session.specs.Data.{Stage_data};
@@ -67,11 +67,13 @@ impl Shared {
         }
         match session.close_left(alloc, lefts) {
             Ok(over) => Ok(Some(over)),
-            Err(LeftFault::Missing {
-                session: _,
-                left,
-                missing: _,
-            }) => {
+            Err(
+                LeftFault::Missing {
+                    session: _,
+                    left,
+                    missing: _,
+                },
+            ) => {
                 give_all_up(left);
                 Ok(None)
             }
@@ -95,6 +97,7 @@ fn give_all_up(mut lefts: Vec<Left>) {
 fn push_left(lefts: &mut Vec<Left>, left: Left)
     requires room { vec_len lefts.old < vec_capacity lefts.old }
     ensures items { lefts.new.items ≡ lefts.old.items ++ left ∷ [] }
+    ensures length { vec_len lefts.new ≡ vec_len lefts.old + 1 }
     ensures capacity { vec_capacity lefts.old ≤ vec_capacity lefts.new }
 {
     match lefts.push(left) {

@@ -20,6 +20,6 @@ returns-in-Empty c = record {
     search rules,
     search rules,
     search rules,
-    λ gone. spent _ _ _ _ _ _ _ _ (search rules) c.receiving_arms.ensures c.in-Empty.ensures.told c.role.ensures (c.is_gone-is_gone.ensures gone),
+    λ gone. spent c.args.self.now _ _ _ _ _ _ _ (search rules) c.receiving_arms.ensures c.in-Empty.ensures.told c.role.ensures (c.is_gone-is_gone.ensures gone),
   );
 }
