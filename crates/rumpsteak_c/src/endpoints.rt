@@ -1,6 +1,6 @@
 //! The calls of endpoints.
 
-ghost use Rattle.std.specs.Prelude.{◌≡◌, Unit};
+ghost use Rattle.std.specs.Prelude.{◌≡◌, ⊤};
 ghost use Rattle.rs_endpoints.specs.Endpoints.{StandsAt};
 ghost use Rattle.rs_held.specs.Endpoints.{CopySendTells, NumbersTell, OctetsTell, ReceiveTells, SendTells};
 ghost use Rattle.rs_held.specs.Opens.{Changes, Closes, Reads};

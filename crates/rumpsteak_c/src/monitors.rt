@@ -1,6 +1,6 @@
 //! The calls of monitors.
 
-ghost use Rattle.std.specs.Prelude.{◌≡◌};
+ghost use Rattle.std.specs.Prelude.{◌≡◌, ⊤};
 ghost use Rattle.rs_held.specs.Monitors.{WatchTells, state_or_end};
 ghost use Rattle.rs_held.specs.Opens.{Changes, Closes, Reads};
 ghost use Rattle.rs_monitor.specs.Monitors.{state_now};
