@@ -1,4 +1,4 @@
--- Public: what a handle owns. Assumes nothing: this is a definition.
+-- Steps: what a handle owns. Assumes nothing: this is a definition.
 use Rattle.std.specs.Prelude.{Option, None, Some}
 use Rattle.std.specs.Global.{Global}
 use base.Fml.{Fml, feq}

@@ -1,4 +1,4 @@
--- What the handles own.
+-- Steps: what the handles own.
 use Rattle.std.specs.Prelude.{Option}
 use Rattle.std.specs.Global.{Global}
 use base.Fml.{Fml}
