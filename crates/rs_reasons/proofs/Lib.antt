@@ -1,4 +1,5 @@
 pub mod Joins
+pub mod LeastBound
 pub mod Marking
 pub mod OneExplanation
 pub mod OneUnderivable

@@ -4,4 +4,5 @@ pub mod Passed
 pub mod Walks
 pub mod Nearness
 pub mod Alike
+pub mod Elsewhere
 pub mod Stops

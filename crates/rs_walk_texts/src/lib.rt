@@ -3,6 +3,7 @@
 
 mod acts;
 mod alike;
+mod elsewhere;
 mod heads;
 mod nearness;
 mod passed;
