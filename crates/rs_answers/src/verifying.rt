@@ -146,10 +146,7 @@ fn accept_session(
 
 /// Accepts the session of the document by the document's own derivations; or tells the first reason why it isn't. Nothing is
 /// searched.
-pub fn accept_by_own(
-    alloc: Global,
-    document: Document,
-) -> Result<AcceptedDocument, RefusedDocument>
+pub fn accept_by_own(alloc: Global, document: Document) -> Result<AcceptedDocument, RefusedDocument>
     requires ready { DocumentIsReady document }
     ensures accepted { IfOk result (IsVerifiedDocument document) }
     ensures refused { IfErr result (IsUnverifiedDocument document) }

@@ -1,6 +1,6 @@
 -- Texts that are opened, and those that are refused.
 use Rattle.std.proofs.Common.{◌≡◌, ◌⊎◌, inl, inr, ◌<◌, ◌≤◌, ℕ, List, Result, Ok, Err, codes, true, false, length, arith, sym, subst, ap, ◌∙◌}
-use Rattle.std.specs.Prelude.{IfErr, IfOk}
+use Rattle.std.specs.Prelude.{IfErr, IfOk, IsErrAnd}
 use Rattle.rs_answers.proofs.Derivings.{session_has}
 use Rattle.rs_answers.proofs.OneReason.{not_refused, not_unverified}
 use Rattle.rs_answers.specs.Accepting.{IsAcceptedDocument, IsRefusedDocument}
@@ -78,6 +78,11 @@ fault_unread bytes what at made refused short why is said never = unread bytes m
 pub none_refused : (Refuses : Document_data → Refusal → Type 0) (bytes : List ℕ) (refused : OpenRefused) → RefusesToRead bytes refused → RefusesBy Refuses bytes refused
 none_refused Refuses bytes (why.Answered text verdict) unread = SpellsNone unread
 none_refused Refuses bytes why.NoMemory unread = tt
+
+pub unread_refused : {A : Type 0} (Refuses : Document_data → Refusal → Type 0) (bytes : List ℕ) (why : OpenRefused) (r : Result A OpenRefused) → IsErrAnd r (λ e. e ≡ why)
+    → RefusesToRead bytes why → IfErr r (RefusesBy Refuses bytes)
+unread_refused Refuses bytes why (Ok a) is unread = tt
+unread_refused Refuses bytes why (Err e) is unread = subst (RefusesBy Refuses bytes) (sym is) (none_refused Refuses bytes why unread)
 
 -- what is made of a refused document is its answer
 pub answered : (x : RefusedDocument) (made : Result Answer_data NoMemory) (refused : OpenRefused) → IsRefusal made refused
