@@ -1,5 +1,6 @@
 -- The least bound within which the search finds a derivation.
-use Rattle.std.proofs.Common.{◌≡◌, ◌≤◌, ℕ, length, map, inl, inr, ap, arith}
+use Rattle.std.proofs.Common.{◌≡◌, ◌≤◌, ℕ, length, map, get_or, inl, inr, ap, arith}
+use Rattle.std.proofs.lemmas.Option.{slice_get-get_or}
 use Rattle.rs_derive.proofs.Greatest as greatest
 use Rattle.rs_derive.proofs.Mapped.{map_of}
 use Rattle.rs_derive.specs.Data.{DNode_data, Derivation_data}
@@ -7,6 +8,7 @@ use Rattle.rs_derive.specs.Derivations.{IsProper}
 use Rattle.rs_model.specs.Data.{Machine_data}
 use Rattle.rs_model.specs.declared.limits.TheConstants.{MOST_BOUND, MOST_CANDIDATES}
 use Rattle.rs_safety.proofs.Limits.{limits}
+use Rattle.rs_safety.specs.Figures.{OwesFew}
 use Rattle.rs_safety.specs.Room.{longest}
 use Rattle.rs_search.proofs.Accepted.{derives, remembers}
 use Rattle.rs_search.proofs.Determined.{one_answer}
@@ -25,6 +27,14 @@ within sub above bound d ws wa c = elim (greatest.is (map (λ (n : DNode_data). 
       let is = m.2 in
       omega (arith, short, same, is))
 ]
+
+-- no node owes more than a derivation may be bounded by
+pub owes_few : (sub above : Machine_data) (d : Derivation_data) → IsProper sub → IsProper above → IsCanonical sub above MOST_BOUND d → OwesFew d
+owes_few sub above d ws wa c k n known =
+    let at = slice_get-get_or d.nodes k n known in
+    let short = ((derives sub above MOST_BOUND d ws wa c.canonical).each k (get_or d.nodes k n) at).short in
+    let same = c.canonical.bound' in
+    omega (arith, short, same)
 
 pub enough : (sub above : Machine_data) (d : Derivation_data) → IsProper sub → IsProper above → IsCanonical sub above MOST_BOUND d → (e : Derivation_data) × IsCanonical sub above (longest d) e
 enough sub above d ws wa c =

@@ -27,9 +27,9 @@ both source bound cut e f h k x y =
 -- a fault doesn't forget and forget
 not_both : (source : WalkSource_data) (fault : SearchFault) (node : ℕ) → fault ≢ search.NoMemory → is_forgetting fault ≡ false
     → SearchRefuses source.machine source.projection.machine MOST_BOUND fault → IsForgets source.machine source.projection.machine MOST_BOUND node → ⊥
-not_both source fault node n no r f =
+not_both source fault node n calm r f =
     let same : fault ≡ search.Forgets node = searched.one_refusal source.machine source.projection.machine MOST_BOUND fault (search.Forgets node) n (λ e. cc e) r f in
-    let bad : false ≡ true = sym no ∙ ap is_forgetting same in
+    let bad : false ≡ true = sym calm ∙ ap is_forgetting same in
     cc bad
 
 -- a derivation is found, or forgets
@@ -39,42 +39,38 @@ helps_or_forgets source d node c f =
     let bad : search.Forgets node ≡ search.NoMemory = not_both_ways source.machine source.projection.machine MOST_BOUND d (search.Forgets node) c f in
     cc bad
 
--- the number of a node that forgets
-node_of : SearchFault → ℕ
-node_of (search.Forgets node) = node
-node_of _ = 0
-
+-- the greatest bound has one way round
 one_round : (source : WalkSource_data) (node other : ℕ) (f g : Forgetting_data) → IsForgets source.machine source.projection.machine MOST_BOUND node
     → IsForgets source.machine source.projection.machine MOST_BOUND other → IsForgetting source.machine source.projection.machine MOST_BOUND node f
     → IsForgetting source.machine source.projection.machine MOST_BOUND other g → f ≡ g
 one_round source node other f g a b h k =
     let same : search.Forgets node ≡ search.Forgets other =
     searched.one_refusal source.machine source.projection.machine MOST_BOUND (search.Forgets node) (search.Forgets other) (λ e. cc e) (λ e. cc e) a b in
-    let number : node ≡ other = ap node_of same in
+    let number : node ≡ other = cc (same) in
     one_forgetting source.machine source.projection.machine MOST_BOUND other f g
     (subst (λ (z : ℕ). IsForgetting source.machine source.projection.machine MOST_BOUND z f) number h) k
 
 one_not_found : (source : WalkSource_data) (bound : ℕ) (cut : Bool) (lines others : List ℕ) → TellsNotFound source bound cut lines → TellsNotFound source bound cut others → lines ≡ others
 one_not_found source bound cut lines others (NoneHelps e h x p) (NoneHelps f k y q) =
     p ∙ ap (λ (z : Explanation_data). way_text source bound z.steps z.ending ++ hopeless_line) (one_explanation source.machine source.projection.machine bound e f h k) ∙ sym q
-one_not_found source bound cut lines others (NoneHelps e h x p) (GreatestRefuses f k y fault n no r q) = absurd (both source bound cut e f h k x y)
+one_not_found source bound cut lines others (NoneHelps e h x p) (GreatestRefuses f k y fault n calm r q) = absurd (both source bound cut e f h k x y)
 one_not_found source bound cut lines others (NoneHelps e h x p) (GreatestHelps f k y d c steps w q) = absurd (both source bound cut e f h k x y)
-one_not_found source bound cut lines others (GreatestRefuses e h x fault n no r p) (NoneHelps f k y q) = absurd (both source bound cut f e k h y x)
-one_not_found source bound cut lines others (GreatestRefuses e h x fault n no r p) (GreatestRefuses f k y other m not s q) =
+one_not_found source bound cut lines others (GreatestRefuses e h x fault n calm r p) (NoneHelps f k y q) = absurd (both source bound cut f e k h y x)
+one_not_found source bound cut lines others (GreatestRefuses e h x fault n calm r p) (GreatestRefuses f k y other m still s q) =
     p ∙ ap (λ (z : Explanation_data). way_text source bound z.steps z.ending ++ refusing_line source fault) (one_explanation source.machine source.projection.machine bound e f h k)
     ∙ ap (λ (z : SearchFault). way_text source bound f.steps f.ending ++ refusing_line source z) (searched.one_refusal source.machine source.projection.machine MOST_BOUND fault other n m r s) ∙ sym q
-one_not_found source bound cut lines others (GreatestRefuses e h x fault n no r p) (GreatestHelps f k y d c steps w q) =
+one_not_found source bound cut lines others (GreatestRefuses e h x fault n calm r p) (GreatestHelps f k y d c steps w q) =
     absurd (n (not_both_ways source.machine source.projection.machine MOST_BOUND d fault c r))
 one_not_found source bound cut lines others (GreatestHelps e h x d c steps w p) (NoneHelps f k y q) = absurd (both source bound cut f e k h y x)
-one_not_found source bound cut lines others (GreatestHelps e h x d c steps w p) (GreatestRefuses f k y fault n no r q) =
+one_not_found source bound cut lines others (GreatestHelps e h x d c steps w p) (GreatestRefuses f k y fault n calm r q) =
     absurd (n (not_both_ways source.machine source.projection.machine MOST_BOUND d fault c r))
 one_not_found source bound cut lines others (GreatestHelps e h x d c steps w p) (GreatestHelps f k y g b ways v q) =
     p ∙ ap (λ (z : List WalkStep_data). way_text source bound z Cut ++ helped_line source d) (one_cut_walk source.machine source.projection.machine bound steps ways w v)
     ∙ ap (λ (z : Derivation_data). way_text source bound ways Cut ++ helped_line source z) (searched.one_answer source.machine source.projection.machine MOST_BOUND d g c b) ∙ sym q
 one_not_found source bound cut lines others (NoneHelps e h x p) (GreatestForgets f k y node r g w q) = absurd (both source bound cut e f h k x y)
 one_not_found source bound cut lines others (GreatestForgets e h x node r g w p) (NoneHelps f k y q) = absurd (both source bound cut f e k h y x)
-one_not_found source bound cut lines others (GreatestForgets e h x node r g w p) (GreatestRefuses f k y fault n no s q) = absurd (not_both source fault node n no s r)
-one_not_found source bound cut lines others (GreatestRefuses e h x fault n no s p) (GreatestForgets f k y node r g w q) = absurd (not_both source fault node n no s r)
+one_not_found source bound cut lines others (GreatestForgets e h x node r g w p) (GreatestRefuses f k y fault n calm s q) = absurd (not_both source fault node n calm s r)
+one_not_found source bound cut lines others (GreatestRefuses e h x fault n calm s p) (GreatestForgets f k y node r g w q) = absurd (not_both source fault node n calm s r)
 one_not_found source bound cut lines others (GreatestForgets e h x node r g w p) (GreatestHelps f k y d c steps v q) = absurd (helps_or_forgets source d node c r)
 one_not_found source bound cut lines others (GreatestHelps e h x d c steps v p) (GreatestForgets f k y node r g w q) = absurd (helps_or_forgets source d node c r)
 one_not_found source bound cut lines others (GreatestForgets e h x node r g w p) (GreatestForgets f k y other s j v q) =

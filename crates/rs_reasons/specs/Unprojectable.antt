@@ -19,10 +19,14 @@ use Rattle.rs_walk_texts.specs.Heads.{placed_talk_text}
 abbrev pub talk_item : Names_data → Protocol_data → List Position → ℕ → List ℕ
 talk_item names protocol talks node = codes "- " ++ placed_talk_text names protocol.nodes talks node ++ codes "\n"
 
+-- `- nothing more for P`, a line
+abbrev pub nothing_item : Names_data → Role → List ℕ
+nothing_item names role = codes "- nothing more for " ++ name_at names.roles role.0 ++ codes "\n"
+
 -- the line of a member of a front: a talk, or the end, from which on there is no talk of the role
 abbrev pub member_item : Names_data → Protocol_data → List Position → Role → Option ℕ → List ℕ
 member_item names protocol talks role (Some node) = talk_item names protocol talks node
-member_item names protocol talks role None = codes "- nothing more for " ++ name_at names.roles role.0 ++ codes "\n"
+member_item names protocol talks role None = nothing_item names role
 
 -- the role sends in both talks, to these receivers
 abbrev pub sends_apart : Names_data → Role → Role → Role → List ℕ
@@ -30,11 +34,18 @@ sends_apart names role one other =
     if one.0 == other.0 then name_at names.roles role.0 ++ codes " would send other messages to " ++ name_at names.roles one.0 ++ codes " in the one case than in the other"
     else name_at names.roles role.0 ++ codes " would send to " ++ name_at names.roles one.0 ++ codes " in the one case and to " ++ name_at names.roles other.0 ++ codes " in the other"
 
+-- a message of the sender has one sort in one of two talks and another one in the other
+abbrev pub two_sorts : Names_data → Role → List ℕ
+two_sorts names sender = codes "a message that comes from " ++ name_at names.roles sender.0 ++ codes " in both cases has two sorts"
+
+-- the role receives from two senders
+abbrev pub two_senders : Names_data → Role → Role → Role → List ℕ
+two_senders names role one other =
+    name_at names.roles role.0 ++ codes " would wait for " ++ name_at names.roles one.0 ++ codes " in the one case and for " ++ name_at names.roles other.0 ++ codes " in the other"
+
 -- the role receives in both talks, from these senders
 abbrev pub waits_apart : Names_data → Role → Role → Role → List ℕ
-waits_apart names role one other =
-    if one.0 == other.0 then codes "a message that comes from " ++ name_at names.roles one.0 ++ codes " in both cases has two sorts"
-    else name_at names.roles role.0 ++ codes " would wait for " ++ name_at names.roles one.0 ++ codes " in the one case and for " ++ name_at names.roles other.0 ++ codes " in the other"
+waits_apart names role one other = if one.0 == other.0 then two_sorts names one else two_senders names role one other
 
 -- the role sends in one of two talks and receives in the other
 abbrev pub turns_apart : Names_data → Role → List ℕ

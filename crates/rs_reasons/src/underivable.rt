@@ -284,9 +284,8 @@ fn greatest_refuses_text(
         SearchFault::Forgets { node } => {
             greatest_forgets_text(alloc, source, bound, cut, explanation, node)
         }
-        SearchFault::NotFound { .. } | SearchFault::TooLarge => {
-            refusing_text(alloc, source, bound, explanation, fault)
-        }
+        SearchFault::NotFound { .. } => { refusing_text(alloc, source, bound, explanation, fault) }
+        SearchFault::TooLarge => refusing_text(alloc, source, bound, explanation, fault),
     }
 }
 
@@ -343,6 +342,16 @@ fn oldest(pending: &[Act]) -> Option<Act>
     pending.first().copied()
 }
 
+// What isn't done with the message of an act.
+fn push_how(text: &mut Text, act: Act) -> Result<(), NoMemory>
+    ensures { OnOk result (text.new ≡ text.old ++ spec.undone act) }
+{
+    match act {
+        Act::Puts { .. } => text.push(b" isn't sent while it goes round"),
+        Act::Takes { .. } => text.push(b" isn't received while it goes round"),
+    }
+}
+
 // The act, and that it isn't done.
 fn push_undone(text: &mut Text, names: &Names, act: Option<Act>) -> Result<(), NoMemory>
     ensures { OnOk result (text.new ≡ text.old ++ spec.never_text names.now act) }
@@ -351,10 +360,7 @@ fn push_undone(text: &mut Text, names: &Names, act: Option<Act>) -> Result<(), N
         return Ok(());
     };
     push_act(text, names, act)?;
-    match act {
-        Act::Puts { .. } => text.push(b" isn't sent while it goes round"),
-        Act::Takes { .. } => text.push(b" isn't received while it goes round"),
-    }
+    push_how(text, act)
 }
 
 // What isn't done on a way round: the oldest act that is owed.

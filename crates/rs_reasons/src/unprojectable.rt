@@ -43,12 +43,17 @@ fn push_member_item(
 {
     match member {
         Some(node) => push_talk_item(text, names, protocol, talks, node),
-        None => {
-            text.push(b"- nothing more for ")?;
-            push_role(text, names, role)?;
-            text.push(b"\n")
-        }
+        None => push_nothing_item(text, names, role),
     }
+}
+
+// That there is nothing more for the role, a line.
+fn push_nothing_item(text: &mut Text, names: &Names, role: Role) -> Result<(), NoMemory>
+    ensures { OnOk result (text.new ≡ text.old ++ spec.nothing_item names.now role) }
+{
+    text.push(b"- nothing more for ")?;
+    push_role(text, names, role)?;
+    text.push(b"\n")
 }
 
 // The name of the role.
@@ -82,6 +87,33 @@ fn push_sends_apart(
     }
 }
 
+// A message of the sender has two sorts.
+fn push_two_sorts(text: &mut Text, names: &Names, sender: Role) -> Result<(), NoMemory>
+    ensures { OnOk result (text.new ≡ text.old ++ spec.two_sorts names.now sender) }
+{
+    text.push(b"a message that comes from ")?;
+    push_role(text, names, sender)?;
+    text.push(b" in both cases has two sorts")
+}
+
+// The role receives from two senders.
+fn push_two_senders(
+    text: &mut Text,
+    names: &Names,
+    role: Role,
+    one: Role,
+    other: Role,
+) -> Result<(), NoMemory>
+    ensures { OnOk result (text.new ≡ text.old ++ spec.two_senders names.now role one other) }
+{
+    push_role(text, names, role)?;
+    text.push(b" would wait for ")?;
+    push_role(text, names, one)?;
+    text.push(b" in the one case and for ")?;
+    push_role(text, names, other)?;
+    text.push(b" in the other")
+}
+
 // The role receives in both talks, from these senders.
 fn push_waits_apart(
     text: &mut Text,
@@ -93,16 +125,9 @@ fn push_waits_apart(
     ensures { OnOk result (text.new ≡ text.old ++ spec.waits_apart names.now role one other) }
 {
     if one.0 == other.0 {
-        text.push(b"a message that comes from ")?;
-        push_role(text, names, one)?;
-        text.push(b" in both cases has two sorts")
+        push_two_sorts(text, names, one)
     } else {
-        push_role(text, names, role)?;
-        text.push(b" would wait for ")?;
-        push_role(text, names, one)?;
-        text.push(b" in the one case and for ")?;
-        push_role(text, names, other)?;
-        text.push(b" in the other")
+        push_two_senders(text, names, role, one, other)
     }
 }
 

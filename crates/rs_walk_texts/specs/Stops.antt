@@ -98,7 +98,7 @@ unknown_text source p place = codes "the machine sends " ++ own_act source p pla
 
 -- the machine sends by an arm that the protocol has with another sort
 abbrev pub sent_sort_text : WalkSource_data → Spot → ℕ → List ℕ
-sent_sort_text source p place = sends_with source p place ++ codes ", where the protocol has " ++ sort_above source p place
+sent_sort_text source p place = sends_with source p place ++ codes ", where the protocol has it with " ++ sort_above source p place
 
 -- a receive is owed that the machine doesn't take
 abbrev pub untaken_text : WalkSource_data → Spot → ℕ → List ℕ

@@ -264,7 +264,7 @@ fn push_sent_sort(
     ensures { OnOk result (text.new ≡ text.old ++ spec.sent_sort_text source.now spot.now place) }
 {
     push_sends_with(text, source, spot, place)?;
-    text.push(b", where the protocol has ")?;
+    text.push(b", where the protocol has it with ")?;
     push_sort_above(text, source, spot, place)
 }
 

@@ -9,4 +9,4 @@ returns c =
     let s = c.args.source.now in
     let p = c.args.spot.now in
     on_ok_weaker c.push_sort_above.result
-    (λ e. three c.args.text.now (sends_with s p c.args.place) (codes ", where the protocol has ") (sort_above s p c.args.place) c.push_sends_with.new.text c.push.new.self c.push_sort_above.new.text c.in_ok-push_sends_with.ensures c.in_ok-push.ensures.ok e) c.push_sort_above.ensures
+    (λ e. three c.args.text.now (sends_with s p c.args.place) (codes ", where the protocol has it with ") (sort_above s p c.args.place) c.push_sends_with.new.text c.push.new.self c.push_sort_above.new.text c.in_ok-push_sends_with.ensures c.in_ok-push.ensures.ok e) c.push_sort_above.ensures
