@@ -10,8 +10,11 @@ ghost use Rattle.rs_documents.specs.Documents.{SpellsDocument};
 ghost use Rattle.rs_model.specs.Data.{Machine_data};
 ghost use Rattle.rs_model.specs.declared.limits.TheConstants.{MOST_BOUND};
 ghost use Rattle.rs_reasons.specs.Explains.{Explains};
+ghost use Rattle.rs_reasons.specs.Underivable.{TellsUnderivable, hopeless_line};
 ghost use Rattle.rs_safety.specs.Room.{longest};
-ghost use Rattle.rs_search.specs.Canonical.{IsCanonical, IsForgets};
+ghost use Rattle.rs_search.specs.Canonical.{IsCanonical, IsForgets, SearchRefuses};
+ghost use Rattle.rs_search.specs.declared.faults.SearchFault.{SearchFault};
+ghost use Rattle.rs_walk_texts.specs.Data.{WalkSource_data};
 
 /// A document has one explanation: there is one, and no other. It says what `check` answers, and goes on with lines.
 pub fn one_explanation_of_a_document()
@@ -34,4 +37,11 @@ pub fn the_least_bound_is_told()
 pub fn no_bound_helps_where_one_forgets()
     ensures { (sub above : Machine_data) (bound node : ℕ) (d : Derivation_data) → IsProper sub → IsProper above → IsForgets sub above bound node
         → IsDerivation d sub above → Remembers d sub above → ⊥ }
+{}
+
+/// Where the last line is `no bound helps`, no derivation of the machine remembers what it owes, of whatever bound.
+pub fn no_bound_helps_where_it_is_told()
+    ensures { (source : WalkSource_data) (bound : ℕ) (fault : SearchFault) (lines before : List ℕ) (d : Derivation_data) → IsProper source.machine → IsProper source.projection.machine
+        → SearchRefuses source.machine source.projection.machine bound fault → TellsUnderivable source bound fault lines → lines ≡ before ++ hopeless_line
+        → IsDerivation d source.machine source.projection.machine → Remembers d source.machine source.projection.machine → ⊥ }
 {}
