@@ -19,6 +19,7 @@ use Rattle.rs_search.specs.declared.faults.SearchFault.{SearchFault}
 use Rattle.rs_search.specs.declared.faults.SearchFault.TheVariants as search
 use Rattle.rs_text.specs.NamePlaces.{name_at}
 use Rattle.rs_walk_texts.specs.Data.{WalkSource_data}
+use Rattle.rs_walk_texts.specs.Dues.{act_dues}
 use Rattle.rs_walk_texts.specs.Heads.{act_text, owed_line}
 use Rattle.rs_walk_texts.specs.Stops.{stop_text}
 use Rattle.rs_walk_texts.specs.Walks.{steps_text, walk_text}
@@ -77,11 +78,11 @@ never_text names (Some a) = act_text names a ++ undone a
 abbrev pub never_line : Names_data → List Act → List ℕ
 never_line names pending = codes "why: " ++ never_text names (slice_get pending 0) ++ codes "\n"
 
--- a way round from a spot, what is owed there, and what isn't done on it
+-- a way round from a spot, what is owed there, what isn't done on it, and the talks that may stand behind that
 abbrev pub round_text : WalkSource_data → Forgetting_data → List ℕ
 round_text source f =
     name_at source.names.roles source.machine.role.0 ++ codes ", round and round:\n" ++ steps_text source f.spot f.steps ++ owed_line source.names f.spot.pending
-    ++ never_line source.names f.spot.pending
+    ++ never_line source.names f.spot.pending ++ act_dues source (slice_get f.spot.pending 0)
 
 -- the search finds none within the bound
 pub data TellsNotFound (source : WalkSource_data) (bound : ℕ) (cut : Bool) (lines : List ℕ) : Type 0 where

@@ -22,7 +22,7 @@ use rs_search::{SearchFault, search};
 use rs_text::Text;
 use rs_text::shown::push_name;
 use rs_walk_texts::{
-    SpotRef, WalkSource, push_act, push_owed_line, push_steps, push_stop, push_walk,
+    SpotRef, WalkSource, push_act, push_dues, push_owed_line, push_steps, push_stop, push_walk,
 };
 use std::alloc::Global;
 
@@ -372,7 +372,7 @@ fn push_never(text: &mut Text, names: &Names, pending: &[Act]) -> Result<(), NoM
     text.push(b"\n")
 }
 
-// A way round from a spot, what is owed there, and what isn't done on it.
+// A way round from a spot, what is owed there, what isn't done on it, and the talks that may stand behind that.
 fn push_round(text: &mut Text, source: &WalkSource, forgetting: &Forgetting) -> Result<(), NoMemory>
     ensures { OnOk result (text.new ≡ text.old ++ spec.round_text source.now forgetting.now) }
 {
@@ -387,7 +387,8 @@ fn push_round(text: &mut Text, source: &WalkSource, forgetting: &Forgetting) -> 
     text.push(b", round and round:\n")?;
     push_steps(text, source, &first, forgetting.steps.as_slice())?;
     push_owed_line(text, names, forgetting.pending.as_slice())?;
-    push_never(text, names, forgetting.pending.as_slice())
+    push_never(text, names, forgetting.pending.as_slice())?;
+    push_dues(text, source, oldest(forgetting.pending.as_slice()))
 }
 
 // A way round, and that no bound helps.

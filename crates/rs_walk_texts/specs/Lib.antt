@@ -5,4 +5,5 @@ pub mod Walks
 pub mod Nearness
 pub mod Alike
 pub mod Elsewhere
+pub mod Dues
 pub mod Stops

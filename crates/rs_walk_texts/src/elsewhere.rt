@@ -12,8 +12,8 @@ use rs_derive::arm_of;
 use rs_model::{Arm, Names, NoMemory, Node, Role, State};
 use rs_text::Text;
 
-// Whether the node is a talk from the sender to the receiver.
-fn goes(sender: Role, receiver: Role, node: &Node) -> bool
+/// Whether the node is a talk from the sender to the receiver.
+pub(crate) fn goes(sender: Role, receiver: Role, node: &Node) -> bool
     ensures { result ≡ spec.goes sender receiver node.now }
 {
     match node {

@@ -33,8 +33,8 @@ pub(crate) fn talks_of<'a>(source: &WalkSource<'a>, above: u32) -> &'a [u32]
     }
 }
 
-// What stands at the node by its arm with the label, where it is a talk that has one.
-fn talk_with(number: u32, label: Label, node: &Node) -> Option<TalkArm>
+/// What stands at the node by its arm with the label, where it is a talk that has one.
+pub(crate) fn talk_with(number: usize, label: Label, node: &Node) -> Option<TalkArm>
     ensures { result ≡ spec.talk_with number label (Some node.now) }
 {
     match node {
@@ -46,7 +46,7 @@ fn talk_with(number: u32, label: Label, node: &Node) -> Option<TalkArm>
         } => {
             let arm = arm_of(arms.as_slice(), label)?;
             Some(TalkArm {
-                number: number as usize,
+                number,
                 sender: *sender,
                 receiver: *receiver,
                 arm,
@@ -59,7 +59,7 @@ fn talk_at(nodes: &[Node], label: Label, number: u32) -> Option<TalkArm>
     ensures { result ≡ spec.talk_with number label (slice_get nodes.now number) }
 {
     match nodes.get(number as usize) {
-        Some(node) => talk_with(number, label, node),
+        Some(node) => talk_with(number as usize, label, node),
         None => None,
     }
 }
