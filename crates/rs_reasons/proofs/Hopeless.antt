@@ -1,5 +1,5 @@
 -- Where it is told that no bound helps, no derivation remembers what it owes.
-use Rattle.std.proofs.Common.{◌≡◌, ◌≢◌, ◌++◌, ◌∷◌, [], ◌∙◌, ℕ, List, Bool, true, false, not, ◌&&◌, ◌||◌, codes, refl, sym, ap, subst, append_assoc}
+use Rattle.std.proofs.Common.{◌≡◌, ◌≢◌, ◌++◌, ◌∷◌, [], ◌∙◌, ℕ, List, Bool, true, false, codes, refl, sym, ap, append_assoc, arith}
 use Rattle.std.specs.Fmt.{decimal}
 use Rattle.std.proofs.lemmas.Bool.{and_parts, false≢true}
 use Rattle.rs_derive.specs.Data.{Derivation_data}
@@ -24,12 +24,12 @@ use Rattle.rs_search.specs.declared.faults.SearchFault.{SearchFault}
 use Rattle.rs_search.specs.declared.faults.SearchFault.TheVariants as search
 use Rattle.rs_text.specs.NamePlaces.{name_at}
 use Rattle.rs_walk_texts.specs.Data.{WalkSource_data}
-use Rattle.rs_reasons.specs.Underivable.{GreatestForgets, GreatestHelps, GreatestRefuses, NoneHelps, TellsNotFound, TellsUnderivable, helped_line, hopeless_line, is_blocked, is_forgetting, is_hopeless, refusing_line, way_text, with_bound_line}
+use Rattle.rs_reasons.specs.Underivable.{GreatestForgets, GreatestHelps, GreatestRefuses, NoneHelps, TellsNotFound, TellsUnderivable, hopeless_line, is_blocked, is_forgetting, is_hopeless, refusing_line, way_text, with_bound_line}
 
 -- the last letters of a text
 
 -- the third of its last three codes
-third_last : List ℕ → ℕ
+abbrev third_last : List ℕ → ℕ
 third_last [] = 0
 third_last (a ∷ []) = 0
 third_last (a ∷ b ∷ []) = 0
@@ -50,15 +50,18 @@ other_end lines before way a b c h e =
     sym (third_is way a b c) ∙ sym (ap third_last e) ∙ ap third_last k ∙ third_is (before ++ codes "no bound hel") 112 115 10
 
 -- a line that tells of a bound
-bound_end : (way : List ℕ) (bound : ℕ) (what : List ℕ) (a b : ℕ) → way ++ with_bound_line bound (what ++ a ∷ b ∷ []) ≡ (way ++ codes "with --bound " ++ decimal bound ++ codes " " ++ what) ++ a ∷ b ∷ 10 ∷ []
+bound_end : (way : List ℕ) (bound : ℕ) (what : List ℕ) (a b : ℕ) → way ++ with_bound_line bound (what ++ a ∷ b ∷ []) ≡ (way ++ (codes "with --bound " ++ decimal bound ++ codes " " ++ what)) ++ a ∷ b ∷ 10 ∷ []
 bound_end way bound what a b = ap (λ (z : List ℕ). way ++ z) (in_line (codes "with --bound ") (decimal bound) (codes " ") what) ∙ sym (append_assoc way (codes "with --bound " ++ decimal bound ++ codes " " ++ what) (a ∷ b ∷ 10 ∷ []))
   where
     in_line : (w n s x : List ℕ) → w ++ n ++ s ++ (x ++ a ∷ b ∷ []) ++ 10 ∷ [] ≡ (w ++ n ++ s ++ x) ++ a ∷ b ∷ 10 ∷ []
     in_line w n s x = simp append_assoc
 
+apart : (e p : ℕ) → e ≡ p → e ≡ 101 → p ≡ 112 → ⊥
+apart e p k a b = omega arith
+
 not_bound : (lines before way : List ℕ) (bound : ℕ) (what : List ℕ) (b : ℕ) → lines ≡ before ++ hopeless_line → lines ≡ way ++ with_bound_line bound (what ++ 101 ∷ b ∷ []) → ⊥
 not_bound lines before way bound what b h e =
-    let k : 101 ≡ 112 = other_end lines before (way ++ codes "with --bound " ++ decimal bound ++ codes " " ++ what) 101 b 10 h (e ∙ bound_end way bound what 101 b) in cc k
+    let k : 101 ≡ 112 = other_end lines before (way ++ (codes "with --bound " ++ decimal bound ++ codes " " ++ what)) 101 b 10 h (e ∙ bound_end way bound what 101 b) in apart 101 112 k refl refl
 
 none_told : (before : List ℕ) → [] ≡ before ++ hopeless_line → ⊥
 none_told [] e = cc e
