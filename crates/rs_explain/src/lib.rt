@@ -15,5 +15,5 @@ mod walking;
 
 pub use explaining::{Ending, Explanation, WalkStep, explain, explain_cut};
 pub use forcing::is_forced;
-pub use obstacles::{Obstacle, obstacle_at};
+pub use obstacles::Obstacle;
 pub use rounds::{Forgetting, explain_forgets};
