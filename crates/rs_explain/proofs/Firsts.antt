@@ -124,10 +124,6 @@ way_lost sub above bound Ends dead p steps w = record {
   ends = w.ends;
 }
 
-pub lost_dies : (sub above : Machine_data) (bound : ℕ) (Ends : Spot → Type 0) (p : Spot) (steps : List WalkStep_data) → IsLostWalk sub above bound Ends p steps → Dies sub above bound p
-lost_dies sub above bound Ends p [] l = l.dies
-lost_dies sub above bound Ends p (s ∷ later) l = l.dies.0
-
 -- first walks
 
 abbrev pub Decides : Machine_data → Machine_data → ℕ → Type 0

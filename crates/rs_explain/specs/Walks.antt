@@ -31,7 +31,7 @@ end_of p (s ∷ later) = end_of s.spot later
 abbrev pub IsDeadEnd : Machine_data → Machine_data → ℕ → Spot → Type 0
 IsDeadEnd sub above bound p = (results : List Spot) → MoveWithin sub above bound p results → ⊥
 
--- the spot dies within so many moves: within none it has no move, and within one more each of its moves has a result that dies within the others
+-- the spot dies within 0 moves where it has no move, and within one more than n where each of its moves has a result that dies within n
 abbrev pub DiesWithin : Machine_data → Machine_data → ℕ → ℕ → Spot → Type 0
 DiesWithin sub above bound zero p = IsDeadEnd sub above bound p
 DiesWithin sub above bound (suc n) p = (results : List Spot) → MoveWithin sub above bound p results → (r : Spot) × Among results r × DiesWithin sub above bound n r
@@ -41,8 +41,8 @@ pub record DiesAfter (sub above : Machine_data) (bound n : ℕ) (p : Spot) : Typ
   pub within : DiesWithin sub above bound n p
   pub least : (m : ℕ) → DiesWithin sub above bound m p → n ≤ m
 
--- a step from a spot that dies after one move more to the first that dies after so many: of the results of one move that is one that dies
--- soonest, and of guesses, each of which is a move of its own, one that dies latest
+-- a step from a spot that dies after one move more to the first that dies after so many: of the results of one move to one that dies
+-- soonest, and of guesses, each of which is a move of its own, to one that dies latest
 pub record IsDyingStep (sub above : Machine_data) (bound left : ℕ) (p : Spot) (s : WalkStep_data) : Type 0 where
   pub from : DiesAfter sub above bound (suc left) p
   pub leads : LeadsBy sub above bound p s.place s.spot
