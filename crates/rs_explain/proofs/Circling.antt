@@ -23,14 +23,9 @@ use Rattle.rs_explain.proofs.Forgetful.{Is, keep_by, round_on, some_round}
 use Rattle.rs_explain.proofs.Spreading.{flag_within}
 use Rattle.rs_explain.specs.Distances.{AreDistances, far_at, flag_at}
 use Rattle.rs_explain.specs.Forgetting.{Forgetting_data, IsForgetting, IsKeepingStep, IsRound}
-use Rattle.rs_explain.specs.KeptNodes.{AreKeptNodes, AreNumberedNodes, lesser, spots_at}
+use Rattle.rs_explain.specs.KeptNodes.{AreKeptNodes, AreNumberedNodes, least_of, lesser, spots_at}
 use Rattle.rs_explain.specs.OnWay.{AreCharted, IsFirstAt, IsStepTo}
 use Rattle.rs_explain.specs.Walks.{IsFirst, WalkStep_data}
-
--- the least of a distance and those of the numbers of the row
-abbrev pub least_of : List (Option ℕ) → Option ℕ → List ℕ → Option ℕ
-least_of far least [] = least
-least_of far least (r ∷ row) = least_of far (lesser least (far_at far r)) row
 
 -- the flags
 

@@ -1,5 +1,5 @@
 -- Where the start doesn't survive there is an explanation, and one only: the removal of the candidates, carried out on the definitions.
-use Rattle.std.proofs.Common.{◌≡◌, ◌≢◌, ◌⊎◌, inl, inr, ℕ, ◌<◌, ◌≤◌, zero, suc, Bool, true, false, List, [], ◌∷◌, length, get_or, slice_get, Option, Some, refl, sym, ap, subst, ◌∙◌, arith, if◌then◌else◌}
+use Rattle.std.proofs.Common.{◌≡◌, ◌≢◌, ◌⊎◌, inl, inr, ℕ, ◌<◌, ◌≤◌, zero, suc, Bool, true, false, List, [], ◌∷◌, get_or, slice_get, Option, Some, refl, sym, ap, subst, ◌∙◌, arith, if◌then◌else◌}
 use Rattle.std.proofs.lemmas.Bool.{cases_lt, false≢true}
 use Rattle.std.proofs.lemmas.List.{get_or_past}
 use Rattle.std.proofs.lemmas.Option.{none-some, same_Some}
@@ -11,7 +11,8 @@ use Rattle.rs_derive.specs.Derivations.{IsDerivation, IsProper, NameResults, spo
 use Rattle.rs_derive.specs.Due.{Due}
 use Rattle.rs_derive.specs.Moves.{HasMove, Spot}
 use Rattle.rs_derive.specs.Targets.{same_spot}
-use Rattle.rs_graph.proofs.Growth.{all_found, at_in, at_short, at_within, growing_begin}
+use Rattle.rs_graph.proofs.Kept.{Pictures}
+use Rattle.rs_graph.proofs.Growth.{all_found, at_in, at_short, growing_begin}
 use Rattle.rs_graph.specs.Discovery.{IsDiscovery}
 use Rattle.rs_graph.specs.Graphs.{Graph_data, moves_of}
 use Rattle.rs_graph.specs.Lists.{Among, ArePlacesOf, concat}
@@ -27,16 +28,17 @@ use Rattle.rs_search.proofs.Same.{not_spot, spot_is}
 use Rattle.rs_search.proofs.Staying.{stays_within}
 use Rattle.rs_search.proofs.Surviving.{derived_survives}
 use Rattle.rs_search.proofs.Verdicts.{candidate_short, dies, from_candidate, more_than, survives, to_candidate}
-use Rattle.rs_search.specs.Candidates.{IsCandidate, MeetsACut, MoveWithin, Start, start_spot}
+use Rattle.rs_search.specs.Candidates.{AreMoreThan, IsCandidate, MeetsACut, MoveWithin, Start, start_spot}
 use Rattle.rs_search.specs.Canonical.{IsCanonical, IsNotFound}
-use Rattle.rs_search.specs.Survives.{StandTogether}
+use Rattle.rs_search.specs.Survives.{StandTogether, Survives}
 use Rattle.rs_search.specs.Turns.{is_any, no_turn, nexts_within, owes_more, turn_of, turn_with_cut, turn_within}
 use Rattle.rs_explain.proofs.Blocking.{no_move, one_obstacle, some_obstacle}
-use Rattle.rs_explain.proofs.Firsts.{Decides, cut_dead, cut_or_not, dead_are_dead, dead_told, end_candidate, first_lost, lost_dies, no_moves_dead, one_lost}
+use Rattle.rs_explain.proofs.Dying.{dies_within, dying_dead, dying_leads, dying_lost, one_dying, some_dying}
+use Rattle.rs_explain.proofs.Firsts.{Decides, cut_dead, cut_or_not, end_candidate, first_lost, one_lost}
 use Rattle.rs_explain.proofs.Ways.{step}
 use Rattle.rs_explain.specs.Explanations.{AGreaterBoundHelps, EndsBy, Explanation_data, IsExplanation}
 use Rattle.rs_explain.specs.Obstacles.{HasNoMove}
-use Rattle.rs_explain.specs.Walks.{Dies, IsDeadEnd, IsFirstCutWalk, IsFirstWalk, IsForced, IsLostWalk, LeadsBy, WalkStep_data, end_of}
+use Rattle.rs_explain.specs.Walks.{Dies, DiesWithin, IsDeadEnd, IsDyingWalk, IsFirstCutWalk, IsForced, IsLostWalk, LeadsBy, WalkStep_data, end_of}
 use Rattle.rs_explain.specs.declared.explaining.Ending.{Ending}
 use Rattle.rs_explain.specs.declared.explaining.Ending.TheVariants as ending
 use Rattle.rs_explain.specs.declared.obstacles.Obstacle.{Obstacle}
@@ -57,10 +59,10 @@ record Removed (sub above : Machine_data) (bound : ℕ) : Type 0 where
   pub order : List ℕ
   pub gone : IsRemoval (graph_outs sub above bound found rows) current order
 
-removed : (sub above : Machine_data) (bound : ℕ) (cut : Bool) → IsNotFound sub above bound cut → Removed sub above bound
-removed sub above bound cut nf = elim (discovered same_spots (nexts_within sub above bound) (start_spot sub above) MOST_CANDIDATES (suc MOST_CANDIDATES) (start_spot sub above ∷ []) [] (omega arith)
+removed : (sub above : Machine_data) (bound : ℕ) → (AreMoreThan sub above bound MOST_CANDIDATES → ⊥) → Removed sub above bound
+removed sub above bound few = elim (discovered same_spots (nexts_within sub above bound) (start_spot sub above) MOST_CANDIDATES (suc MOST_CANDIDATES) (start_spot sub above ∷ []) [] (omega arith)
     (omega arith) (growing_begin (nexts_within sub above bound) (start_spot sub above))) [
-      | inr m ↦ absurd (nf.bounded (more_than sub above bound MOST_CANDIDATES m))
+      | inr m ↦ absurd (few (more_than sub above bound MOST_CANDIDATES m))
       | inl w ↦ (let l = left (graph_outs sub above bound w.found w.rows) (graph_within sub above bound w.found w.rows w.discovery) in
           record { found = w.found; rows = w.rows; discovery = w.discovery; current = l.current; order = l.order; gone = l.removal })
     ]
@@ -141,19 +143,31 @@ lost_on : (sub above : Machine_data) (bound : ℕ) (Ends : Spot → Type 0) (p :
     → IsLostWalk sub above bound Ends q later → IsLostWalk sub above bound Ends p (step place q ∷ later)
 lost_on sub above bound Ends p place q later d e l = record { walk = (e, l.walk); dies = (d, l.dies); ends = l.ends }
 
--- from each spot that is removed a walk leads to a dead end, through spots that were removed before
-way : (sub above : Machine_data) (bound : ℕ) (r : Removed sub above bound) (most i n : ℕ) (x : Spot) → i < most → slice_get r.order i ≡ Some n → slice_get r.found n ≡ Some x
-    → (steps : List WalkStep_data) × IsLostWalk sub above bound (IsDeadEnd sub above bound) x steps
-way sub above bound r zero i n x lt o f = let bad : ⊥ = omega arith in absurd bad
-way sub above bound r (suc most) i n x lt o f = elim (cases_lt 0 (length (moves_at sub above bound x))) [
-  | inr none ↦ ([], record { walk = tt; dies = gone_die sub above bound r i n x o f; ends = no_moves_dead sub above bound x (omega arith) })
-  | inl some ↦ (
-      let m = at_within (moves_at sub above bound x) 0 some in
-      let b = before sub above bound r i n 0 x m.0 o f m.1 in
-      let e = b.early in
-      let on = way sub above bound r most b.index b.number b.spot (omega arith) b.stands b.spot_is in
-      (step b.place b.spot ∷ on.0, lost_on sub above bound (IsDeadEnd sub above bound) x b.place b.spot on.0 (gone_die sub above bound r i n x o f) b.leads on.1))
-]
+-- a result of the move at that place, which was removed before
+pub soon : (sub above : Machine_data) (bound : ℕ) (found : List Spot) (outs : List (List (List ℕ))) (current order : List ℕ) → Pictures (moves_at sub above bound) found outs
+    → IsRemoval outs current order → (i n place : ℕ) (x : Spot) (move : List Spot) → slice_get order i ≡ Some n → slice_get found n ≡ Some x
+    → slice_get (moves_at sub above bound x) place ≡ Some move
+    → (index number : ℕ) × (index < i) × (slice_get order index ≡ Some number) × (r : Spot) × (slice_get found number ≡ Some r) × Among move r
+soon sub above bound found outs current order pic gone i n place x move o f e =
+    let k = pic.count n x f in
+    let w = at_short (moves_at sub above bound x) place move e in
+    let b = gone.ordered i n place o (omega arith) in
+    let z = named_result found (get_or (get_or outs n []) place []) move (pic.names n place x move f e) b.result b.leads in
+    (b.index, b.result, b.early, b.stands, z.0, z.1, z.2)
+
+-- each spot that is removed dies within as many moves as nodes were removed before
+pub order_dies : (sub above : Machine_data) (bound : ℕ) (found : List Spot) (outs : List (List (List ℕ))) (current order : List ℕ) → Pictures (moves_at sub above bound) found outs
+    → IsRemoval outs current order → (most i n : ℕ) (x : Spot) → i ≤ most → slice_get order i ≡ Some n → slice_get found n ≡ Some x → DiesWithin sub above bound i x
+order_dies sub above bound found outs current order pic gone most zero n x le o f = λ rs m. (
+    let p = at_in (moves_at sub above bound x) rs (from_move sub above bound x rs m) in
+    let b = soon sub above bound found outs current order pic gone 0 n p.0 x rs o f p.1 in
+    let z = b.2 in let bad : ⊥ = omega arith in bad)
+order_dies sub above bound found outs current order pic gone zero (suc i) n x le o f = let bad : ⊥ = omega arith in absurd bad
+order_dies sub above bound found outs current order pic gone (suc most) (suc i) n x le o f = λ rs m. (
+    let p = at_in (moves_at sub above bound x) rs (from_move sub above bound x rs m) in
+    let b = soon sub above bound found outs current order pic gone (suc i) n p.0 x rs o f p.1 in
+    let z = b.2 in
+    (b.4, b.6, dies_within sub above bound b.0 i b.4 (omega arith) (order_dies sub above bound found outs current order pic gone most b.0 b.1 b.4 (omega arith) b.3 b.5)))
 
 -- the start stands in the order, where it doesn't survive
 start_gone : (sub above : Machine_data) (bound : ℕ) (r : Removed sub above bound) → Dies sub above bound (start_spot sub above) → (i : ℕ) × (slice_get r.order i ≡ Some 0)
@@ -169,13 +183,20 @@ start_gone sub above bound r d =
     let k = at_short r.found 0 (start_spot sub above) r.discovery.first in
     at_in r.order 0 (r.gone.listed 0 (omega arith) full)
 
--- where the start doesn't survive there is a first walk
-pub walk_from_start : (sub above : Machine_data) (bound : ℕ) (cut : Bool) → IsNotFound sub above bound cut → (steps : List WalkStep_data) × IsFirstWalk sub above bound (start_spot sub above) steps
-walk_from_start sub above bound cut nf =
-    let r = removed sub above bound cut nf in
-    let i = start_gone sub above bound r nf.dies in
-    let l = way sub above bound r (suc i.0) i.0 0 (start_spot sub above) (omega arith) i.1 r.discovery.first in
-    first_lost sub above bound (IsDeadEnd sub above bound) (decides sub above bound r) (dead_told sub above bound) (dead_are_dead sub above bound) (start_spot sub above) Start l.0 l.1
+-- the start dies within some moves, where it doesn't survive
+pub start_dies : (sub above : Machine_data) (bound : ℕ) → (AreMoreThan sub above bound MOST_CANDIDATES → ⊥) → (Survives sub above bound (start_spot sub above) → ⊥)
+    → (n : ℕ) × DiesWithin sub above bound n (start_spot sub above)
+start_dies sub above bound few d =
+    let r = removed sub above bound few in
+    let i = start_gone sub above bound r d in (
+      i.0,
+      order_dies sub above bound r.found (graph_outs sub above bound r.found r.rows) r.current r.order (graph_pictures sub above bound r.found r.rows r.discovery) r.gone i.0 i.0 0
+          (start_spot sub above) (omega arith) i.1 r.discovery.first,
+    )
+
+-- then there is a walk along which it dies
+pub walk_from_start : (sub above : Machine_data) (bound : ℕ) (cut : Bool) → IsNotFound sub above bound cut → (steps : List WalkStep_data) × IsDyingWalk sub above bound (start_spot sub above) steps
+walk_from_start sub above bound cut nf = let n = start_dies sub above bound nf.bounded nf.dies in some_dying sub above bound n.0 (start_spot sub above) n.1
 
 -- where no move is taken away
 
@@ -215,7 +236,7 @@ cut_way sub above bound greater r set st (suc most) i n x lt o f h =
 pub cut_from_start : (sub above : Machine_data) (bound : ℕ) (cut : Bool) → IsNotFound sub above bound cut → AGreaterBoundHelps sub above bound
     → (steps : List WalkStep_data) × IsFirstCutWalk sub above bound (start_spot sub above) steps
 cut_from_start sub above bound cut nf g =
-    let r = removed sub above bound cut nf in
+    let r = removed sub above bound nf.bounded in
     let i = start_gone sub above bound r nf.dies in
     let l = cut_way sub above bound g.greater r g.survives.set g.survives.stand (suc i.0) i.0 0 (start_spot sub above) (omega arith) i.1 r.discovery.first g.survives.among in
     first_lost sub above bound (MeetsACut sub above bound) (decides sub above bound r) (cut_or_not sub above bound) (cut_dead sub above bound) (start_spot sub above) Start l.0 l.1
@@ -242,10 +263,9 @@ pub some_explanation : (sub above : Machine_data) (bound : ℕ) (cut : Bool) →
     → (e : Explanation_data) × IsExplanation sub above bound e
 some_explanation sub above bound cut ws wa nf =
     let f = walk_from_start sub above bound cut nf in
-    let l = f.1.is in
-    let c = end_candidate sub above bound (start_spot sub above) f.0 Start l.walk in
-    let e = ending_of sub above bound ws wa (end_of (start_spot sub above) f.0) c l.ends in
-    (record { steps = f.0; ending = e.0 }, record { first = f.1; ending = e.1 })
+    let c = end_candidate sub above bound (start_spot sub above) f.0 Start (dying_leads sub above bound (start_spot sub above) f.0 f.1) in
+    let e = ending_of sub above bound ws wa (end_of (start_spot sub above) f.0) c (dying_dead sub above bound (start_spot sub above) f.0 f.1) in
+    (record { steps = f.0; ending = e.0 }, record { walk = f.1; ending = e.1 })
 
 -- there is one at most
 
@@ -260,7 +280,7 @@ same_explanation a b e f = rw (e, f) refl
 
 pub one_explanation : (sub above : Machine_data) (bound : ℕ) (a b : Explanation_data) → IsExplanation sub above bound a → IsExplanation sub above bound b → a ≡ b
 one_explanation sub above bound a b h k =
-    let e = one_lost sub above bound (IsDeadEnd sub above bound) (start_spot sub above) a.steps b.steps h.first k.first in
+    let e = one_dying sub above bound (start_spot sub above) a.steps b.steps h.walk k.walk in
     same_explanation a b e
     (one_ending sub above bound (end_of (start_spot sub above) b.steps) a.ending b.ending
     (subst (λ (z : List WalkStep_data). EndsBy sub above bound (end_of (start_spot sub above) z) a.ending) e h.ending) k.ending)
@@ -268,7 +288,7 @@ one_explanation sub above bound a b h k =
 -- what an explanation certifies
 
 pub none_within : (sub above : Machine_data) (bound : ℕ) (e : Explanation_data) (d : Derivation_data) → IsExplanation sub above bound e → IsDerivation d sub above → d.bound ≤ bound → ⊥
-none_within sub above bound e d h v le = lost_dies sub above bound (IsDeadEnd sub above bound) (start_spot sub above) e.steps h.first.is (derived_survives sub above bound d v le)
+none_within sub above bound e d h v le = dying_lost sub above bound (start_spot sub above) e.steps h.walk (derived_survives sub above bound d v le)
 
 named : (nodes : List DNode_data) (js : List ℕ) (rs : List Spot) (r : Spot) → NameResults nodes js rs → Among rs r → (j : ℕ) × (m : DNode_data) × (slice_get nodes j ≡ Some m) × (spot_of m ≡ r)
 named nodes js [] r h m = absurd m
@@ -295,6 +315,6 @@ certified sub above steps d f stuck v = forced_on sub above d v (start_spot sub 
 -- where no candidate meets a cut the walk doesn't end at one
 pub uncut_blocked : (sub above : Machine_data) (bound : ℕ) (e : Explanation_data) → IsNotFound sub above bound false → IsExplanation sub above bound e → e.ending ≢ ending.Cut
 uncut_blocked sub above bound e nf h q =
-    let c = end_candidate sub above bound (start_spot sub above) e.steps Start h.first.is.walk in
+    let c = end_candidate sub above bound (start_spot sub above) e.steps Start (dying_leads sub above bound (start_spot sub above) e.steps h.walk) in
     let cut : EndsBy sub above bound (end_of (start_spot sub above) e.steps) ending.Cut = subst (λ (z : Ending). EndsBy sub above bound (end_of (start_spot sub above) e.steps) z) q h.ending in
     false≢true (nf.cuts.1 (record { spot = end_of (start_spot sub above) e.steps; candidate = c; cut = cut }))

@@ -124,10 +124,6 @@ way_lost sub above bound Ends dead p steps w = record {
   ends = w.ends;
 }
 
-pub lost_dies : (sub above : Machine_data) (bound : ℕ) (Ends : Spot → Type 0) (p : Spot) (steps : List WalkStep_data) → IsLostWalk sub above bound Ends p steps → Dies sub above bound p
-lost_dies sub above bound Ends p [] l = l.dies
-lost_dies sub above bound Ends p (s ∷ later) l = l.dies.0
-
 -- first walks
 
 abbrev pub Decides : Machine_data → Machine_data → ℕ → Type 0
@@ -161,17 +157,3 @@ pub one_lost : (sub above : Machine_data) (bound : ℕ) (Ends : Spot → Type 0)
 one_lost sub above bound Ends p a b =
     one_first (nexts_within sub above bound) (LostStep sub above bound) (lost_by sub above bound) p (IsLostWalk sub above bound Ends p)
     (λ w l. (lost_way sub above bound Ends p w l).go) a b
-
-pub dead_told : (sub above : Machine_data) (bound : ℕ) → TellsEnds sub above bound (IsDeadEnd sub above bound)
-dead_told sub above bound p c = dead_or_not sub above bound p
-
-pub dead_are_dead : (sub above : Machine_data) (bound : ℕ) → AreDead sub above bound (IsDeadEnd sub above bound)
-dead_are_dead sub above bound p d = d
-
--- a dead end is at the end of the empty walk, the first one
-pub first_dead : (sub above : Machine_data) (bound : ℕ) (p : Spot) → IsDeadEnd sub above bound p → IsFirst (IsLostWalk sub above bound (IsDeadEnd sub above bound) p) []
-first_dead sub above bound p e = record {
-  is = record { walk = tt; dies = dead_dies sub above bound p e; ends = e };
-  shortest = λ others l. omega arith;
-  least = λ others l q. tt;
-}

@@ -6,7 +6,8 @@ use Rattle.rs_model.specs.Data.{Machine_data}
 use Rattle.rs_derive.specs.Derivations.{IsProper}
 use Rattle.rs_derive.specs.Moves.{Spot}
 use Rattle.rs_graph.proofs.Buckets.{got}
-use Rattle.rs_graph.proofs.Growth.{at_short, at_within, push_at, push_new}
+use Rattle.rs_graph.proofs.Growth.{at_in, at_short, at_within, no_more, push_at, push_new}
+use Rattle.rs_graph.proofs.Removed.{upto, upto_has, upto_length}
 use Rattle.rs_graph.proofs.Kept.{Pictures}
 use Rattle.rs_graph.specs.Built.{IsBuilt}
 use Rattle.rs_graph.specs.Discovery.{IsDiscovery}
@@ -22,7 +23,9 @@ use Rattle.rs_search.specs.Turns.{is_any, nexts_within}
 use Rattle.rs_search.specs.declared.found.Candidates.{Candidates}
 use Rattle.rs_explain.proofs.Blocking.{no_move}
 use Rattle.rs_explain.proofs.Firsts.{cut_dead, dead_has_no_moves, no_moves_dead}
+use Rattle.rs_explain.proofs.Existing.{order_dies}
 use Rattle.rs_explain.proofs.Nearest.{ends_at}
+use Rattle.rs_explain.specs.Deaths.{AreInOrder}
 use Rattle.rs_explain.specs.Distances.{flag_at}
 use Rattle.rs_explain.specs.Explanations.{EndsBy}
 use Rattle.rs_explain.specs.OnWay.{AreFlagged, AreFlags, IsLostGraph, ending_at, has_cut_at, is_cut_ending}
@@ -82,18 +85,6 @@ dead_moveless : (sub above : Machine_data) (bound : ℕ) (found : List Spot) (ro
     → IsDiscovery (nexts_within sub above bound) (start_spot sub above) found rows → anys ≡ map (is_any sub above bound) found → IsBuilt anys rows (length rows) g
     → (n : ℕ) (x : Spot) → slice_get found n ≡ Some x → IsDeadEnd sub above bound x → removal.moves_at g.outs n ≡ 0
 dead_moveless sub above bound found rows anys g d ea b n x f e = (pictures sub above bound found rows anys g d ea b).count n x f ∙ dead_has_no_moves sub above bound x e
-
-pub dead_flagged : (sub above : Machine_data) (bound : ℕ) (found : List Spot) (rows : List (List ℕ)) (anys : List Bool) (g : Graph_data) (ends : List Bool)
-    → IsDiscovery (nexts_within sub above bound) (start_spot sub above) found rows → anys ≡ map (is_any sub above bound) found → IsBuilt anys rows (length rows) g
-    → AreFlags (λ n. removal.moves_at g.outs n == 0) (length g.outs) ends → AreFlagged (IsDeadEnd sub above bound) found ends
-dead_flagged sub above bound found rows anys g ends d ea b h = record {
-  size = h.size ∙ b.size ∙ d.all;
-  yes = λ n x f e. moveless_dead sub above bound found rows anys g d ea b n x f (eqb-true (removal.moves_at g.outs n) 0 (sym (h.each n (here n x f)) ∙ e));
-  all = λ n x f dead. h.each n (here n x f) ∙ eq-eqb (removal.moves_at g.outs n) 0 (dead_moveless sub above bound found rows anys g d ea b n x f dead);
-}
-  where
-    here : (n : ℕ) (x : Spot) → slice_get found n ≡ Some x → n < length g.outs
-    here n x f = let k = at_short found n x f in let s = b.size in let a = d.all in omega arith
 
 -- cuts
 
@@ -162,3 +153,22 @@ lost_is sub above bound found anys rows g current current' order gone f ea er ec
       dead = gone_flagged sub above bound found.table.spots found.table.rows found.anys.items g current order gone f.discovery f.noted.anys b'
           (subst (λ (z : List ℕ). IsRemoval g.outs z order) (sym ec) rem) h;
     }
+
+-- the order of the removal is one in which each dies within as many moves as nodes stand before it
+pub in_order : (sub above : Machine_data) (bound : ℕ) (found : Candidates) (anys : List Bool) (rows : List (List ℕ)) (g : Graph_data) (current order : List ℕ)
+    → AreFoundCandidates sub above bound found → anys ≡ found.anys.items → rows ≡ found.table.rows → IsBuilt anys rows (length rows) g → IsRemoval g.outs current order
+    → AreInOrder sub above bound found.table.spots order
+in_order sub above bound found anys rows g current order f ea er b rem = record {
+  few = (let n = no_more order (upto 0 g.outs) rem.once (λ x h. let k = at_in order x h in upto_has 0 g.outs x (omega arith) (let w = (rem.gone k.0 x k.1).0 in omega arith)) in
+      let l = upto_length 0 g.outs in let s = pic.size in omega arith);
+  within = λ i n o. (let w = (rem.gone i n o).0 in let s = pic.size in omega arith);
+  dies = λ i n x o e. order_dies sub above bound found.table.spots g.outs current order pic rem i i n x (omega arith) o e;
+  all = λ n x e d. rem.listed n (let k = at_short found.table.spots n x e in let s = pic.size in omega arith) (elim (cases_lt (at current n) (removal.moves_at g.outs n)) [
+    | inl lt ↦ absurd (d (survives sub above bound found.table.spots found.table.rows g current order f.discovery pic rem n x e lt))
+    | inr le ↦ (let w = rem.within n in omega arith)
+  ]);
+}
+  where
+    pic : Pictures (moves_at sub above bound) found.table.spots g.outs
+    pic = pictures sub above bound found.table.spots found.table.rows found.anys.items g f.discovery f.noted.anys
+        (subst (λ (z : List (List ℕ)). IsBuilt found.anys.items z (length z) g) er (subst (λ (z : List Bool). IsBuilt z rows (length rows) g) ea b))

@@ -1,12 +1,14 @@
 pub mod Blocking
 pub mod Charts
 pub mod Circling
+pub mod Dying
 pub mod Existing
 pub mod Forced
 pub mod Firsts
 pub mod Flags
 pub mod Forgetful
 pub mod Keeping
+pub mod Lowering
 pub mod Nearest
 pub mod Oldest
 pub mod Small

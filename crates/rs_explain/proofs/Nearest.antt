@@ -24,6 +24,8 @@ use Rattle.rs_search.specs.Turns.{nexts_within, turn_within}
 use Rattle.rs_search.specs.declared.found.Candidates.{Candidates}
 use Rattle.rs_explain.proofs.Blocking.{moves_or_obstacle}
 use Rattle.rs_explain.proofs.Charts.{nearest, way_far}
+use Rattle.rs_explain.proofs.Dying.{dying_dead, dying_leads}
+use Rattle.rs_explain.specs.Deaths.{IsDyingWay}
 use Rattle.rs_explain.proofs.Existing.{place_named, row_from, uncut_within}
 use Rattle.rs_explain.proofs.Firsts.{AreDead, LostStep, dead_dies, end_candidate, lost_by, lost_way, way_lost}
 use Rattle.rs_explain.proofs.Spreading.{edges_few, flag_within}
@@ -157,28 +159,29 @@ ends_at sub above bound p ws wa c dead =
     let k = ends_by sub above bound p s.0 t.0 wa c dead s.1 t.1 (obstacle_at p.pending s.0 (Some t.0)) refl in
     rw (s.1, t.1) k
 
--- the spot at the end of a whole way
+-- the spot at the end of a walk along which the start dies
 pub record EndSpot (sub above : Machine_data) (bound : ℕ) (steps : List WalkStep_data) (p : Spot) : Type 0 where
   pub same : p ≡ end_of (start_spot sub above) steps
   pub candidate : IsCandidate sub above bound p
   pub dead : IsDeadEnd sub above bound p
 
-pub end_spot : (sub above : Machine_data) (bound : ℕ) (found : List Spot) (steps : List WalkStep_data) (n : ℕ) (p : Spot) → IsWholeWay sub above bound (IsDeadEnd sub above bound) found steps n → slice_get found n ≡ Some p
+pub end_spot : (sub above : Machine_data) (bound : ℕ) (found : List Spot) (steps : List WalkStep_data) (n : ℕ) (p : Spot) → IsDyingWay sub above bound found steps n → slice_get found n ≡ Some p
     → EndSpot sub above bound steps p
 end_spot sub above bound found steps n p w e =
     let same : p ≡ end_of (start_spot sub above) steps = same_Some p (end_of (start_spot sub above) steps) (sym e ∙ w.stands) in
     record {
       same = same;
-      candidate = subst (λ (z : Spot). IsCandidate sub above bound z) (sym same) (end_candidate sub above bound (start_spot sub above) steps Start w.first.is.walk);
-      dead = subst (λ (z : Spot). IsDeadEnd sub above bound z) (sym same) w.first.is.ends;
+      candidate = subst (λ (z : Spot). IsCandidate sub above bound z) (sym same)
+          (end_candidate sub above bound (start_spot sub above) steps Start (dying_leads sub above bound (start_spot sub above) steps w.walk));
+      dead = subst (λ (z : Spot). IsDeadEnd sub above bound z) (sym same) (dying_dead sub above bound (start_spot sub above) steps w.walk);
     }
 
 pub whole_explains : (sub above : Machine_data) (bound : ℕ) (found : List Spot) (steps : List WalkStep_data) (n : ℕ) (p : Spot) (e : Ending) → IsProper sub → IsProper above
-    → IsWholeWay sub above bound (IsDeadEnd sub above bound) found steps n → slice_get found n ≡ Some p → e ≡ ending_at sub above p → IsExplanation sub above bound (record { steps = steps; ending = e })
+    → IsDyingWay sub above bound found steps n → slice_get found n ≡ Some p → e ≡ ending_at sub above p → IsExplanation sub above bound (record { steps = steps; ending = e })
 whole_explains sub above bound found steps n p e ws wa w g ee =
     let k = end_spot sub above bound found steps n p w g in
     let by : EndsBy sub above bound p e = subst (λ (z : Ending). EndsBy sub above bound p z) (sym ee) (ends_at sub above bound p ws wa k.candidate k.dead) in
-    record { first = w.first; ending = subst (λ (z : Spot). EndsBy sub above bound z e) k.same by }
+    record { walk = w.walk; ending = subst (λ (z : Spot). EndsBy sub above bound z e) k.same by }
 
 -- what the walk reads
 

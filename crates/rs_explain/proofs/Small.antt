@@ -5,7 +5,6 @@ use Rattle.rs_model.specs.declared.machines.State.TheVariants.{Done, Takes}
 use Rattle.rs_search.specs.Candidates.{start_spot}
 use Rattle.rs_search.specs.Examples.{ended_machine, waiting}
 use Rattle.rs_explain.proofs.Blocking.{no_move}
-use Rattle.rs_explain.proofs.Firsts.{first_dead}
 use Rattle.rs_explain.specs.Explanations.{IsExplanation}
 use Rattle.rs_explain.specs.Obstacles.{IsObstacle, EndsEarly}
 use Rattle.rs_explain.specs.declared.explaining.Ending.TheVariants as ending
@@ -16,7 +15,6 @@ early = EndsEarly refl refl (λ q. (let k : Takes (record { 0 = 1 }) [] ≡ Done
 
 pub explained : (bound : ℕ) → IsExplanation ended_machine waiting bound (record { steps = []; ending = ending.Blocked told.EndTooEarly })
 explained bound = record {
-  first = first_dead ended_machine waiting bound (start_spot ended_machine waiting)
-      (λ rs m. no_move ended_machine waiting (start_spot ended_machine waiting) told.EndTooEarly early m.makes rs m.move);
+  walk = λ rs m. no_move ended_machine waiting (start_spot ended_machine waiting) told.EndTooEarly early m.makes rs m.move;
   ending = early;
 }

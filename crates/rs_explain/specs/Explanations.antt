@@ -5,7 +5,7 @@ use Rattle.rs_derive.specs.Moves.{Spot}
 use Rattle.rs_search.specs.Candidates.{MeetsACut, start_spot}
 use Rattle.rs_search.specs.Survives.{Survives}
 use Rattle.rs_explain.specs.Obstacles.{IsObstacle}
-use Rattle.rs_explain.specs.Walks.{IsFirstWalk, WalkStep_data, end_of}
+use Rattle.rs_explain.specs.Walks.{IsDyingWalk, WalkStep_data, end_of}
 use Rattle.rs_explain.specs.declared.explaining.Ending.{Ending}
 use Rattle.rs_explain.specs.declared.explaining.Ending.TheVariants.{Blocked, Cut}
 
@@ -19,9 +19,9 @@ abbrev pub EndsBy : Machine_data → Machine_data → ℕ → Spot → Ending �
 EndsBy sub above bound p (Blocked o) = IsObstacle sub above p o
 EndsBy sub above bound p Cut = MeetsACut sub above bound p
 
--- the first walk from the start through spots that don't survive to a dead end, and why it is one
+-- the walk along which the start dies, and why the spot at its end has no move
 pub record IsExplanation (sub above : Machine_data) (bound : ℕ) (e : Explanation_data) : Type 0 where
-  pub first : IsFirstWalk sub above bound (start_spot sub above) e.steps
+  pub walk : IsDyingWalk sub above bound (start_spot sub above) e.steps
   pub ending : EndsBy sub above bound (end_of (start_spot sub above) e.steps) e.ending
 
 -- the start survives within a greater bound

@@ -45,3 +45,8 @@ abbrev pub lesser : Option ℕ → Option ℕ → Option ℕ
 lesser None b = b
 lesser (Some d) None = Some d
 lesser (Some d) (Some e) = if nat_le d e then Some d else Some e
+
+-- the least of a distance and those of the numbers of the row
+abbrev pub least_of : List (Option ℕ) → Option ℕ → List ℕ → Option ℕ
+least_of far least [] = least
+least_of far least (r ∷ row) = least_of far (lesser least (far_at far r)) row

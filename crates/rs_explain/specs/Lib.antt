@@ -7,3 +7,4 @@ pub mod Walks
 pub mod Explanations
 pub mod Forgetting
 pub mod KeptNodes
+pub mod Deaths

@@ -1,4 +1,4 @@
--- Public: what stands in the way at a spot, as it is computed, row by row of the table of moves.
+-- Steps: what stands in the way at a spot, as it is computed, row by row of the table of moves.
 use Rattle.std.specs.Prelude.{ℕ, ◌+◌, List, [], ◌∷◌, length, slice_get, ◌==◌, if◌then◌else◌, Option, Some, None}
 use Rattle.rs_model.specs.FirstFailed.{or_later}
 use Rattle.rs_model.specs.Serving.{serves}

@@ -1,5 +1,5 @@
--- Public: walks by moves through spots that don't survive, to one that has no move within the bound, or that meets a cut.
-use Rattle.std.specs.Prelude.{◌≡◌, ◌⊎◌, ℕ, ◌<◌, ◌≤◌, List, [], ◌∷◌, length, slice_get, Option, Some}
+-- Public: within how many moves a spot dies, the walk along which it does, and walks to a spot that meets a cut.
+use Rattle.std.specs.Prelude.{◌≡◌, ◌⊎◌, ℕ, zero, suc, ◌<◌, ◌≤◌, List, [], ◌∷◌, length, slice_get, Option, Some}
 use Rattle.rs_model.specs.Data.{Machine_data}
 use Rattle.rs_derive.specs.Moves.{Spot, HasMove}
 use Rattle.rs_graph.specs.Lists.{Among}
@@ -27,6 +27,33 @@ abbrev pub end_of : Spot → List WalkStep_data → Spot
 end_of p [] = p
 end_of p (s ∷ later) = end_of s.spot later
 
+-- the spot has no move within the bound
+abbrev pub IsDeadEnd : Machine_data → Machine_data → ℕ → Spot → Type 0
+IsDeadEnd sub above bound p = (results : List Spot) → MoveWithin sub above bound p results → ⊥
+
+-- the spot dies within 0 moves where it has no move, and within one more than n where each of its moves has a result that dies within n
+abbrev pub DiesWithin : Machine_data → Machine_data → ℕ → ℕ → Spot → Type 0
+DiesWithin sub above bound zero p = IsDeadEnd sub above bound p
+DiesWithin sub above bound (suc n) p = (results : List Spot) → MoveWithin sub above bound p results → (r : Spot) × Among results r × DiesWithin sub above bound n r
+
+-- it dies within so many moves, and not within fewer
+pub record DiesAfter (sub above : Machine_data) (bound n : ℕ) (p : Spot) : Type 0 where
+  pub within : DiesWithin sub above bound n p
+  pub least : (m : ℕ) → DiesWithin sub above bound m p → n ≤ m
+
+-- a step from a spot that dies after one move more to the first that dies after so many: of the results of one move to one that dies
+-- soonest, and of guesses, each of which is a move of its own, to one that dies latest
+pub record IsDyingStep (sub above : Machine_data) (bound left : ℕ) (p : Spot) (s : WalkStep_data) : Type 0 where
+  pub from : DiesAfter sub above bound (suc left) p
+  pub leads : LeadsBy sub above bound p s.place s.spot
+  pub to : DiesAfter sub above bound left s.spot
+  pub first : (place : ℕ) (q : Spot) → LeadsBy sub above bound p place q → DiesAfter sub above bound left q → s.place ≤ place
+
+-- such steps, until a spot that has no move
+abbrev pub IsDyingWalk : Machine_data → Machine_data → ℕ → Spot → List WalkStep_data → Type 0
+IsDyingWalk sub above bound p [] = IsDeadEnd sub above bound p
+IsDyingWalk sub above bound p (s ∷ later) = IsDyingStep sub above bound (length later) p s × IsDyingWalk sub above bound s.spot later
+
 -- the spot doesn't survive
 abbrev pub Dies : Machine_data → Machine_data → ℕ → Spot → Type 0
 Dies sub above bound p = Survives sub above bound p → ⊥
@@ -35,10 +62,6 @@ Dies sub above bound p = Survives sub above bound p → ⊥
 abbrev pub AllDie : Machine_data → Machine_data → ℕ → Spot → List WalkStep_data → Type 0
 AllDie sub above bound p [] = Dies sub above bound p
 AllDie sub above bound p (s ∷ later) = Dies sub above bound p × AllDie sub above bound s.spot later
-
--- the spot has no move within the bound
-abbrev pub IsDeadEnd : Machine_data → Machine_data → ℕ → Spot → Type 0
-IsDeadEnd sub above bound p = (results : List Spot) → MoveWithin sub above bound p results → ⊥
 
 -- a walk from p through spots that don't survive to one of these ends
 pub record IsLostWalk (sub above : Machine_data) (bound : ℕ) (Ends : Spot → Type 0) (p : Spot) (steps : List WalkStep_data) : Type 0 where
@@ -57,10 +80,6 @@ pub record IsFirst (Walks : List WalkStep_data → Type 0) (steps : List WalkSte
   pub is : Walks steps
   pub shortest : (others : List WalkStep_data) → Walks others → length steps ≤ length others
   pub least : (others : List WalkStep_data) → Walks others → length others ≡ length steps → IsNoLater steps others
-
--- the first of the walks from p through spots that don't survive to a dead end
-abbrev pub IsFirstWalk : Machine_data → Machine_data → ℕ → Spot → List WalkStep_data → Type 0
-IsFirstWalk sub above bound p steps = IsFirst (IsLostWalk sub above bound (IsDeadEnd sub above bound) p) steps
 
 -- the first of the walks from p through spots that don't survive to one that meets a cut
 abbrev pub IsFirstCutWalk : Machine_data → Machine_data → ℕ → Spot → List WalkStep_data → Type 0

@@ -1,17 +1,19 @@
 //! Why a machine has no derivation within a bound.
 ghost use Rattle.std.specs.Prelude.{◌≡◌, ◌<◌, ◌≤◌, Bool, IfOk, length};
 ghost use Rattle.rs_derive.specs.Derivations.{IsProper, spot_of};
+ghost use Rattle.rs_explain.specs.Deaths.{IsDyingWay};
 ghost use Rattle.rs_explain.specs.Explanations.{AGreaterBoundHelps, IsExplanation};
 ghost use Rattle.rs_explain.specs.OnWay.{IsWholeWay, ending_at};
-ghost use Rattle.rs_explain.specs.Walks.{IsDeadEnd, IsFirstCutWalk};
+ghost use Rattle.rs_explain.specs.Walks.{IsFirstCutWalk};
 ghost use Rattle.rs_model.specs.declared.limits.TheConstants.{MOST_CANDIDATES};
 ghost use Rattle.rs_search.specs.Candidates.{MeetsACut, start_spot};
 ghost use Rattle.rs_search.specs.Canonical.{IsNotFound};
 ghost use Rattle.rs_search.specs.Found.{AreFoundCandidates};
 
 use crate::Obstacle;
+use crate::deaths::deaths;
 use crate::distances::distances;
-use crate::lost::{cuts, dead_ends, lost_graph};
+use crate::lost::{cuts, lost_graph};
 use crate::obstacles::obstacle_at;
 use crate::walking::{Way, walk};
 use rs_derive::DNode;
@@ -61,6 +63,7 @@ pub struct Explanation {
 }
 
 impl Model for Explanation {
+    ghost use Rattle.rs_explain.specs.Deaths.{IsDyingWay};
     ghost use Rattle.rs_explain.specs.Explanations.{Explanation_data};
 
     ghost Value = { Explanation_data };
@@ -82,7 +85,7 @@ pub fn ending_of(sub: &Machine, above: &Machine, node: &DNode) -> Ending
     }
 }
 
-// The first walk to a dead end.
+// The walk along which the start dies.
 fn way_to_dead_end(
     alloc: Global,
     sub: &Machine,
@@ -93,11 +96,10 @@ fn way_to_dead_end(
     requires found { AreFoundCandidates sub.now above.now bound found.now }
     requires bounded { length found.now.table.spots ≤ MOST_CANDIDATES }
     requires refused { (cut : Bool) × IsNotFound sub.now above.now bound cut }
-    ensures { IfOk result (λ w. IsWholeWay sub.now above.now bound (IsDeadEnd sub.now above.now bound) found.now.table.spots w.steps.items w.node) }
+    ensures { IfOk result (λ w. IsDyingWay sub.now above.now bound found.now.table.spots w.steps.items w.node) }
 {
     let lost = lost_graph(alloc, sub, above, bound, found)?;
-    let ends = dead_ends(alloc, sub, above, bound, found, &lost)?;
-    let far = distances(alloc, &lost.graph, lost.gone.as_slice(), ends.as_slice())?;
+    let far = deaths(alloc, sub, above, bound, found, lost.order.as_slice())?;
     let way = walk(alloc, &found.table, far.as_slice())?;
     Ok(way)
 }

@@ -7,15 +7,17 @@ ghost use Rattle.rs_explain.specs.Explanations.{AGreaterBoundHelps, Explanation_
 ghost use Rattle.rs_explain.specs.Forgetting.{Forgetting_data, IsForgetting};
 ghost use Rattle.rs_explain.specs.Obstacles.{HasNoMove, IsObstacle};
 ghost use Rattle.rs_explain.specs.Forcing.{is_forced};
-ghost use Rattle.rs_explain.specs.Walks.{IsFirstCutWalk, IsFirstWalk, IsForced, IsWalk, LeadsBy, WalkStep_data, end_of};
+ghost use Rattle.rs_explain.specs.Walks.{DiesAfter, DiesWithin, IsDeadEnd, IsDyingStep, IsDyingWalk, IsFirstCutWalk, IsForced, IsWalk, LeadsBy, WalkStep_data, end_of};
 ghost use Rattle.rs_explain.specs.declared.explaining.Ending.TheVariants.{Blocked, Cut};
 ghost use Rattle.rs_explain.specs.declared.obstacles.Obstacle.{Obstacle};
 ghost use Rattle.rs_explain.specs.declared.obstacles.Obstacle.TheVariants.{EndTooEarly};
 ghost use Rattle.rs_graph.specs.Lists.{Among};
 ghost use Rattle.rs_model.specs.Data.{Machine_data};
 ghost use Rattle.rs_model.specs.declared.machines.Act.{Act};
-ghost use Rattle.rs_search.specs.Candidates.{MoveWithin, start_spot};
+ghost use Rattle.rs_model.specs.declared.limits.TheConstants.{MOST_CANDIDATES};
+ghost use Rattle.rs_search.specs.Candidates.{AreMoreThan, MoveWithin, start_spot};
 ghost use Rattle.rs_search.specs.Canonical.{IsCanonical, IsForgets, IsNotFound};
+ghost use Rattle.rs_search.specs.Survives.{Survives};
 ghost use Rattle.rs_search.specs.Examples.{ended_machine, waiting};
 
 /// Exactly where a spot has no move there is an obstacle, and one only. The spot stands at states of both machines, and
@@ -33,12 +35,34 @@ pub fn steps_are_moves()
         → (results : List Spot) × MoveWithin sub above bound p results × Among results q }
 {}
 
-/// Where the search finds none, a walk leads from the start through spots that don't survive to one that has no move
-/// within the bound. So there is an explanation, and there is one only; where no candidate meets a cut, its walk doesn't
-/// end at one.
+/// What dies within some moves doesn't survive: `DiesWithin` is the proof. And where the candidates number no more than the
+/// limit, the start dies within some moves if it doesn't survive.
+pub fn what_does_not_survive_dies_within_some_moves()
+    ensures lost { (sub above : Machine_data) (bound n : ℕ) (p : Spot) → DiesWithin sub above bound n p → Survives sub above bound p → ⊥ }
+    ensures some { (sub above : Machine_data) (bound : ℕ) → (AreMoreThan sub above bound MOST_CANDIDATES → ⊥) → (Survives sub above bound (start_spot sub above) → ⊥)
+        → (n : ℕ) × DiesWithin sub above bound n (start_spot sub above) }
+{}
+
+/// The walk along which a spot dies is as long as the moves after which it dies, and there is one only. A step of it goes to
+/// a result that dies as soon as any of its move, and each other move has a result that dies as soon as it: so of guesses it
+/// takes one that dies latest.
+pub fn one_walk_along_which_a_spot_dies()
+    ensures some { (sub above : Machine_data) (bound n : ℕ) (p : Spot) → DiesWithin sub above bound n p → (steps : List WalkStep_data) × IsDyingWalk sub above bound p steps }
+    ensures one { (sub above : Machine_data) (bound : ℕ) (p : Spot) (steps others : List WalkStep_data) → IsDyingWalk sub above bound p steps
+        → IsDyingWalk sub above bound p others → steps ≡ others }
+    ensures length { (sub above : Machine_data) (bound : ℕ) (p : Spot) (steps : List WalkStep_data) → IsDyingWalk sub above bound p steps → DiesAfter sub above bound (length steps) p }
+    ensures ends { (sub above : Machine_data) (bound : ℕ) (p : Spot) (steps : List WalkStep_data) → IsDyingWalk sub above bound p steps → IsDeadEnd sub above bound (end_of p steps) }
+    ensures soonest { (sub above : Machine_data) (bound left : ℕ) (p : Spot) (s : WalkStep_data) (results : List Spot) (r : Spot) (m : ℕ) → IsDyingStep sub above bound left p s
+        → MoveWithin sub above bound p results → Among results s.spot → Among results r → DiesWithin sub above bound m r → left ≤ m }
+    ensures latest { (sub above : Machine_data) (bound left : ℕ) (p : Spot) (s : WalkStep_data) (results : List Spot) → IsDyingStep sub above bound left p s
+        → MoveWithin sub above bound p results → (r : Spot) × Among results r × DiesWithin sub above bound left r }
+{}
+
+/// Where the search finds none, the start dies along a walk to a spot that has no move within the bound. So there is an
+/// explanation, and there is one only; where no candidate meets a cut, its walk doesn't end at one.
 pub fn one_explanation_where_not_found()
     ensures walk { (sub above : Machine_data) (bound : ℕ) (cut : Bool) → IsNotFound sub above bound cut
-        → (steps : List WalkStep_data) × IsFirstWalk sub above bound (start_spot sub above) steps }
+        → (steps : List WalkStep_data) × IsDyingWalk sub above bound (start_spot sub above) steps }
     ensures some { (sub above : Machine_data) (bound : ℕ) (cut : Bool) → IsProper sub → IsProper above → IsNotFound sub above bound cut
         → (e : Explanation_data) × IsExplanation sub above bound e }
     ensures one { (sub above : Machine_data) (bound : ℕ) (e other : Explanation_data) → IsExplanation sub above bound e → IsExplanation sub above bound other → e ≡ other }
@@ -69,8 +93,9 @@ pub fn the_oldest_act_is_never_made()
         → slice_get s.spot.pending 0 ≡ slice_get f.spot.pending 0 }
 {}
 
-/// Where there is an explanation there is no derivation within the bound. A walk that no other move leaves, to a spot that
-/// has no move, needs no search to be believed: where there is such a walk there is no derivation of whatever bound.
+/// Where there is an explanation there is no derivation within the bound, since the start dies within as many moves as its
+/// walk has steps. A walk that no other move leaves, to a spot that has no move, shows more: where there is such a walk there
+/// is no derivation of whatever bound.
 pub fn explanations_certify()
     ensures within { (sub above : Machine_data) (bound : ℕ) (e : Explanation_data) (d : Derivation_data) → IsExplanation sub above bound e
         → IsDerivation d sub above → d.bound ≤ bound → ⊥ }

@@ -1,7 +1,8 @@
-//! Why a machine has no derivation: a walk to where it has no move, and what stands in its way there; a walk to a cut, where
-//! a greater bound helps; or a way round on which an act that is owed is never made.
+//! Why a machine has no derivation: the walk along which it comes to have no move, and what stands in its way there; a walk to a
+//! cut, where a greater bound helps; or a way round on which an act that is owed is never made.
 #![tactic(auto)]
 
+mod deaths;
 mod distances;
 mod explaining;
 mod forcing;
@@ -14,5 +15,5 @@ mod walking;
 
 pub use explaining::{Ending, Explanation, WalkStep, explain, explain_cut};
 pub use forcing::is_forced;
-pub use obstacles::{Obstacle, obstacle_at};
+pub use obstacles::Obstacle;
 pub use rounds::{Forgetting, explain_forgets};

@@ -1,8 +1,8 @@
-//! The graph of the candidates, which of these don't survive, and at which a walk may end.
+//! The graph of the candidates, which of these don't survive, and which meet a cut.
 ghost use Rattle.std.specs.Prelude.{◌≡◌, ◌<◌, ◌≤◌, ◌^◌, ℕ, IfOk, length, ◌==◌, ◌&&◌};
 ghost use Rattle.rs_derive.specs.Derivations.{IsProper, spot_of};
+ghost use Rattle.rs_explain.specs.Deaths.{AreInOrder};
 ghost use Rattle.rs_explain.specs.OnWay.{AreFlagged, AreFlags, IsLostGraph, has_cut_at};
-ghost use Rattle.rs_explain.specs.Walks.{IsDeadEnd};
 ghost use Rattle.rs_graph.specs.Removal.{at, moves_at};
 ghost use Rattle.rs_model.specs.declared.limits.TheConstants.{MOST_CANDIDATES};
 ghost use Rattle.rs_search.specs.Candidates.{MeetsACut};
@@ -16,11 +16,12 @@ use rs_model::{Machine, NoMemory};
 use rs_search::Candidates;
 use std::alloc::Global;
 
-/// The graph of the candidates, and of each whether it doesn't survive.
+/// The graph of the candidates, of each whether it doesn't survive, and those that don't in the order of their removal.
 #[derive(Drop)]
 pub struct LostGraph {
     pub graph: Graph,
     pub gone: Vec<bool>,
+    pub order: Vec<u32>,
 }
 
 // Of each node whether it was removed.
@@ -46,43 +47,18 @@ pub fn lost_graph(
 ) -> Result<LostGraph, NoMemory>
     requires found { AreFoundCandidates sub.now above.now bound found.now }
     requires bounded { length found.now.table.spots ≤ MOST_CANDIDATES }
-    ensures { IfOk result (λ l. IsLostGraph sub.now above.now bound found.now l.graph l.gone.items) }
+    ensures lost { IfOk result (λ l. IsLostGraph sub.now above.now bound found.now l.graph l.gone.items) }
+    ensures order { IfOk result (λ l. AreInOrder sub.now above.now bound found.now.table.spots l.order.items) }
 {
     let rows = found.table.copy_rows(alloc)?;
     let graph = graph_of(alloc, found.anys.as_slice(), rows.as_slice())?;
     let left = remove_uncounted(alloc, &graph)?;
     let gone = gone_nodes(alloc, &graph, left.current.as_slice())?;
-    Ok(LostGraph { graph, gone })
-}
-
-// Of each node whether it has no move.
-fn nodes_without_moves(alloc: Global, graph: &Graph) -> Result<Vec<bool>, NoMemory>
-    requires nodes { length graph.now.outs < 2 ^ 32 }
-    ensures { IfOk result (λ v. AreFlags (λ (n : ℕ). moves_at graph.now.outs n == 0) (length graph.now.outs) v.items) }
-{
-    let mut ends = Vec::new(alloc);
-    for node in 0..graph.nodes() {
-        ends.push(graph.moves(node as u32) == 0)?;
-    }
-    Ok(ends)
-}
-
-/// Of each candidate whether it is a dead end.
-pub fn dead_ends(
-    alloc: Global,
-    sub: &Machine,
-    above: &Machine,
-    bound: u8,
-    found: &Candidates,
-    lost: &LostGraph,
-) -> Result<Vec<bool>, NoMemory>
-    requires found { AreFoundCandidates sub.now above.now bound found.now }
-    requires bounded { length found.now.table.spots ≤ MOST_CANDIDATES }
-    requires lost { IsLostGraph sub.now above.now bound found.now lost.now.graph lost.now.gone.items }
-    ensures { IfOk result (λ v. AreFlagged (IsDeadEnd sub.now above.now bound) found.now.table.spots v.items) }
-{
-    let ends = nodes_without_moves(alloc, &lost.graph)?;
-    Ok(ends)
+    Ok(LostGraph {
+        graph,
+        gone,
+        order: left.order,
+    })
 }
 
 // Whether the candidate with so many moves meets a cut: it has none, and nothing else stands in the way of one.

@@ -1,10 +1,10 @@
 //! How the canonical derivation forgets an act that is owed: a way leads round, on which it is never made.
-ghost use Rattle.std.specs.Prelude.{◌≡◌, ◌<◌, ◌≤◌, [], ℕ, List, IfOk, length, slice_get, slice_index_or, Some};
+ghost use Rattle.std.specs.Prelude.{◌≡◌, ◌<◌, ◌≤◌, [], ℕ, List, IfOk, length, slice_get, slice_index_or, Some, None};
 ghost use Rattle.rs_derive.specs.Derivations.{IsProper, spot_of};
 ghost use Rattle.rs_derive.specs.Moves.{Spot};
 ghost use Rattle.rs_explain.specs.Distances.{far_at};
 ghost use Rattle.rs_explain.specs.Forgetting.{IsForgetting, IsKeepingStep, IsRound};
-ghost use Rattle.rs_explain.specs.KeptNodes.{AreKeptNodes, AreNumberedNodes, lesser, spots_at};
+ghost use Rattle.rs_explain.specs.KeptNodes.{AreKeptNodes, AreNumberedNodes, least_of, lesser, spots_at};
 ghost use Rattle.rs_explain.specs.OnWay.{AreCharted, IsStepTo};
 ghost use Rattle.rs_explain.specs.Walks.{IsFirst, WalkStep_data};
 ghost use Rattle.rs_graph.specs.Lists.{Among};
@@ -90,18 +90,26 @@ fn lesser(a: Option<u32>, b: Option<u32>) -> Option<u32>
     }
 }
 
-// The least distance of the numbers of the row.
+/// The least distance of the numbers of the row that have one.
+pub fn least(row: &[u32], far: &[Option<u32>]) -> Option<u32>
+    requires within { (r : ℕ) → Among row.now r → r < length far.now }
+    ensures { result ≡ least_of far.now None row.now }
+{
+    let mut least = None;
+    for i in 0..row.len() {
+        least = lesser(least, far[row[i] as usize]);
+    }
+    least
+}
+
+// The least distance of the numbers of the row, of which some one has a distance.
 fn nearest(row: &[u32], far: &[Option<u32>]) -> u32
     requires within { (r : ℕ) → Among row.now r → r < length far.now }
     requires some { (i r d : ℕ) × (slice_get row.now i ≡ Some r) × (far_at far.now r ≡ Some d) }
     ensures some { (i r : ℕ) × (slice_get row.now i ≡ Some r) × (far_at far.now r ≡ Some result) }
     ensures least { (i r d : ℕ) → slice_get row.now i ≡ Some r → far_at far.now r ≡ Some d → result ≤ d }
 {
-    let mut least = None;
-    for i in 0..row.len() {
-        least = lesser(least, far[row[i] as usize]);
-    }
-    match least {
+    match least(row, far) {
         Some(distance) => distance,
         None => unreachable!(),
     }

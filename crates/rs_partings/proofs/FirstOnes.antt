@@ -1,12 +1,11 @@
 -- The first parting that flags tell is the first one.
-use Rattle.std.proofs.Common.{◌≡◌, ◌≢◌, ◌⊎◌, inl, inr, ℕ, zero, suc, ◌+◌, ◌≤◌, Bool, true, false, not, ◌&&◌, ◌==◌, if◌then◌else◌, List, [], ◌∷◌, get_or, Option, Some, None, MatchOption, slice_get}
+use Rattle.std.proofs.Common.{◌≡◌, ◌⊎◌, inl, inr, ℕ, zero, suc, ◌+◌, ◌≤◌, Bool, true, false, not, ◌&&◌, if◌then◌else◌, List, [], ◌∷◌, get_or, Option, Some, None, MatchOption, slice_get}
 use Rattle.std.proofs.Common.{refl, sym, ◌∙◌, subst, arith}
-use Rattle.std.proofs.lemmas.Bool.Decides.{eqb_tells}
 use Rattle.rs_model.specs.declared.graph.Arm.{Arm}
 use Rattle.rs_model.specs.declared.graph.Node.{Node}
 use Rattle.rs_project.specs.Marks.{IsOn, arms_of_node}
 use Rattle.rs_partings.specs.Partings.{IsFirstOf, IsNoLater}
-use Rattle.rs_partings.specs.Searching.{other_arm, parting_with, parting_by, or_later, parting_of_arms, parting_of_node, parting_of_nodes}
+use Rattle.rs_partings.specs.Searching.{arm_toward, parting_with, parting_by, or_later, parting_of_arms, parting_of_node, parting_of_nodes}
 use Rattle.rs_partings.specs.declared.searching.Parting.{Parting}
 
 -- the arm at that place leads to a flagged node
@@ -27,65 +26,77 @@ first_on flags a arms h = let e : h.arm ≡ a = cc (h.stands) in subst (λ (z : 
 none_on : (flags : List Bool) (i : ℕ) → ArmOn flags [] i → ⊥
 none_on flags i h = let e = h.stands in cc (e)
 
-same : (x y : ℕ) → (x == y) ≡ true → x ≡ y
-same x y h = elim (eqb_tells x y) [ inl t ↦ t.1 | inr t ↦ absurd (cc (h, t.0)) ]
+-- the arm at that place leads to a node that is flagged in the first list alone
+pub record ArmOnly (ones others : List Bool) (arms : List Arm) (place : ℕ) : Type 0 where
+  pub arm : Arm
+  pub stands : slice_get arms place ≡ Some arm
+  pub on : IsOn ones arm.next
+  pub off : IsOn others arm.next → ⊥
 
-differ : (x y : ℕ) → (x == y) ≡ false → x ≢ y
-differ x y h q = elim (eqb_tells x y) [ inl t ↦ absurd (cc (h, t.0)) | inr t ↦ t.1 q ]
+next_only : (ones others : List Bool) (a : Arm) (arms : List Arm) (i : ℕ) → ArmOnly ones others arms i → ArmOnly ones others (a ∷ arms) (suc i)
+next_only ones others a arms i h = record { arm = h.arm; stands = h.stands; on = h.on; off = h.off }
 
--- ---- the other arm
+rest_only : (ones others : List Bool) (a : Arm) (arms : List Arm) (i : ℕ) → ArmOnly ones others (a ∷ arms) (suc i) → ArmOnly ones others arms i
+rest_only ones others a arms i h = record { arm = h.arm; stands = h.stands; on = h.on; off = h.off }
 
--- there is no other arm that leads to a flagged node, where the first arm has the place k
-abbrev NoOther : List Bool → ℕ → ℕ → List Arm → Type 0
-NoOther flags one k arms = (j : ℕ) → ArmOn flags arms j → k + j ≢ one → ⊥
+-- the node is flagged in the first list alone
+abbrev OnOnly : List Bool → List Bool → ℕ → Type 0
+OnOnly ones others n = IsOn ones n × (IsOn others n → ⊥)
 
--- the place is that of the first other one
-record IsOther (flags : List Bool) (one k : ℕ) (arms : List Arm) (place : ℕ) : Type 0 where
+first_only : (ones others : List Bool) (a : Arm) (arms : List Arm) → ArmOnly ones others (a ∷ arms) zero → OnOnly ones others a.next
+first_only ones others a arms h = let e : h.arm ≡ a = cc (h.stands) in subst (λ (z : Arm). OnOnly ones others z.next) e (h.on, h.off)
+
+no_only : (ones others : List Bool) (i : ℕ) → ArmOnly ones others [] i → ⊥
+no_only ones others i h = let e = h.stands in cc (e)
+
+-- ---- the first arm toward a flagged node
+
+-- no arm leads to a flagged node
+abbrev NoneOn : List Bool → List Arm → Type 0
+NoneOn flags arms = (j : ℕ) → ArmOn flags arms j → ⊥
+
+-- the place is that of the first one, where the first arm has the place k
+record IsFirstOn (flags : List Bool) (k : ℕ) (arms : List Arm) (place : ℕ) : Type 0 where
   pub i : ℕ
   pub is : place ≡ k + i
   pub on : ArmOn flags arms i
-  pub apart : place ≢ one
-  pub first : (j : ℕ) → ArmOn flags arms j → k + j ≢ one → i ≤ j
+  pub first : (j : ℕ) → ArmOn flags arms j → i ≤ j
 
-none_later : (flags : List Bool) (one k : ℕ) (a : Arm) (arms : List Arm) → (IsOn flags a.next → k ≢ one → ⊥) → NoOther flags one (k + 1) arms → NoOther flags one k (a ∷ arms)
-none_later flags one k a arms here none zero h ne = here (first_on flags a arms h) (λ e. ne (omega (arith, e)))
-none_later flags one k a arms here none (suc j) h ne = none j (rest_on flags a arms j h) (λ e. ne (omega (arith, e)))
+none_later : (flags : List Bool) (a : Arm) (arms : List Arm) → (IsOn flags a.next → ⊥) → NoneOn flags arms → NoneOn flags (a ∷ arms)
+none_later flags a arms here none zero h = here (first_on flags a arms h)
+none_later flags a arms here none (suc j) h = none j (rest_on flags a arms j h)
 
-first_later : (flags : List Bool) (one k : ℕ) (a : Arm) (arms : List Arm) (place : ℕ) → (IsOn flags a.next → k ≢ one → ⊥) → (f : IsOther flags one (k + 1) arms place)
-    → (j : ℕ) → ArmOn flags (a ∷ arms) j → k + j ≢ one → suc f.i ≤ j
-first_later flags one k a arms place here f zero h ne = absurd (here (first_on flags a arms h) (λ e. ne (omega (arith, e))))
-first_later flags one k a arms place here f (suc j) h ne = let l = f.first j (rest_on flags a arms j h) (λ e. ne (omega (arith, e))) in omega (arith, l)
+first_later : (flags : List Bool) (k : ℕ) (a : Arm) (arms : List Arm) (place : ℕ) → (IsOn flags a.next → ⊥) → (f : IsFirstOn flags (k + 1) arms place)
+    → (j : ℕ) → ArmOn flags (a ∷ arms) j → suc f.i ≤ j
+first_later flags k a arms place here f zero h = absurd (here (first_on flags a arms h))
+first_later flags k a arms place here f (suc j) h = let l = f.first j (rest_on flags a arms j h) in omega (arith, l)
 
-other_later : (flags : List Bool) (one k : ℕ) (a : Arm) (arms : List Arm) (o : Option ℕ) → (IsOn flags a.next → k ≢ one → ⊥)
-    → MatchOption o (NoOther flags one (k + 1) arms) (λ place. IsOther flags one (k + 1) arms place) → MatchOption o (NoOther flags one k (a ∷ arms)) (λ place. IsOther flags one k (a ∷ arms) place)
-other_later flags one k a arms None here none = λ j h ne. none_later flags one k a arms here none j h ne
-other_later flags one k a arms (Some place) here f = record {
+toward_later : (flags : List Bool) (k : ℕ) (a : Arm) (arms : List Arm) (o : Option ℕ) → (IsOn flags a.next → ⊥)
+    → MatchOption o (NoneOn flags arms) (λ place. IsFirstOn flags (k + 1) arms place) → MatchOption o (NoneOn flags (a ∷ arms)) (λ place. IsFirstOn flags k (a ∷ arms) place)
+toward_later flags k a arms None here none = λ j h. none_later flags a arms here none j h
+toward_later flags k a arms (Some place) here f = record {
   i = suc f.i;
   is = (let e = f.is in omega (arith, e));
   on = next_on flags a arms f.i f.on;
-  apart = f.apart;
-  first = λ j h ne. first_later flags one k a arms place here f j h ne;
+  first = λ j h. first_later flags k a arms place here f j h;
 }
 
-other_here : (flags : List Bool) (one k : ℕ) (a : Arm) (arms : List Arm) → IsOn flags a.next → k ≢ one → IsOther flags one k (a ∷ arms) k
-other_here flags one k a arms on ne = record {
+toward_here : (flags : List Bool) (k : ℕ) (a : Arm) (arms : List Arm) → IsOn flags a.next → IsFirstOn flags k (a ∷ arms) k
+toward_here flags k a arms on = record {
   i = zero;
   is = omega arith;
   on = record { arm = a; stands = refl; on = on };
-  apart = ne;
-  first = λ j h q. omega arith;
+  first = λ j h. omega arith;
 }
 
-other_found : (flags : List Bool) (one k : ℕ) (arms : List Arm) → MatchOption (other_arm flags one k arms) (NoOther flags one k arms) (λ place. IsOther flags one k arms place)
-other_found flags one k [] = λ j h ne. none_on flags j h
-other_found flags one k (a ∷ arms) = go (k == one) refl (get_or flags a.next false) refl (other_found flags one (k + 1) arms)
+toward_found : (flags : List Bool) (k : ℕ) (arms : List Arm) → MatchOption (arm_toward flags k arms) (NoneOn flags arms) (λ place. IsFirstOn flags k arms place)
+toward_found flags k [] = λ j h. none_on flags j h
+toward_found flags k (a ∷ arms) = go (get_or flags a.next false) refl (toward_found flags (k + 1) arms)
   where
-    go : (b : Bool) → (k == one) ≡ b → (c : Bool) → get_or flags a.next false ≡ c
-        → MatchOption (other_arm flags one (k + 1) arms) (NoOther flags one (k + 1) arms) (λ place. IsOther flags one (k + 1) arms place)
-        → MatchOption (if not b && c then Some k else other_arm flags one (k + 1) arms) (NoOther flags one k (a ∷ arms)) (λ place. IsOther flags one k (a ∷ arms) place)
-    go true e c f rest = other_later flags one k a arms (other_arm flags one (k + 1) arms) (λ on ne. ne (same k one e)) rest
-    go false e false f rest = other_later flags one k a arms (other_arm flags one (k + 1) arms) (λ on ne. cc (on, f)) rest
-    go false e true f rest = other_here flags one k a arms f (differ k one e)
+    go : (c : Bool) → get_or flags a.next false ≡ c → MatchOption (arm_toward flags (k + 1) arms) (NoneOn flags arms) (λ place. IsFirstOn flags (k + 1) arms place)
+        → MatchOption (if c then Some k else arm_toward flags (k + 1) arms) (NoneOn flags (a ∷ arms)) (λ place. IsFirstOn flags k (a ∷ arms) place)
+    go false f rest = toward_later flags k a arms (arm_toward flags (k + 1) arms) (λ on. cc (on, f)) rest
+    go true f rest = toward_here flags k a arms f
 
 -- ---- the first of two
 
@@ -116,38 +127,37 @@ first_as Parts Those (Some p) to from f = record { parts = to p.talk p.one p.oth
 record AtArm (ones others : List Bool) (talk : ℕ) (all : List Arm) (k : ℕ) (a : Arm) (t i j : ℕ) : Type 0 where
   pub talk_is : t ≡ talk
   pub one_is : i ≡ k
-  pub on : IsOn ones a.next
+  pub on : OnOnly ones others a.next
   pub other : ArmOn others all j
-  pub apart : i ≢ j
 
 record AtArms (ones others : List Bool) (talk : ℕ) (all : List Arm) (k : ℕ) (arms : List Arm) (t i j : ℕ) : Type 0 where
   pub talk_is : t ≡ talk
   pub m : ℕ
   pub one_is : i ≡ k + m
-  pub on : ArmOn ones arms m
+  pub on : ArmOnly ones others arms m
   pub other : ArmOn others all j
-  pub apart : i ≢ j
 
 arm_first : (ones others : List Bool) (talk : ℕ) (all : List Arm) (k : ℕ) (a : Arm) → FirstIn (AtArm ones others talk all k a) (parting_by ones others talk all k a)
-arm_first ones others talk all k a = go (get_or ones a.next false) refl (other_arm others k 0 all) (other_found others k 0 all)
+arm_first ones others talk all k a = go (get_or ones a.next false) refl (get_or others a.next false) refl (arm_toward others 0 all) (toward_found others 0 all)
   where
-    go : (b : Bool) → get_or ones a.next false ≡ b → (o : Option ℕ) → MatchOption o (NoOther others k 0 all) (λ place. IsOther others k 0 all place)
-        → FirstIn (AtArm ones others talk all k a) (if b then parting_with talk k o else None)
-    go false e o found = λ t i j h. (let on = h.on in cc (on, e))
-    go true e None none = λ t i j h. none j h.other (λ q. h.apart (let p = h.one_is in omega (arith, q, p)))
-    go true e (Some place) f = record {
+    go : (b : Bool) → get_or ones a.next false ≡ b → (c : Bool) → get_or others a.next false ≡ c
+        → (o : Option ℕ) → MatchOption o (NoneOn others all) (λ place. IsFirstOn others 0 all place)
+        → FirstIn (AtArm ones others talk all k a) (if b && not c then parting_with talk k o else None)
+    go false e c d o found = λ t i j h. (let on = h.on.0 in cc (on, e))
+    go true e true d o found = λ t i j h. h.on.1 d
+    go true e false d None none = λ t i j h. none j h.other
+    go true e false d (Some place) f = record {
       parts = record {
         talk_is = refl;
         one_is = refl;
-        on = e;
+        on = (e, λ on. cc (on, d));
         other = subst (λ (z : ℕ). ArmOn others all z) (let q = f.is in let w : f.i ≡ place = omega (arith, q) in w) f.on;
-        apart = λ q. f.apart (sym q);
       };
-      first = λ t i j h. inr (sym h.talk_is, inr (sym h.one_is, (let l = f.first j h.other (λ q. h.apart (let p = h.one_is in omega (arith, q, p))) in let q = f.is in omega (arith, l, q))));
+      first = λ t i j h. inr (sym h.talk_is, inr (sym h.one_is, (let l = f.first j h.other in let q = f.is in omega (arith, l, q))));
     }
 
 arms_first : (ones others : List Bool) (talk : ℕ) (all : List Arm) (k : ℕ) (arms : List Arm) → FirstIn (AtArms ones others talk all k arms) (parting_of_arms ones others talk all k arms)
-arms_first ones others talk all k [] = λ t i j h. none_on ones h.m h.on
+arms_first ones others talk all k [] = λ t i j h. no_only ones others h.m h.on
 arms_first ones others talk all k (a ∷ arms) =
     or_first (AtArm ones others talk all k a) (AtArms ones others talk all (k + 1) arms) (AtArms ones others talk all k (a ∷ arms))
     (parting_by ones others talk all k a) (parting_of_arms ones others talk all (k + 1) arms)
@@ -157,34 +167,31 @@ arms_first ones others talk all k (a ∷ arms) =
       talk_is = h.talk_is;
       m = zero;
       one_is = (let e = h.one_is in omega (arith, e));
-      on = record { arm = a; stands = refl; on = h.on };
+      on = record { arm = a; stands = refl; on = h.on.0; off = h.on.1 };
       other = h.other;
-      apart = h.apart;
     })
     (λ t i j h. record {
       talk_is = h.talk_is;
       m = suc h.m;
       one_is = (let e = h.one_is in omega (arith, e));
-      on = next_on ones a arms h.m h.on;
+      on = next_only ones others a arms h.m h.on;
       other = h.other;
-      apart = h.apart;
     })
     (λ p t i j h l. inr (h.talk_is ∙ sym l.talk_is, inl (let x = h.one_is in let y = l.one_is in omega (arith, x, y))))
   where
     split : (t i j m : ℕ) → (b : AtArms ones others talk all k (a ∷ arms) t i j) → AtArm ones others talk all k a t i j ⊎ AtArms ones others talk all (k + 1) arms t i j
     split t i j m b = by b.m b.one_is b.on
       where
-        by : (m : ℕ) → i ≡ k + m → ArmOn ones (a ∷ arms) m → AtArm ones others talk all k a t i j ⊎ AtArms ones others talk all (k + 1) arms t i j
-        by zero e on = inl record { talk_is = b.talk_is; one_is = omega (arith, e); on = first_on ones a arms on; other = b.other; apart = b.apart }
-        by (suc m) e on = inr record { talk_is = b.talk_is; m = m; one_is = omega (arith, e); on = rest_on ones a arms m on; other = b.other; apart = b.apart }
+        by : (m : ℕ) → i ≡ k + m → ArmOnly ones others (a ∷ arms) m → AtArm ones others talk all k a t i j ⊎ AtArms ones others talk all (k + 1) arms t i j
+        by zero e on = inl record { talk_is = b.talk_is; one_is = omega (arith, e); on = first_only ones others a arms on; other = b.other }
+        by (suc m) e on = inr record { talk_is = b.talk_is; m = m; one_is = omega (arith, e); on = rest_only ones others a arms m on; other = b.other }
 
 -- the flagged node has two arms that part
 pub record AtNode (here ones others : List Bool) (n : ℕ) (node : Node) (t i j : ℕ) : Type 0 where
   pub talk_is : t ≡ n
   pub flagged : IsOn here n
-  pub one : ArmOn ones (arms_of_node node) i
+  pub one : ArmOnly ones others (arms_of_node node) i
   pub other : ArmOn others (arms_of_node node) j
-  pub apart : i ≢ j
 
 pub record AtNodes (here ones others : List Bool) (n : ℕ) (nodes : List Node) (t i j : ℕ) : Type 0 where
   pub m : ℕ
@@ -201,11 +208,10 @@ node_first here ones others n node = go (get_or here n false) refl
         (λ t i j h. record {
           talk_is = h.talk_is;
           flagged = e;
-          one = subst (λ (z : ℕ). ArmOn ones (arms_of_node node) z) (let q = h.one_is in let w : h.m ≡ i = omega (arith, q) in w) h.on;
+          one = subst (λ (z : ℕ). ArmOnly ones others (arms_of_node node) z) (let q = h.one_is in let w : h.m ≡ i = omega (arith, q) in w) h.on;
           other = h.other;
-          apart = h.apart;
         })
-        (λ t i j h. record { talk_is = h.talk_is; m = i; one_is = omega arith; on = h.one; other = h.other; apart = h.apart })
+        (λ t i j h. record { talk_is = h.talk_is; m = i; one_is = omega arith; on = h.one; other = h.other })
         (arms_first ones others n (arms_of_node node) 0 (arms_of_node node))
 
 pub nodes_first : (here ones others : List Bool) (n : ℕ) (nodes : List Node) → FirstIn (AtNodes here ones others n nodes) (parting_of_nodes here ones others n nodes)

@@ -1,6 +1,5 @@
 -- The ways to two members that a role may both meet first from a node part somewhere.
-use Rattle.std.proofs.Common.{◌≡◌, ◌≢◌, inl, inr, ℕ, List, [], ◌∷◌, ◌++◌, Option, Some, None, slice_get, refl, sym, ap, ◌∙◌, subst}
-use Rattle.std.proofs.lemmas.Bool.Decides.{eqb_tells}
+use Rattle.std.proofs.Common.{◌≡◌, ◌≢◌, ℕ, List, [], ◌∷◌, ◌++◌, Option, Some, None, slice_get, refl, sym, ap, ◌∙◌, subst}
 use Rattle.rs_model.specs.Data.{Protocol_data}
 use Rattle.rs_model.specs.declared.graph.Arm.{Arm}
 use Rattle.rs_model.specs.declared.graph.Node.{Node}
@@ -50,31 +49,41 @@ leads_same pr n place x y l m =
     let h : l.arm ≡ m.arm = cc (g, m.stands) in
     sym l.leads ∙ ap (λ (z : Arm). z.next) h ∙ m.leads
 
+-- the member isn't met behind this arm, and so on the way behind another one: there the ways part
+parts_here : (pr : Protocol_data) (role : Role) (a : ℕ) (b : Option ℕ) → PartNowhere pr role a b → (n place next : ℕ) → IsReached pr n → PassesBy pr role n
+    → LeadsTo pr n place next → MeetsMember pr role next (Some a) → (MeetsMember pr role next b → ⊥) → Way pr role b n → ⊥
+parts_here pr role a b none n place next r passes leads to_a only way = go way.steps way.path way.earlier
+  where
+    go : (ts : List PathStep) → IsPath pr n ts way.last → AllPassBy pr role ts → ⊥
+    go [] q aq = member_stops pr role b n (subst (λ (z : ℕ). IsMemberNode pr role b z) (sym q) way.ends) passes
+    go (t ∷ ts) q aq = none n place t.place record {
+      reached = r;
+      uninvolved = passes.uninvolved;
+      to_a = record { next = next; leads = leads; meets = to_a };
+      only = λ l. only (subst (λ (z : ℕ). MeetsMember pr role z b) (leads_same pr n place l.next next l.leads leads) l.meets);
+      to_b = record { next = q.0; leads = q.2; meets = of_way pr role b q.0 record { steps = ts; last = way.last; path = q.3; earlier = aq.1; ends = way.ends } };
+    }
+
 parted : (pr : Protocol_data) (role : Role) (a : ℕ) (b : Option ℕ) → b ≢ Some a → PartNowhere pr role a b
-    → (ss ts : List PathStep) (n x y : ℕ) → IsReached pr n → IsPath pr n ss x → AllPassBy pr role ss → IsMemberNode pr role (Some a) x
-    → IsPath pr n ts y → AllPassBy pr role ts → IsMemberNode pr role b y → ⊥
-parted pr role a b ne none [] [] n x y r p ap' m q aq k =
-    two_members pr role a b n (subst (λ (z : ℕ). IsMemberNode pr role (Some a) z) (sym p) m) (subst (λ (z : ℕ). IsMemberNode pr role b z) (sym q) k) ne
-parted pr role a b ne none [] (t ∷ ts) n x y r p ap' m q aq k =
-    member_stops pr role (Some a) n (subst (λ (z : ℕ). IsMemberNode pr role (Some a) z) (sym p) m) (subst (λ (z : ℕ). PassesBy pr role z) q.1 aq.0)
-parted pr role a b ne none (s ∷ ss) [] n x y r p ap' m q aq k =
-    member_stops pr role b n (subst (λ (z : ℕ). IsMemberNode pr role b z) (sym q) k) (subst (λ (z : ℕ). PassesBy pr role z) p.1 ap'.0)
-parted pr role a b ne none (s ∷ ss) (t ∷ ts) n x y r p ap' m q aq k = elim (eqb_tells s.place t.place) [
-  | inl d ↦ (
-      let e : q.0 ≡ p.0 = leads_same pr n s.place q.0 p.0 (subst (λ (z : ℕ). LeadsTo pr n z q.0) (sym d.1) q.2) p.2 in
-      parted pr role a b ne none ss ts p.0 x y (r.0 ++ (step_of n s.place ∷ []), path_snoc pr r.0 pr.root n s.place p.0 r.1 p.2) p.3 ap'.1 m
-      (subst (λ (z : ℕ). IsPath pr z ts y) e q.3) aq.1 k)
-  | inr d ↦ none n s.place t.place record {
-    reached = r;
-    uninvolved = (subst (λ (z : ℕ). PassesBy pr role z) p.1 ap'.0).uninvolved;
-    apart = d.1;
-    to_a = record { next = p.0; leads = p.2; meets = of_way pr role (Some a) p.0 record { steps = ss; last = x; path = p.3; earlier = ap'.1; ends = m } };
-    to_b = record { next = q.0; leads = q.2; meets = of_way pr role b q.0 record { steps = ts; last = y; path = q.3; earlier = aq.1; ends = k } };
-  }
-]
+    → (ss : List PathStep) (n x : ℕ) → IsReached pr n → IsPath pr n ss x → AllPassBy pr role ss → IsMemberNode pr role (Some a) x → MeetsMember pr role n b → ⊥
+parted pr role a b ne none [] n x r p ap' m k = go (way_of pr role b n k)
+  where
+    here : IsMemberNode pr role (Some a) n
+    here = subst (λ (z : ℕ). IsMemberNode pr role (Some a) z) (sym p) m
+
+    go : Way pr role b n → ⊥
+    go way = by way.steps way.path way.earlier
+      where
+        by : (ts : List PathStep) → IsPath pr n ts way.last → AllPassBy pr role ts → ⊥
+        by [] q aq = two_members pr role a b n here (subst (λ (z : ℕ). IsMemberNode pr role b z) (sym q) way.ends) ne
+        by (t ∷ ts) q aq = member_stops pr role (Some a) n here (subst (λ (z : ℕ). PassesBy pr role z) q.1 aq.0)
+parted pr role a b ne none (s ∷ ss) n x r p ap' m k =
+    parts_here pr role a b none n s.place p.0 r (subst (λ (z : ℕ). PassesBy pr role z) p.1 ap'.0) p.2
+    (of_way pr role (Some a) p.0 record { steps = ss; last = x; path = p.3; earlier = ap'.1; ends = m })
+    (λ later. parted pr role a b ne none ss p.0 x (r.0 ++ (step_of n s.place ∷ []), path_snoc pr r.0 pr.root n s.place p.0 r.1 p.2) p.3 ap'.1 m later)
+    (way_of pr role b n k)
 
 pub ways_part : (pr : Protocol_data) (role : Role) (n a : ℕ) (b : Option ℕ) → IsReached pr n → MeetsMember pr role n (Some a) → MeetsMember pr role n b → b ≢ Some a → PartNowhere pr role a b → ⊥
 ways_part pr role n a b r m k ne none =
     let w = way_of pr role (Some a) n m in
-    let v = way_of pr role b n k in
-    parted pr role a b ne none w.steps v.steps n w.last v.last r w.path w.earlier w.ends v.path v.earlier v.ends
+    parted pr role a b ne none w.steps n w.last r w.path w.earlier w.ends k

@@ -1,6 +1,7 @@
 -- Partings by flags are the partings.
 use Rattle.std.proofs.Common.{◌≡◌, inl, inr, ℕ, ◌+◌, Bool, List, length, Option, Some, MatchOption, slice_get, refl, sym, subst, arith}
 use Rattle.rs_model.specs.Data.{Protocol_data}
+use Rattle.rs_model.specs.declared.graph.Arm.{Arm}
 use Rattle.rs_model.specs.declared.graph.Node.{Node}
 use Rattle.rs_model.specs.declared.graph.Node.TheVariants.{Finished, Talk}
 use Rattle.rs_model.specs.declared.graph.Role.{Role}
@@ -14,7 +15,7 @@ use Rattle.rs_partings.specs.Partings.{IsFirstOf, IsNoLater, IsParting, LeadsTow
 use Rattle.rs_partings.specs.Searching.{parting_of_nodes}
 use Rattle.rs_partings.specs.declared.searching.Parting.{Parting}
 use Rattle.rs_partings.proofs.Flags.{flag_to, to_flag}
-use Rattle.rs_partings.proofs.FirstOnes.{ArmOn, AtNodes, FirstIn, first_as, nodes_first}
+use Rattle.rs_partings.proofs.FirstOnes.{ArmOn, ArmOnly, AtNodes, FirstIn, first_as, nodes_first}
 
 -- an arm toward a flagged node is one that leads toward the member
 arm_leads : (pr : Protocol_data) (role : Role) (member : Option ℕ) (flags : List Bool) (n place : ℕ) (node : Node) → AreFlags (length pr.nodes) (λ m. MeetsMember pr role m member) flags
@@ -37,6 +38,17 @@ leads_arm pr role member flags n place node wf are is l =
           (to_flag (length pr.nodes) (λ m. MeetsMember pr role m member) flags l.next are (next_within pr n place l.next wf l.leads) l.meets);
     })
 
+-- an arm toward a node that is flagged for the one way alone leads toward the one member alone
+only_leads : (pr : Protocol_data) (role : Role) (other : Option ℕ) (flags others : List Bool) (n place : ℕ) (node : Node)
+    → IsWellFormed pr → AreFlags (length pr.nodes) (λ m. MeetsMember pr role m other) others → slice_get pr.nodes n ≡ Some node
+    → ArmOnly flags others (arms_of_node node) place → LeadsToward pr role other n place → ⊥
+only_leads pr role other flags others n place node wf are is h l =
+    let k = leads_arm pr role other others n place node wf are is l in
+    let same = h.stands in
+    let also = k.stands in
+    let e : k.arm ≡ h.arm = cc (same, also) in
+    h.off (subst (λ (z : Arm). IsOn others z.next) e k.on)
+
 pub is_first : (pr : Protocol_data) (role : Role) (a : ℕ) (b : Option ℕ) (here ones others : List Bool) (o : Option Parting) → IsWellFormed pr
     → AreFlags (length pr.nodes) (λ n. IsReached pr n × (Involves pr role n → ⊥)) here
     → AreFlags (length pr.nodes) (λ n. MeetsMember pr role n (Some a)) ones → AreFlags (length pr.nodes) (λ n. MeetsMember pr role n b) others
@@ -53,8 +65,8 @@ is_first pr role a b here ones others o wf h one other e =
     record {
       reached = r.0;
       uninvolved = r.1;
-      apart = p.at.apart;
-      to_a = arm_leads pr role (Some a) ones t i p.node one is p.at.one;
+      to_a = arm_leads pr role (Some a) ones t i p.node one is record { arm = p.at.one.arm; stands = p.at.one.stands; on = p.at.one.on };
+      only = only_leads pr role b ones others t i p.node wf other is p.at.one;
       to_b = arm_leads pr role b others t j p.node other is p.at.other;
     }))
     (λ t i j p. (
@@ -68,9 +80,13 @@ is_first pr role a b here ones others o wf h one other e =
       at = record {
         talk_is = w;
         flagged = subst (λ (z : ℕ). IsOn here z) w on;
-        one = leads_arm pr role (Some a) ones t i node wf one p.to_a.leads.talks p.to_a;
+        one = (let arm = leads_arm pr role (Some a) ones t i node wf one p.to_a.leads.talks p.to_a in record {
+          arm = arm.arm;
+          stands = arm.stands;
+          on = arm.on;
+          off = λ on. p.only (arm_leads pr role b others t i node other p.to_a.leads.talks record { arm = arm.arm; stands = arm.stands; on = on });
+        });
         other = leads_arm pr role b others t j node wf other p.to_a.leads.talks p.to_b;
-        apart = p.apart;
       };
     }))
     (nodes_first here ones others 0 pr.nodes))

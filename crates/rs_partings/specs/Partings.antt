@@ -1,5 +1,5 @@
 -- Public: where the ways part to two members of a front, that a role can't tell apart.
-use Rattle.std.specs.Prelude.{◌≡◌, ◌≢◌, ◌⊎◌, ℕ, ◌<◌, ◌≤◌, Option, Some, None}
+use Rattle.std.specs.Prelude.{◌≡◌, ◌⊎◌, ℕ, ◌<◌, ◌≤◌, Option, Some, None}
 use Rattle.rs_model.specs.Data.{Protocol_data}
 use Rattle.rs_model.specs.declared.graph.Role.{Role}
 use Rattle.rs_project.specs.Graph.{LeadsTo, IsReached, Involves, MeetsFirst, MeetsTheEnd}
@@ -17,12 +17,12 @@ pub record LeadsToward (protocol : Protocol_data) (role : Role) (member : Option
   pub meets : MeetsMember protocol role next member
 
 -- the ways to talk a and to member b part at a talk of others, which the session can come to: one of its arms leads toward
--- a, and another one toward b
+-- a and not toward b, so that here the choice is made, and another one toward b
 pub record PartsAt (protocol : Protocol_data) (role : Role) (a : ℕ) (b : Option ℕ) (talk one other : ℕ) : Type 0 where
   pub reached : IsReached protocol talk
   pub uninvolved : Involves protocol role talk → ⊥
-  pub apart : one ≢ other
   pub to_a : LeadsToward protocol role (Some a) talk one
+  pub only : LeadsToward protocol role b talk one → ⊥
   pub to_b : LeadsToward protocol role b talk other
 
 -- the parting is no later than that at this talk and these arms: talks go first, then the one arm, then the other

@@ -6,7 +6,7 @@ ghost use Rattle.rs_model.specs.declared.graph.Arm.{Arm};
 ghost use Rattle.rs_model.specs.declared.graph.Role.{Role};
 ghost use Rattle.rs_partings.specs.Flags.{AreFlags, IsMemberNode};
 ghost use Rattle.rs_partings.specs.Partings.{IsParting, MeetsMember, PartNowhere};
-ghost use Rattle.rs_partings.specs.Searching.{other_arm, parting_by, parting_of_arms, parting_of_nodes};
+ghost use Rattle.rs_partings.specs.Searching.{arm_toward, parting_by, parting_of_arms, parting_of_nodes};
 ghost use Rattle.rs_project.specs.Graph.{Involves, IsReached, PassesBy};
 ghost use Rattle.rs_project.specs.Marks.{IsAwaited, IsOn, LeadsWithin, arms_of_node};
 ghost use Rattle.rs_wellformed.specs.WellFormed.{IsWellFormed};
@@ -17,8 +17,8 @@ use crate::surveying::{Survey, all_but, only, reached_nodes, survey_of};
 use rs_model::{NoMemory, Protocol, Role};
 use std::alloc::Global;
 
-/// The first choice at which the ways part to two members of a front of the role: the talk `a`, and the talk `b` or, where
-/// that is None, the end. There is none where both members stand behind the same choices of others.
+/// The first choice that decides between two members of a front of the role: the talk `a`, and the talk `b` or, where that
+/// is None, the end. There is none where both members stand behind the same choices of others.
 ///
 /// The work is linear in the nodes and their arms. The error is want of memory.
 pub fn parting(

@@ -1,14 +1,14 @@
 //! The first parting, told by flags of the nodes.
-ghost use Rattle.std.specs.Prelude.{◌≡◌, ◌<◌, ◌≤◌, ◌^◌, ◌&&◌, ◌==◌, not, false, None, length, slice_index_or, if◌then◌else◌};
+ghost use Rattle.std.specs.Prelude.{◌≡◌, ◌<◌, ◌≤◌, ◌^◌, ◌&&◌, not, false, None, length, slice_index_or, if◌then◌else◌};
 ghost use Rattle.std.specs.List.{All};
-ghost use Rattle.rs_partings.specs.Searching.{other_arm, parting_by, parting_of_arms, parting_of_nodes};
+ghost use Rattle.rs_partings.specs.Searching.{arm_toward, parting_by, parting_of_arms, parting_of_nodes};
 ghost use Rattle.rs_project.specs.Marks.{LeadsWithin, arms_of_node};
 ghost use Rattle.rs_wellformed.specs.WellFormed.{IsWellFormed};
 
 use rs_model::{Arm, Node, Protocol};
 
 /// The choice at which the ways part to two members of a front: the number of a talk that doesn't involve the role, and the
-/// places of two of its arms. One leads toward the first member, the other toward the second one.
+/// places of two of its arms. One leads toward the first member and not toward the second, the other toward the second.
 #[derive(Clone, Copy, Debug, PartialEq, Eq)]
 pub struct Parting {
     pub talk: u32,
@@ -75,7 +75,7 @@ fn arms_parting(talk: u32, arms: &[Arm], ones: &[bool], others: &[bool]) -> Opti
     None
 }
 
-// The parting at this arm and the first other one.
+// The parting at this arm, which leads to a node flagged for the one way alone, and the first one for the other way.
 fn arm_parting(
     talk: u32,
     arms: &[Arm],
@@ -87,13 +87,14 @@ fn arm_parting(
     requires few { length arms.now ≤ 32 }
     requires place { one < length arms.now }
     requires arm { arm.now.next < length ones.now }
+    requires also { arm.now.next < length others.now }
     requires others { All (λ a. a.next < length others.now) arms.now }
     ensures { result ≡ parting_by ones.now others.now talk arms.now one arm.now }
 {
-    if !ones[arm.next as usize] {
+    if !ones[arm.next as usize] || others[arm.next as usize] {
         return None;
     }
-    let other = other_arm(arms, one, others)?;
+    let other = arm_toward(arms, others)?;
     Some(Parting {
         talk,
         one: one as u32,
@@ -101,23 +102,16 @@ fn arm_parting(
     })
 }
 
-// The place of the first other arm that leads to a flagged node.
-fn other_arm(arms: &[Arm], one: usize, flags: &[bool]) -> Option<u32>
+// The place of the first arm that leads to a flagged node.
+fn arm_toward(arms: &[Arm], flags: &[bool]) -> Option<u32>
     requires few { length arms.now ≤ 32 }
     requires flags { All (λ a. a.next < length flags.now) arms.now }
-    ensures { result ≡ other_arm flags.now one 0 arms.now }
+    ensures { result ≡ arm_toward flags.now 0 arms.now }
 {
     for place in 0..arms.len() {
-        if is_other(place, one, &arms[place], flags) {
+        if flags[arms[place].next as usize] {
             return Some(place as u32);
         }
     }
     None
-}
-
-fn is_other(place: usize, one: usize, arm: &Arm, flags: &[bool]) -> bool
-    requires { arm.now.next < length flags.now }
-    ensures { result ≡ (not (place == one) && slice_index_or flags.now arm.now.next false) }
-{
-    place != one && flags[arm.next as usize]
 }

@@ -1,4 +1,6 @@
+pub mod Hopeless
 pub mod Joins
+pub mod LeastBound
 pub mod Marking
 pub mod OneExplanation
 pub mod OneUnderivable

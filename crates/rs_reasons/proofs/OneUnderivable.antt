@@ -1,17 +1,20 @@
 -- One is told of a machine of which no derivation is found.
-use Rattle.std.proofs.Common.{◌≡◌, ◌++◌, ◌∙◌, ℕ, List, Bool, true, false, sym, ap}
+use Rattle.std.proofs.Common.{◌≡◌, ◌≢◌, ◌++◌, ◌∙◌, ℕ, List, Bool, true, false, sym, ap, subst}
 use Rattle.rs_explain.proofs.Existing.{one_cut_walk, one_explanation}
 use Rattle.rs_explain.proofs.Forgetful.{one_forgetting}
 use Rattle.rs_explain.specs.Explanations.{Explanation_data, IsExplanation}
+use Rattle.rs_explain.specs.Forgetting.{Forgetting_data, IsForgetting}
 use Rattle.rs_explain.specs.Walks.{WalkStep_data}
 use Rattle.rs_explain.specs.declared.explaining.Ending.TheVariants.{Cut}
 use Rattle.rs_model.specs.declared.limits.TheConstants.{MOST_BOUND}
 use Rattle.rs_search.proofs.Determined.{not_both_ways}
 use Rattle.rs_search.proofs.Determined as searched
+use Rattle.rs_derive.specs.Data.{Derivation_data}
+use Rattle.rs_search.specs.Canonical.{IsCanonical, IsForgets, SearchRefuses}
 use Rattle.rs_search.specs.declared.faults.SearchFault.{SearchFault}
 use Rattle.rs_search.specs.declared.faults.SearchFault.TheVariants as search
 use Rattle.rs_walk_texts.specs.Data.{WalkSource_data}
-use Rattle.rs_reasons.specs.Underivable.{GreatestHelps, GreatestRefuses, NoneHelps, TellsForgets, TellsNotFound, TellsUnderivable, helped_line, hopeless_line, is_hopeless, refusing_line, round_text, way_text}
+use Rattle.rs_reasons.specs.Underivable.{GreatestForgets, GreatestHelps, GreatestRefuses, NoneHelps, TellsForgets, TellsNotFound, TellsUnderivable, helped_line, hopeless_line, is_forgetting, is_hopeless, refusing_line, round_text, way_text}
 
 -- one explanation is hopeless or isn't
 both : (source : WalkSource_data) (bound : ℕ) (cut : Bool) (e f : Explanation_data) → IsExplanation source.machine source.projection.machine bound e
@@ -21,27 +24,62 @@ both source bound cut e f h k x y =
     let bad : true ≡ false = sym x ∙ ap (is_hopeless source cut) same ∙ y in
     cc bad
 
+-- a fault doesn't forget and forget
+not_both : (source : WalkSource_data) (fault : SearchFault) (node : ℕ) → fault ≢ search.NoMemory → is_forgetting fault ≡ false
+    → SearchRefuses source.machine source.projection.machine MOST_BOUND fault → IsForgets source.machine source.projection.machine MOST_BOUND node → ⊥
+not_both source fault node n calm r f =
+    let same : fault ≡ search.Forgets node = searched.one_refusal source.machine source.projection.machine MOST_BOUND fault (search.Forgets node) n (λ e. cc e) r f in
+    let bad : false ≡ true = sym calm ∙ ap is_forgetting same in
+    cc bad
+
+-- a derivation is found, or forgets
+helps_or_forgets : (source : WalkSource_data) (d : Derivation_data) (node : ℕ) → IsCanonical source.machine source.projection.machine MOST_BOUND d
+    → IsForgets source.machine source.projection.machine MOST_BOUND node → ⊥
+helps_or_forgets source d node c f =
+    let bad : search.Forgets node ≡ search.NoMemory = not_both_ways source.machine source.projection.machine MOST_BOUND d (search.Forgets node) c f in
+    cc bad
+
+-- the greatest bound has one way round
+one_round : (source : WalkSource_data) (node other : ℕ) (f g : Forgetting_data) → IsForgets source.machine source.projection.machine MOST_BOUND node
+    → IsForgets source.machine source.projection.machine MOST_BOUND other → IsForgetting source.machine source.projection.machine MOST_BOUND node f
+    → IsForgetting source.machine source.projection.machine MOST_BOUND other g → f ≡ g
+one_round source node other f g a b h k =
+    let same : search.Forgets node ≡ search.Forgets other =
+    searched.one_refusal source.machine source.projection.machine MOST_BOUND (search.Forgets node) (search.Forgets other) (λ e. cc e) (λ e. cc e) a b in
+    let number : node ≡ other = cc (same) in
+    one_forgetting source.machine source.projection.machine MOST_BOUND other f g
+    (subst (λ (z : ℕ). IsForgetting source.machine source.projection.machine MOST_BOUND z f) number h) k
+
 one_not_found : (source : WalkSource_data) (bound : ℕ) (cut : Bool) (lines others : List ℕ) → TellsNotFound source bound cut lines → TellsNotFound source bound cut others → lines ≡ others
 one_not_found source bound cut lines others (NoneHelps e h x p) (NoneHelps f k y q) =
     p ∙ ap (λ (z : Explanation_data). way_text source bound z.steps z.ending ++ hopeless_line) (one_explanation source.machine source.projection.machine bound e f h k) ∙ sym q
-one_not_found source bound cut lines others (NoneHelps e h x p) (GreatestRefuses f k y fault n r q) = absurd (both source bound cut e f h k x y)
+one_not_found source bound cut lines others (NoneHelps e h x p) (GreatestRefuses f k y fault n calm r q) = absurd (both source bound cut e f h k x y)
 one_not_found source bound cut lines others (NoneHelps e h x p) (GreatestHelps f k y d c steps w q) = absurd (both source bound cut e f h k x y)
-one_not_found source bound cut lines others (GreatestRefuses e h x fault n r p) (NoneHelps f k y q) = absurd (both source bound cut f e k h y x)
-one_not_found source bound cut lines others (GreatestRefuses e h x fault n r p) (GreatestRefuses f k y other m s q) =
-    p ∙ ap (λ (z : Explanation_data). way_text source bound z.steps z.ending ++ refusing_line fault) (one_explanation source.machine source.projection.machine bound e f h k)
-    ∙ ap (λ (z : SearchFault). way_text source bound f.steps f.ending ++ refusing_line z) (searched.one_refusal source.machine source.projection.machine MOST_BOUND fault other n m r s) ∙ sym q
-one_not_found source bound cut lines others (GreatestRefuses e h x fault n r p) (GreatestHelps f k y d c steps w q) =
+one_not_found source bound cut lines others (GreatestRefuses e h x fault n calm r p) (NoneHelps f k y q) = absurd (both source bound cut f e k h y x)
+one_not_found source bound cut lines others (GreatestRefuses e h x fault n calm r p) (GreatestRefuses f k y other m still s q) =
+    p ∙ ap (λ (z : Explanation_data). way_text source bound z.steps z.ending ++ refusing_line source fault) (one_explanation source.machine source.projection.machine bound e f h k)
+    ∙ ap (λ (z : SearchFault). way_text source bound f.steps f.ending ++ refusing_line source z) (searched.one_refusal source.machine source.projection.machine MOST_BOUND fault other n m r s) ∙ sym q
+one_not_found source bound cut lines others (GreatestRefuses e h x fault n calm r p) (GreatestHelps f k y d c steps w q) =
     absurd (n (not_both_ways source.machine source.projection.machine MOST_BOUND d fault c r))
 one_not_found source bound cut lines others (GreatestHelps e h x d c steps w p) (NoneHelps f k y q) = absurd (both source bound cut f e k h y x)
-one_not_found source bound cut lines others (GreatestHelps e h x d c steps w p) (GreatestRefuses f k y fault n r q) =
+one_not_found source bound cut lines others (GreatestHelps e h x d c steps w p) (GreatestRefuses f k y fault n calm r q) =
     absurd (n (not_both_ways source.machine source.projection.machine MOST_BOUND d fault c r))
 one_not_found source bound cut lines others (GreatestHelps e h x d c steps w p) (GreatestHelps f k y g b ways v q) =
-    p ∙ ap (λ (z : List WalkStep_data). way_text source bound z Cut ++ helped_line) (one_cut_walk source.machine source.projection.machine bound steps ways w v) ∙ sym q
+    p ∙ ap (λ (z : List WalkStep_data). way_text source bound z Cut ++ helped_line source d) (one_cut_walk source.machine source.projection.machine bound steps ways w v)
+    ∙ ap (λ (z : Derivation_data). way_text source bound ways Cut ++ helped_line source z) (searched.one_answer source.machine source.projection.machine MOST_BOUND d g c b) ∙ sym q
+one_not_found source bound cut lines others (NoneHelps e h x p) (GreatestForgets f k y node r g w q) = absurd (both source bound cut e f h k x y)
+one_not_found source bound cut lines others (GreatestForgets e h x node r g w p) (NoneHelps f k y q) = absurd (both source bound cut f e k h y x)
+one_not_found source bound cut lines others (GreatestForgets e h x node r g w p) (GreatestRefuses f k y fault n calm s q) = absurd (not_both source fault node n calm s r)
+one_not_found source bound cut lines others (GreatestRefuses e h x fault n calm s p) (GreatestForgets f k y node r g w q) = absurd (not_both source fault node n calm s r)
+one_not_found source bound cut lines others (GreatestForgets e h x node r g w p) (GreatestHelps f k y d c steps v q) = absurd (helps_or_forgets source d node c r)
+one_not_found source bound cut lines others (GreatestHelps e h x d c steps v p) (GreatestForgets f k y node r g w q) = absurd (helps_or_forgets source d node c r)
+one_not_found source bound cut lines others (GreatestForgets e h x node r g w p) (GreatestForgets f k y other s j v q) =
+    p ∙ ap (λ (z : Forgetting_data). round_text source z ++ hopeless_line) (one_round source node other g j r s w v) ∙ sym q
 
 one_forgets : (source : WalkSource_data) (bound node : ℕ) (lines others : List ℕ) → TellsForgets source bound node lines → TellsForgets source bound node others → lines ≡ others
 one_forgets source bound node lines others h k =
     h.text
-    ∙ ap (round_text source) (one_forgetting source.machine source.projection.machine bound node h.forgetting k.forgetting h.is_forgetting k.is_forgetting) ∙ sym k.text
+    ∙ ap (λ (z : Forgetting_data). round_text source z ++ hopeless_line) (one_forgetting source.machine source.projection.machine bound node h.forgetting k.forgetting h.is_forgetting k.is_forgetting) ∙ sym k.text
 
 pub one_underivable : (source : WalkSource_data) (bound : ℕ) (fault : SearchFault) (lines others : List ℕ) → TellsUnderivable source bound fault lines → TellsUnderivable source bound fault others
     → lines ≡ others

@@ -1,5 +1,5 @@
 -- Something is told of each machine of which no derivation is found.
-use Rattle.std.proofs.Common.{◌≡◌, ◌++◌, ℕ, List, [], Bool, true, false, refl, inl, inr, arith}
+use Rattle.std.proofs.Common.{◌≡◌, ◌≢◌, ◌++◌, ℕ, List, [], Bool, true, false, refl, inl, inr, arith}
 use Rattle.std.proofs.lemmas.Bool.Decides.{leb_tells}
 use Rattle.rs_derive.specs.Data.{Derivation_data}
 use Rattle.rs_derive.specs.Derivations.{IsProper}
@@ -14,7 +14,7 @@ use Rattle.rs_search.specs.Canonical.{IsCanonical, IsNotFound, SearchRefuses}
 use Rattle.rs_search.specs.declared.faults.SearchFault.{SearchFault}
 use Rattle.rs_search.specs.declared.faults.SearchFault.TheVariants as search
 use Rattle.rs_walk_texts.specs.Data.{WalkSource_data}
-use Rattle.rs_reasons.specs.Underivable.{GreatestHelps, GreatestRefuses, NoneHelps, TellsNotFound, TellsUnderivable, helped_line, hopeless_line, is_hopeless, refusing_line, round_text, way_text}
+use Rattle.rs_reasons.specs.Underivable.{GreatestForgets, GreatestHelps, GreatestRefuses, NoneHelps, TellsNotFound, TellsUnderivable, helped_line, hopeless_line, is_hopeless, refusing_line, round_text, way_text}
 
 -- where the search finds a derivation within the greatest bound and none within this one, the greatest helps
 pub greatest_helps : (source : WalkSource_data) (bound : ℕ) (e : Explanation_data) (d : Derivation_data) → IsProper source.machine → IsProper source.projection.machine
@@ -35,13 +35,24 @@ some_not_found source bound cut ours theirs h = by (is_hopeless source cut e.0) 
     e : (e : Explanation_data) × IsExplanation source.machine source.projection.machine bound e
     e = some_explanation source.machine source.projection.machine bound cut ours theirs h
 
+    refused : is_hopeless source cut e.0 ≡ false → (fault : SearchFault) → fault ≢ search.NoMemory → SearchRefuses source.machine source.projection.machine MOST_BOUND fault
+        → (lines : List ℕ) × TellsNotFound source bound cut lines
+    refused k (search.NotFound c) n r =
+        (way_text source bound e.0.steps e.0.ending ++ refusing_line source (search.NotFound c), GreatestRefuses e.0 e.1 k (search.NotFound c) n refl r refl)
+    refused k (search.Forgets node) n r =
+        let f = some_forgetting source.machine source.projection.machine MOST_BOUND node r in
+        (round_text source f.0 ++ hopeless_line, GreatestForgets e.0 e.1 k node r f.0 f.1 refl)
+    refused k search.TooLarge n r =
+        (way_text source bound e.0.steps e.0.ending ++ refusing_line source search.TooLarge, GreatestRefuses e.0 e.1 k search.TooLarge n refl r refl)
+    refused k search.NoMemory n r = absurd (n refl)
+
     by : (b : Bool) → is_hopeless source cut e.0 ≡ b → (lines : List ℕ) × TellsNotFound source bound cut lines
     by true k = (way_text source bound e.0.steps e.0.ending ++ hopeless_line, NoneHelps e.0 e.1 k refl)
     by false k = elim (searching.decided source.machine source.projection.machine MOST_BOUND ours theirs) [
       | inl d ↦ (
           let walk = cut_from_start source.machine source.projection.machine bound cut h (greatest_helps source bound e.0 d.0 ours theirs e.1 d.1) in
-          (way_text source bound walk.0 Cut ++ helped_line, GreatestHelps e.0 e.1 k d.0 d.1 walk.0 walk.1 refl))
-      | inr f ↦ (way_text source bound e.0.steps e.0.ending ++ refusing_line f.0, GreatestRefuses e.0 e.1 k f.0 f.1 f.2 refl)
+          (way_text source bound walk.0 Cut ++ helped_line source d.0, GreatestHelps e.0 e.1 k d.0 d.1 walk.0 walk.1 refl))
+      | inr f ↦ refused k f.0 f.1 f.2
     ]
 
 pub some_underivable : (source : WalkSource_data) (bound : ℕ) (fault : SearchFault) → IsProper source.machine → IsProper source.projection.machine
@@ -49,6 +60,6 @@ pub some_underivable : (source : WalkSource_data) (bound : ℕ) (fault : SearchF
 some_underivable source bound (search.NotFound cut) ours theirs h = some_not_found source bound cut ours theirs h
 some_underivable source bound (search.Forgets node) ours theirs h =
     let f = some_forgetting source.machine source.projection.machine bound node h in
-    (round_text source f.0, record { forgetting = f.0; is_forgetting = f.1; text = refl })
+    (round_text source f.0 ++ hopeless_line, record { forgetting = f.0; is_forgetting = f.1; text = refl })
 some_underivable source bound search.TooLarge ours theirs h = ([], refl)
 some_underivable source bound search.NoMemory ours theirs h = ([], refl)

@@ -1,5 +1,5 @@
 -- Public: what is told of a machine of which no derivation is found.
-use Rattle.std.specs.Prelude.{◌≡◌, ◌≢◌, ℕ, List, [], ◌++◌, codes, Bool, true, false, not, ◌&&◌, ◌||◌, slice_get}
+use Rattle.std.specs.Prelude.{◌≡◌, ◌≢◌, ℕ, List, [], ◌++◌, codes, Bool, true, false, not, ◌&&◌, ◌||◌, slice_get, Option, Some, None}
 use Rattle.std.specs.Fmt.{decimal}
 use Rattle.rs_derive.specs.Data.{Derivation_data}
 use Rattle.rs_explain.specs.Explanations.{Explanation_data, IsExplanation}
@@ -10,14 +10,17 @@ use Rattle.rs_explain.specs.declared.explaining.Ending.{Ending}
 use Rattle.rs_explain.specs.declared.explaining.Ending.TheVariants.{Blocked, Cut}
 use Rattle.rs_model.specs.Data.{Names_data}
 use Rattle.rs_model.specs.declared.machines.Act.{Act}
+use Rattle.rs_model.specs.declared.machines.Act.TheVariants as act
 use Rattle.rs_model.specs.declared.limits.TheConstants.{MOST_BOUND}
 use Rattle.rs_search.specs.Candidates.{start_spot}
-use Rattle.rs_search.specs.Canonical.{IsCanonical, SearchRefuses}
+use Rattle.rs_safety.specs.Room.{longest}
+use Rattle.rs_search.specs.Canonical.{IsCanonical, IsForgets, SearchRefuses}
 use Rattle.rs_search.specs.declared.faults.SearchFault.{SearchFault}
 use Rattle.rs_search.specs.declared.faults.SearchFault.TheVariants as search
 use Rattle.rs_text.specs.NamePlaces.{name_at}
 use Rattle.rs_walk_texts.specs.Data.{WalkSource_data}
-use Rattle.rs_walk_texts.specs.Heads.{maybe_act_text, owed_line}
+use Rattle.rs_walk_texts.specs.Dues.{act_dues}
+use Rattle.rs_walk_texts.specs.Heads.{act_text, owed_line}
 use Rattle.rs_walk_texts.specs.Stops.{stop_text}
 use Rattle.rs_walk_texts.specs.Walks.{steps_text, walk_text}
 
@@ -39,21 +42,47 @@ is_hopeless source cut e = not cut || (is_blocked e.ending && is_forced source.m
 abbrev pub hopeless_line : List ℕ
 hopeless_line = codes "no bound helps\n"
 
--- what the search within the greatest bound comes to, a line
-abbrev pub within_line : List ℕ → List ℕ
-within_line what = codes "within " ++ decimal MOST_BOUND ++ codes " acts: " ++ what ++ codes "\n"
+-- what comes of that bound, a line
+abbrev pub with_bound_line : ℕ → List ℕ → List ℕ
+with_bound_line bound what = codes "with --bound " ++ decimal bound ++ codes " " ++ what ++ codes "\n"
 
--- the last line, where the search within the greatest bound finds one
-abbrev pub helped_line : List ℕ
-helped_line = within_line (codes "found")
+-- the last line, where the search within the greatest bound finds this derivation: the most acts that one of its nodes owes
+-- are the least bound with which the role's machine is accepted
+abbrev pub helped_line : WalkSource_data → Derivation_data → List ℕ
+helped_line source d = with_bound_line (longest d) (name_at source.names.roles source.machine.role.0 ++ codes " is accepted")
 
--- the last line, where the search within the greatest bound finds none either
-abbrev pub refusing_line : SearchFault → List ℕ
-refusing_line (search.NotFound false) = hopeless_line
-refusing_line (search.NotFound true) = within_line (codes "not found, cut yes")
-refusing_line (search.Forgets node) = within_line (codes "forgets at node " ++ decimal node)
-refusing_line search.TooLarge = within_line (codes "too large: candidates")
-refusing_line search.NoMemory = []
+-- the last line, where the search within the greatest bound finds none either and forgets nothing
+abbrev pub refusing_line : WalkSource_data → SearchFault → List ℕ
+refusing_line source (search.NotFound false) = hopeless_line
+refusing_line source (search.NotFound true) = with_bound_line MOST_BOUND (name_at source.names.roles source.machine.role.0 ++ codes " isn't accepted either")
+refusing_line source (search.Forgets node) = []
+refusing_line source search.TooLarge = with_bound_line MOST_BOUND (codes "there are too many candidates")
+refusing_line source search.NoMemory = []
+
+-- the fault says that the derivation forgets an act
+abbrev pub is_forgetting : SearchFault → Bool
+is_forgetting (search.Forgets node) = true
+is_forgetting _ = false
+
+-- what isn't done with the message of an act
+abbrev pub undone : Act → List ℕ
+undone (act.Puts peer label sort) = codes " isn't sent while it goes round"
+undone (act.Takes peer label sort) = codes " isn't received while it goes round"
+
+-- the act, and that it isn't done, where there is one
+abbrev pub never_text : Names_data → Option Act → List ℕ
+never_text names None = []
+never_text names (Some a) = act_text names a ++ undone a
+
+-- `why: Q?x(sort) isn't received while it goes round`, a line: of the oldest act that is owed
+abbrev pub never_line : Names_data → List Act → List ℕ
+never_line names pending = codes "why: " ++ never_text names (slice_get pending 0) ++ codes "\n"
+
+-- a way round from a spot, what is owed there, what isn't done on it, and the talks that may stand behind that
+abbrev pub round_text : WalkSource_data → Forgetting_data → List ℕ
+round_text source f =
+    name_at source.names.roles source.machine.role.0 ++ codes ", round and round:\n" ++ steps_text source f.spot f.steps ++ owed_line source.names f.spot.pending
+    ++ never_line source.names f.spot.pending ++ act_dues source (slice_get f.spot.pending 0)
 
 -- the search finds none within the bound
 pub data TellsNotFound (source : WalkSource_data) (bound : ℕ) (cut : Bool) (lines : List ℕ) : Type 0 where
@@ -62,29 +91,24 @@ pub data TellsNotFound (source : WalkSource_data) (bound : ℕ) (cut : Bool) (li
       → lines ≡ way_text source bound e.steps e.ending ++ hopeless_line → TellsNotFound source bound cut lines
   -- it finds none within the greatest bound either: a way leads to where the machine can't go on
   GreatestRefuses : (e : Explanation_data) → IsExplanation source.machine source.projection.machine bound e → is_hopeless source cut e ≡ false
-      → (fault : SearchFault) → fault ≢ search.NoMemory → SearchRefuses source.machine source.projection.machine MOST_BOUND fault
-      → lines ≡ way_text source bound e.steps e.ending ++ refusing_line fault → TellsNotFound source bound cut lines
+      → (fault : SearchFault) → fault ≢ search.NoMemory → is_forgetting fault ≡ false → SearchRefuses source.machine source.projection.machine MOST_BOUND fault
+      → lines ≡ way_text source bound e.steps e.ending ++ refusing_line source fault → TellsNotFound source bound cut lines
+  -- what it finds within the greatest bound forgets an act, as then each derivation does: no bound helps, and a way leads round
+  GreatestForgets : (e : Explanation_data) → IsExplanation source.machine source.projection.machine bound e → is_hopeless source cut e ≡ false
+      → (node : ℕ) → IsForgets source.machine source.projection.machine MOST_BOUND node
+      → (f : Forgetting_data) → IsForgetting source.machine source.projection.machine MOST_BOUND node f
+      → lines ≡ round_text source f ++ hopeless_line → TellsNotFound source bound cut lines
   -- it finds one within the greatest bound: a way leads to where that is needed
   GreatestHelps : (e : Explanation_data) → IsExplanation source.machine source.projection.machine bound e → is_hopeless source cut e ≡ false
       → (d : Derivation_data) → IsCanonical source.machine source.projection.machine MOST_BOUND d
       → (steps : List WalkStep_data) → IsFirstCutWalk source.machine source.projection.machine bound (start_spot source.machine source.projection.machine) steps
-      → lines ≡ way_text source bound steps Cut ++ helped_line → TellsNotFound source bound cut lines
-
--- `why: Q!x(sort) is never done`, a line: of the oldest act that is owed
-abbrev pub never_line : Names_data → List Act → List ℕ
-never_line names pending = codes "why: " ++ maybe_act_text names (slice_get pending 0) ++ codes " is never done\n"
-
--- a way round from a spot, what is owed there, and what is never done
-abbrev pub round_text : WalkSource_data → Forgetting_data → List ℕ
-round_text source f =
-    name_at source.names.roles source.machine.role.0 ++ codes ", round and round:\n" ++ steps_text source f.spot f.steps ++ owed_line source.names f.spot.pending
-    ++ never_line source.names f.spot.pending
+      → lines ≡ way_text source bound steps Cut ++ helped_line source d → TellsNotFound source bound cut lines
 
 -- the derivation that the search finds forgets an act: a way leads round on which it stays owed
 pub record TellsForgets (source : WalkSource_data) (bound node : ℕ) (lines : List ℕ) : Type 0 where
   pub forgetting : Forgetting_data
   pub is_forgetting : IsForgetting source.machine source.projection.machine bound node forgetting
-  pub text : lines ≡ round_text source forgetting
+  pub text : lines ≡ round_text source forgetting ++ hopeless_line
 
 -- what is told, by the reason; of too many candidates nothing more
 abbrev pub TellsUnderivable : WalkSource_data → ℕ → SearchFault → List ℕ → Type 0

@@ -1,5 +1,5 @@
 -- Public: what is told of a protocol that has no projection onto a role.
-use Rattle.std.specs.Prelude.{◌≡◌, ℕ, List, [], ◌++◌, codes, slice_get, Option, Some, None}
+use Rattle.std.specs.Prelude.{◌≡◌, ℕ, List, [], ◌++◌, codes, ◌==◌, if◌then◌else◌, slice_get, Option, Some, None}
 use Rattle.std.specs.List.{flat_map}
 use Rattle.rs_model.specs.Data.{Names_data, Protocol_data}
 use Rattle.rs_model.specs.declared.graph.Arm.{Arm}
@@ -19,15 +19,59 @@ use Rattle.rs_walk_texts.specs.Heads.{placed_talk_text}
 abbrev pub talk_item : Names_data → Protocol_data → List Position → ℕ → List ℕ
 talk_item names protocol talks node = codes "- " ++ placed_talk_text names protocol.nodes talks node ++ codes "\n"
 
--- the line of a member of a front: a talk, or the end
-abbrev pub member_item : Names_data → Protocol_data → List Position → Option ℕ → List ℕ
-member_item names protocol talks (Some node) = talk_item names protocol talks node
-member_item names protocol talks None = codes "- the end\n"
+-- `- nothing more for P`, a line
+abbrev pub nothing_item : Names_data → Role → List ℕ
+nothing_item names role = codes "- nothing more for " ++ name_at names.roles role.0 ++ codes "\n"
 
--- the two members that the role can't tell apart, a line each
+-- the line of a member of a front: a talk, or the end, from which on there is no talk of the role
+abbrev pub member_item : Names_data → Protocol_data → List Position → Role → Option ℕ → List ℕ
+member_item names protocol talks role (Some node) = talk_item names protocol talks node
+member_item names protocol talks role None = nothing_item names role
+
+-- the role sends in both talks, to these receivers
+abbrev pub sends_apart : Names_data → Role → Role → Role → List ℕ
+sends_apart names role one other =
+    if one.0 == other.0 then name_at names.roles role.0 ++ codes " would send other messages to " ++ name_at names.roles one.0 ++ codes " in the one case than in the other"
+    else name_at names.roles role.0 ++ codes " would send to " ++ name_at names.roles one.0 ++ codes " in the one case and to " ++ name_at names.roles other.0 ++ codes " in the other"
+
+-- a message of the sender has one sort in one of two talks and another one in the other
+abbrev pub two_sorts : Names_data → Role → List ℕ
+two_sorts names sender = codes "a message that comes from " ++ name_at names.roles sender.0 ++ codes " in both cases has two sorts"
+
+-- the role receives from two senders
+abbrev pub two_senders : Names_data → Role → Role → Role → List ℕ
+two_senders names role one other =
+    name_at names.roles role.0 ++ codes " would wait for " ++ name_at names.roles one.0 ++ codes " in the one case and for " ++ name_at names.roles other.0 ++ codes " in the other"
+
+-- the role receives in both talks, from these senders
+abbrev pub waits_apart : Names_data → Role → Role → Role → List ℕ
+waits_apart names role one other = if one.0 == other.0 then two_sorts names one else two_senders names role one other
+
+-- the role sends in one of two talks and receives in the other
+abbrev pub turns_apart : Names_data → Role → List ℕ
+turns_apart names role = name_at names.roles role.0 ++ codes " would send in the one case and wait in the other"
+
+-- why the role, which takes part in both talks, can't do the one as the other
+abbrev pub talks_apart : Names_data → Role → Option Node → Option Node → List ℕ
+talks_apart names role (Some (Talk s r arms)) (Some (Talk t q theirs)) =
+    if s.0 == role.0 then (if t.0 == role.0 then sends_apart names role r q else turns_apart names role)
+    else if t.0 == role.0 then turns_apart names role else waits_apart names role s t
+talks_apart names role _ _ = []
+
+-- why the role can't do the one member as the other
+abbrev pub members_apart : Names_data → Protocol_data → Role → ℕ → Option ℕ → List ℕ
+members_apart names protocol role a (Some b) = talks_apart names role (slice_get protocol.nodes a) (slice_get protocol.nodes b)
+members_apart names protocol role a None = name_at names.roles role.0 ++ codes " takes part in the one case and has nothing more to do in the other"
+
+-- `why: REASON`, a line
+abbrev pub apart_line : Names_data → Protocol_data → Role → ℕ → Option ℕ → List ℕ
+apart_line names protocol role a b = codes "why: " ++ members_apart names protocol role a b ++ codes "\n"
+
+-- the two members that the role can't tell apart, a line each, and why not
 abbrev pub clash_lines : Names_data → Protocol_data → List Position → Role → ℕ → Option ℕ → List ℕ
 clash_lines names protocol talks role a b =
-    name_at names.roles role.0 ++ codes " can't tell which comes next:\n" ++ talk_item names protocol talks a ++ member_item names protocol talks b
+    name_at names.roles role.0 ++ codes " can't tell which comes next:\n" ++ talk_item names protocol talks a ++ member_item names protocol talks role b
+    ++ apart_line names protocol role a b
 
 -- the label of the arm at the place, where there is one
 abbrev pub arm_label : Names_data → Option Arm → List ℕ

@@ -1,25 +1,28 @@
 //! What is told of a machine of which no derivation is found.
 
-ghost use Rattle.std.specs.Prelude.{◌≡◌, ◌≤◌, ◌++◌, false, slice_get, IfOk, OnOk};
-ghost use Rattle.rs_derive.specs.Data.{Derivation_data};
+ghost use Rattle.std.specs.Prelude.{◌≡◌, ◌≤◌, ◌++◌, codes, false, true, slice_get, IfOk, OnOk};
+ghost use Rattle.std.specs.Fmt.{decimal};
 ghost use Rattle.rs_derive.specs.Derivations.{IsProper};
 ghost use Rattle.rs_explain.specs.Explanations.{IsExplanation};
 ghost use Rattle.rs_explain.specs.Walks.{end_of};
 ghost use Rattle.rs_model.specs.declared.limits.TheConstants.{MOST_BOUND};
 ghost use Rattle.rs_search.specs.Canonical.{IsCanonical, IsForgets, IsNotFound, SearchRefuses};
+ghost use Rattle.rs_text.specs.NamePlaces.{name_at};
 ghost use Rattle.rs_walk_texts.specs.Stops.{stop_text};
 ghost use Rattle.rs_reasons.specs.Underivable as spec;
 
+use rs_derive::Derivation;
 use rs_explain::{
     Ending, Explanation, Forgetting, WalkStep, explain, explain_cut, explain_forgets, is_forced,
 };
 use rs_model::{Act, MOST_BOUND, Names, NoMemory};
 use rs_prefix::Pending;
+use rs_safety::figures_of;
 use rs_search::{SearchFault, search};
 use rs_text::Text;
 use rs_text::shown::push_name;
 use rs_walk_texts::{
-    SpotRef, WalkSource, push_maybe_act, push_owed_line, push_steps, push_stop, push_walk,
+    SpotRef, WalkSource, push_act, push_dues, push_owed_line, push_steps, push_stop, push_walk,
 };
 use std::alloc::Global;
 
@@ -73,37 +76,62 @@ fn push_way(
     push_end(text, source, &start, steps, ending, bound)
 }
 
-// What the search within the greatest bound comes to, a line.
-fn push_within(text: &mut Text, what: &[u8]) -> Result<(), NoMemory>
-    ensures { OnOk result (text.new ≡ text.old ++ spec.within_line what.now) }
+// The name of the machine's role.
+fn push_own_name(text: &mut Text, source: &WalkSource) -> Result<(), NoMemory>
+    ensures { OnOk result (text.new ≡ text.old ++ name_at source.now.names.roles source.now.machine.role.0) }
 {
-    text.push(b"within ")?;
-    text.push_number(MOST_BOUND as u64)?;
-    text.push(b" acts: ")?;
-    text.push(what)?;
+    let names = source.names;
+    let machine = source.machine;
+    push_name(text, names.roles.as_slice(), usize::from(machine.role.0))
+}
+
+// The first words of a line of what comes of a bound.
+fn push_with_bound(text: &mut Text, bound: u8) -> Result<(), NoMemory>
+    ensures { OnOk result (text.new ≡ text.old ++ (codes "with --bound " ++ decimal bound ++ codes " ")) }
+{
+    text.push(b"with --bound ")?;
+    text.push_number(u64::from(bound))?;
+    text.push(b" ")
+}
+
+// That the role's machine is accepted with this bound, a line.
+fn push_accepted(text: &mut Text, source: &WalkSource, bound: u8) -> Result<(), NoMemory>
+    ensures { OnOk result (text.new ≡ text.old ++ spec.with_bound_line bound (name_at source.now.names.roles source.now.machine.role.0 ++ codes " is accepted")) }
+{
+    push_with_bound(text, bound)?;
+    push_own_name(text, source)?;
+    text.push(b" is accepted")?;
     text.push(b"\n")
 }
 
-// That a derivation of the greatest bound forgets an act at the node, a line.
-fn push_forgets(alloc: Global, text: &mut Text, node: u32) -> Result<(), NoMemory>
-    ensures { OnOk result (text.new ≡ text.old ++ spec.refusing_line (SearchFault.Forgets node)) }
+// That the role's machine isn't accepted with the greatest bound either, a line.
+fn push_refused(text: &mut Text, source: &WalkSource) -> Result<(), NoMemory>
+    ensures { OnOk result (text.new ≡ text.old ++ spec.refusing_line source.now (SearchFault.NotFound true)) }
 {
-    let mut what = Text::new(alloc);
-    what.push(b"forgets at node ")?;
-    what.push_number(u64::from(node))?;
-    push_within(text, what.as_slice())
+    push_with_bound(text, MOST_BOUND as u8)?;
+    push_own_name(text, source)?;
+    text.push(b" isn't accepted either")?;
+    text.push(b"\n")
 }
 
-// The last line, where the search within the greatest bound finds none either.
-fn push_refusing(alloc: Global, text: &mut Text, fault: SearchFault) -> Result<(), NoMemory>
-    ensures { OnOk result (text.new ≡ text.old ++ spec.refusing_line fault) }
+// That there are too many candidates with the greatest bound, a line.
+fn push_too_large(text: &mut Text, source: &WalkSource) -> Result<(), NoMemory>
+    ensures { OnOk result (text.new ≡ text.old ++ spec.refusing_line source.now SearchFault.TooLarge) }
+{
+    push_with_bound(text, MOST_BOUND as u8)?;
+    text.push(b"there are too many candidates")?;
+    text.push(b"\n")
+}
+
+// The last line, where the search within the greatest bound finds none either and forgets nothing.
+fn push_refusing(text: &mut Text, source: &WalkSource, fault: SearchFault) -> Result<(), NoMemory>
+    ensures { OnOk result (text.new ≡ text.old ++ spec.refusing_line source.now fault) }
 {
     match fault {
         SearchFault::NotFound { cut: false } => text.push(b"no bound helps\n"),
-        SearchFault::NotFound { cut: true } => push_within(text, b"not found, cut yes"),
-        SearchFault::Forgets { node } => push_forgets(alloc, text, node),
-        SearchFault::TooLarge => push_within(text, b"too large: candidates"),
-        SearchFault::NoMemory => Ok(()),
+        SearchFault::NotFound { cut: true } => push_refused(text, source),
+        SearchFault::TooLarge => push_too_large(text, source),
+        SearchFault::Forgets { .. } | SearchFault::NoMemory => Ok(()),
     }
 }
 
@@ -158,7 +186,7 @@ fn refusing_text(
     explanation: &Explanation,
     fault: SearchFault,
 ) -> Result<Text, NoMemory>
-    ensures { IfOk result (λ text. text ≡ spec.way_text source.now bound explanation.now.steps explanation.now.ending ++ spec.refusing_line fault) }
+    ensures { IfOk result (λ text. text ≡ spec.way_text source.now bound explanation.now.steps explanation.now.ending ++ spec.refusing_line source.now fault) }
 {
     let mut text = Text::new(alloc);
     push_way(
@@ -169,22 +197,23 @@ fn refusing_text(
         explanation.steps.as_slice(),
         explanation.ending,
     )?;
-    push_refusing(alloc, &mut text, fault)?;
+    push_refusing(&mut text, source, fault)?;
     Ok(text)
 }
 
-// What is told where the search within the greatest bound finds a derivation.
+// What is told where the search within the greatest bound finds a derivation, for which this bound is enough.
 fn helped_text(
     alloc: Global,
     source: &WalkSource,
     bound: u8,
     steps: &[WalkStep],
+    enough: u8,
 ) -> Result<Text, NoMemory>
-    ensures { IfOk result (λ text. text ≡ spec.way_text source.now bound steps.now Ending.Cut ++ spec.helped_line) }
+    ensures { IfOk result (λ text. text ≡ spec.way_text source.now bound steps.now Ending.Cut ++ spec.with_bound_line enough (name_at source.now.names.roles source.now.machine.role.0 ++ codes " is accepted")) }
 {
     let mut text = Text::new(alloc);
     push_way(alloc, &mut text, source, bound, steps, Ending::Cut)?;
-    push_within(&mut text, b"found")?;
+    push_accepted(&mut text, source, enough)?;
     Ok(text)
 }
 
@@ -195,6 +224,7 @@ fn greatest_helps_text(
     bound: u8,
     cut: bool,
     explanation: &Explanation,
+    derivation: &Derivation,
 ) -> Result<Text, NoMemory>
     requires ours { IsProper source.now.machine }
     requires theirs { IsProper source.now.projection.machine }
@@ -202,12 +232,35 @@ fn greatest_helps_text(
     requires within { bound ≤ MOST_BOUND }
     requires explained { IsExplanation source.now.machine source.now.projection.machine bound explanation.now }
     requires hopeful { spec.is_hopeless source.now cut explanation.now ≡ false }
-    requires found { (d : Derivation_data) × IsCanonical source.now.machine source.now.projection.machine MOST_BOUND d }
+    requires found { IsCanonical source.now.machine source.now.projection.machine MOST_BOUND derivation.now }
     ensures { IfOk result (spec.TellsNotFound source.now bound cut) }
 {
     let projection = source.projection;
     let steps = explain_cut(alloc, source.machine, &projection.machine, bound)?;
-    helped_text(alloc, source, bound, steps.as_slice())
+    let figures = figures_of(derivation);
+    helped_text(alloc, source, bound, steps.as_slice(), figures.owed)
+}
+
+// What is told where the derivation within the greatest bound forgets an act.
+fn greatest_forgets_text(
+    alloc: Global,
+    source: &WalkSource,
+    bound: u8,
+    cut: bool,
+    explanation: &Explanation,
+    node: u32,
+) -> Result<Text, NoMemory>
+    requires ours { IsProper source.now.machine }
+    requires theirs { IsProper source.now.projection.machine }
+    requires explained { IsExplanation source.now.machine source.now.projection.machine bound explanation.now }
+    requires hopeful { spec.is_hopeless source.now cut explanation.now ≡ false }
+    requires forgets { IsForgets source.now.machine source.now.projection.machine MOST_BOUND node }
+    ensures { IfOk result (spec.TellsNotFound source.now bound cut) }
+{
+    let projection = source.projection;
+    let most = MOST_BOUND as u8;
+    let forgetting = explain_forgets(alloc, source.machine, &projection.machine, most, node)?;
+    round_text(alloc, source, &forgetting)
 }
 
 // What is told where the search within the greatest bound finds none either.
@@ -219,15 +272,21 @@ fn greatest_refuses_text(
     explanation: &Explanation,
     fault: SearchFault,
 ) -> Result<Text, NoMemory>
+    requires ours { IsProper source.now.machine }
+    requires theirs { IsProper source.now.projection.machine }
     requires explained { IsExplanation source.now.machine source.now.projection.machine bound explanation.now }
     requires hopeful { spec.is_hopeless source.now cut explanation.now ≡ false }
     requires refused { SearchRefuses source.now.machine source.now.projection.machine MOST_BOUND fault }
     ensures { IfOk result (spec.TellsNotFound source.now bound cut) }
 {
-    if let SearchFault::NoMemory = fault {
-        return Err(NoMemory);
+    match fault {
+        SearchFault::NoMemory => Err(NoMemory),
+        SearchFault::Forgets { node } => {
+            greatest_forgets_text(alloc, source, bound, cut, explanation, node)
+        }
+        SearchFault::NotFound { .. } => { refusing_text(alloc, source, bound, explanation, fault) }
+        SearchFault::TooLarge => refusing_text(alloc, source, bound, explanation, fault),
     }
-    refusing_text(alloc, source, bound, explanation, fault)
 }
 
 // What is told where a greater bound may help.
@@ -248,7 +307,9 @@ fn with_greatest_text(
 {
     let projection = source.projection;
     match search(alloc, source.machine, &projection.machine, MOST_BOUND as u8) {
-        Ok(_) => greatest_helps_text(alloc, source, bound, cut, explanation),
+        Ok(derivation) => {
+            greatest_helps_text(alloc, source, bound, cut, explanation, &derivation)
+        }
         Err(fault) => greatest_refuses_text(alloc, source, bound, cut, explanation, fault),
     }
 }
@@ -281,16 +342,37 @@ fn oldest(pending: &[Act]) -> Option<Act>
     pending.first().copied()
 }
 
-// What is never done: the oldest act that is owed.
+// What isn't done with the message of an act.
+fn push_how(text: &mut Text, act: Act) -> Result<(), NoMemory>
+    ensures { OnOk result (text.new ≡ text.old ++ spec.undone act) }
+{
+    match act {
+        Act::Puts { .. } => text.push(b" isn't sent while it goes round"),
+        Act::Takes { .. } => text.push(b" isn't received while it goes round"),
+    }
+}
+
+// The act, and that it isn't done.
+fn push_undone(text: &mut Text, names: &Names, act: Option<Act>) -> Result<(), NoMemory>
+    ensures { OnOk result (text.new ≡ text.old ++ spec.never_text names.now act) }
+{
+    let Some(act) = act else {
+        return Ok(());
+    };
+    push_act(text, names, act)?;
+    push_how(text, act)
+}
+
+// What isn't done on a way round: the oldest act that is owed.
 fn push_never(text: &mut Text, names: &Names, pending: &[Act]) -> Result<(), NoMemory>
     ensures { OnOk result (text.new ≡ text.old ++ spec.never_line names.now pending.now) }
 {
     text.push(b"why: ")?;
-    push_maybe_act(text, names, oldest(pending))?;
-    text.push(b" is never done\n")
+    push_undone(text, names, oldest(pending))?;
+    text.push(b"\n")
 }
 
-// A way round from a spot, what is owed there, and what is never done.
+// A way round from a spot, what is owed there, what isn't done on it, and the talks that may stand behind that.
 fn push_round(text: &mut Text, source: &WalkSource, forgetting: &Forgetting) -> Result<(), NoMemory>
     ensures { OnOk result (text.new ≡ text.old ++ spec.round_text source.now forgetting.now) }
 {
@@ -305,7 +387,18 @@ fn push_round(text: &mut Text, source: &WalkSource, forgetting: &Forgetting) -> 
     text.push(b", round and round:\n")?;
     push_steps(text, source, &first, forgetting.steps.as_slice())?;
     push_owed_line(text, names, forgetting.pending.as_slice())?;
-    push_never(text, names, forgetting.pending.as_slice())
+    push_never(text, names, forgetting.pending.as_slice())?;
+    push_dues(text, source, oldest(forgetting.pending.as_slice()))
+}
+
+// A way round, and that no bound helps.
+fn round_text(alloc: Global, source: &WalkSource, forgetting: &Forgetting) -> Result<Text, NoMemory>
+    ensures { IfOk result (λ text. text ≡ spec.round_text source.now forgetting.now ++ spec.hopeless_line) }
+{
+    let mut text = Text::new(alloc);
+    push_round(&mut text, source, forgetting)?;
+    text.push(b"no bound helps\n")?;
+    Ok(text)
 }
 
 // What is told where the derivation that the search finds forgets an act.
@@ -317,9 +410,7 @@ fn forgets_text(alloc: Global, source: &WalkSource, bound: u8, node: u32) -> Res
 {
     let projection = source.projection;
     let forgetting = explain_forgets(alloc, source.machine, &projection.machine, bound, node)?;
-    let mut text = Text::new(alloc);
-    push_round(&mut text, source, &forgetting)?;
-    Ok(text)
+    round_text(alloc, source, &forgetting)
 }
 
 /// What is told of a machine of which the search finds no derivation within the bound, by the reason. Refused memory is

@@ -1,8 +1,9 @@
 //! What is told of a protocol that has no projection onto a role.
 
-ghost use Rattle.std.specs.Prelude.{◌≡◌, ◌++◌, ◌<◌, ◌^◌, IfOk, OnOk, length, slice_get};
+ghost use Rattle.std.specs.Prelude.{◌≡◌, ◌++◌, ◌<◌, ◌^◌, IfOk, OnOk, Some, length, slice_get};
 ghost use Rattle.std.specs.List.{flat_map};
 ghost use Rattle.rs_reasons.specs.Unprojectable as spec;
+ghost use Rattle.rs_text.specs.NamePlaces.{name_at};
 ghost use Rattle.rs_wellformed.specs.WellFormed.{IsWellFormed};
 
 use rs_model::{Arm, Names, NoMemory, Node, Protocol, Role};
@@ -35,17 +36,205 @@ fn push_member_item(
     names: &Names,
     protocol: &Protocol,
     talks: &[Position],
+    role: Role,
     member: Option<u32>,
 ) -> Result<(), NoMemory>
-    ensures { OnOk result (text.new ≡ text.old ++ spec.member_item names.now protocol.now talks.now member) }
+    ensures { OnOk result (text.new ≡ text.old ++ spec.member_item names.now protocol.now talks.now role member) }
 {
     match member {
         Some(node) => push_talk_item(text, names, protocol, talks, node),
-        None => text.push(b"- the end\n"),
+        None => push_nothing_item(text, names, role),
     }
 }
 
-// The lines of the two members that the role can't tell apart.
+// That there is nothing more for the role, a line.
+fn push_nothing_item(text: &mut Text, names: &Names, role: Role) -> Result<(), NoMemory>
+    ensures { OnOk result (text.new ≡ text.old ++ spec.nothing_item names.now role) }
+{
+    text.push(b"- nothing more for ")?;
+    push_role(text, names, role)?;
+    text.push(b"\n")
+}
+
+// The name of the role.
+fn push_role(text: &mut Text, names: &Names, role: Role) -> Result<(), NoMemory>
+    ensures { OnOk result (text.new ≡ text.old ++ name_at names.now.roles role.0) }
+{
+    push_name(text, names.roles.as_slice(), usize::from(role.0))
+}
+
+// The role sends in both talks, to these receivers.
+fn push_sends_apart(
+    text: &mut Text,
+    names: &Names,
+    role: Role,
+    one: Role,
+    other: Role,
+) -> Result<(), NoMemory>
+    ensures { OnOk result (text.new ≡ text.old ++ spec.sends_apart names.now role one other) }
+{
+    push_role(text, names, role)?;
+    if one.0 == other.0 {
+        text.push(b" would send other messages to ")?;
+        push_role(text, names, one)?;
+        text.push(b" in the one case than in the other")
+    } else {
+        text.push(b" would send to ")?;
+        push_role(text, names, one)?;
+        text.push(b" in the one case and to ")?;
+        push_role(text, names, other)?;
+        text.push(b" in the other")
+    }
+}
+
+// A message of the sender has two sorts.
+fn push_two_sorts(text: &mut Text, names: &Names, sender: Role) -> Result<(), NoMemory>
+    ensures { OnOk result (text.new ≡ text.old ++ spec.two_sorts names.now sender) }
+{
+    text.push(b"a message that comes from ")?;
+    push_role(text, names, sender)?;
+    text.push(b" in both cases has two sorts")
+}
+
+// The role receives from two senders.
+fn push_two_senders(
+    text: &mut Text,
+    names: &Names,
+    role: Role,
+    one: Role,
+    other: Role,
+) -> Result<(), NoMemory>
+    ensures { OnOk result (text.new ≡ text.old ++ spec.two_senders names.now role one other) }
+{
+    push_role(text, names, role)?;
+    text.push(b" would wait for ")?;
+    push_role(text, names, one)?;
+    text.push(b" in the one case and for ")?;
+    push_role(text, names, other)?;
+    text.push(b" in the other")
+}
+
+// The role receives in both talks, from these senders.
+fn push_waits_apart(
+    text: &mut Text,
+    names: &Names,
+    role: Role,
+    one: Role,
+    other: Role,
+) -> Result<(), NoMemory>
+    ensures { OnOk result (text.new ≡ text.old ++ spec.waits_apart names.now role one other) }
+{
+    if one.0 == other.0 {
+        push_two_sorts(text, names, one)
+    } else {
+        push_two_senders(text, names, role, one, other)
+    }
+}
+
+// The role sends in one of two talks and receives in the other.
+fn push_turns_apart(text: &mut Text, names: &Names, role: Role) -> Result<(), NoMemory>
+    ensures { OnOk result (text.new ≡ text.old ++ spec.turns_apart names.now role) }
+{
+    push_role(text, names, role)?;
+    text.push(b" would send in the one case and wait in the other")
+}
+
+// Why the role, which takes part in both talks, can't do the one as the other.
+fn push_talks_apart(
+    text: &mut Text,
+    names: &Names,
+    role: Role,
+    one: &Node,
+    other: &Node,
+) -> Result<(), NoMemory>
+    ensures { OnOk result (text.new ≡ text.old ++ spec.talks_apart names.now role (Some one.now) (Some other.now)) }
+{
+    let Node::Talk {
+        sender,
+        receiver,
+        ..
+    } = one
+    else {
+        return Ok(());
+    };
+    let Node::Talk {
+        sender: sender_there,
+        receiver: receiver_there,
+        ..
+    } = other
+    else {
+        return Ok(());
+    };
+    if sender.0 == role.0 {
+        if sender_there.0 == role.0 {
+            push_sends_apart(text, names, role, *receiver, *receiver_there)
+        } else {
+            push_turns_apart(text, names, role)
+        }
+    } else if sender_there.0 == role.0 {
+        push_turns_apart(text, names, role)
+    } else {
+        push_waits_apart(text, names, role, *sender, *sender_there)
+    }
+}
+
+// The same of the talks with these numbers.
+fn push_nodes_apart(
+    text: &mut Text,
+    names: &Names,
+    nodes: &[Node],
+    role: Role,
+    a: u32,
+    b: u32,
+) -> Result<(), NoMemory>
+    ensures { OnOk result (text.new ≡ text.old ++ spec.talks_apart names.now role (slice_get nodes.now a) (slice_get nodes.now b)) }
+{
+    let Some(one) = nodes.get(a as usize) else {
+        return Ok(());
+    };
+    let Some(other) = nodes.get(b as usize) else {
+        return Ok(());
+    };
+    push_talks_apart(text, names, role, one, other)
+}
+
+// Why the role can't do the one member as the other.
+fn push_members_apart(
+    text: &mut Text,
+    names: &Names,
+    protocol: &Protocol,
+    role: Role,
+    a: u32,
+    b: Option<u32>,
+) -> Result<(), NoMemory>
+    ensures { OnOk result (text.new ≡ text.old ++ spec.members_apart names.now protocol.now role a b) }
+{
+    match b {
+        Some(b) => push_nodes_apart(text, names, &protocol.nodes, role, a, b),
+        None => {
+            push_role(text, names, role)?;
+            text.push(b" takes part in the one case and has nothing more to do in the other")
+        }
+    }
+}
+
+// The same, as a line.
+fn push_apart_line(
+    text: &mut Text,
+    names: &Names,
+    protocol: &Protocol,
+    role: Role,
+    a: u32,
+    b: Option<u32>,
+) -> Result<(), NoMemory>
+    ensures { OnOk result (text.new ≡ text.old ++ spec.apart_line names.now protocol.now role a b) }
+{
+    text.push(b"why: ")?;
+    push_members_apart(text, names, protocol, role, a, b)?;
+    text.push(b"\n")
+}
+
+// The lines of the two members that the role can't tell apart, and why not.
 fn push_clash(
     text: &mut Text,
     names: &Names,
@@ -57,10 +246,11 @@ fn push_clash(
 ) -> Result<(), NoMemory>
     ensures { OnOk result (text.new ≡ text.old ++ spec.clash_lines names.now protocol.now talks.now role a b) }
 {
-    push_name(text, names.roles.as_slice(), usize::from(role.0))?;
+    push_role(text, names, role)?;
     text.push(b" can't tell which comes next:\n")?;
     push_talk_item(text, names, protocol, talks, a)?;
-    push_member_item(text, names, protocol, talks, b)
+    push_member_item(text, names, protocol, talks, role, b)?;
+    push_apart_line(text, names, protocol, role, a, b)
 }
 
 // The label of the arm at the place.

@@ -13,6 +13,7 @@ use Rattle.rs_model.specs.declared.machines.Act.TheVariants as act
 use Rattle.rs_model.specs.declared.machines.State.{State}
 use Rattle.rs_model.specs.declared.machines.State.TheVariants.{Done, Puts, Takes}
 use Rattle.rs_model.specs.declared.values.Sort.{Sort}
+use Rattle.rs_model.specs.declared.values.Sort.TheVariants as sort
 use Rattle.rs_places.specs.declared.places.Position.{Position}
 use Rattle.rs_text.specs.NamePlaces.{name_at}
 use Rattle.rs_text.specs.Shown.{shown_sort, shown_text}
@@ -47,6 +48,32 @@ message_text names label sort = name_at names.labels label.0 ++ codes "(" ++ sho
 abbrev pub act_text : Names_data → Act → List ℕ
 act_text names (act.Puts peer label sort) = name_at names.roles peer.0 ++ codes "!" ++ message_text names label sort
 act_text names (act.Takes peer label sort) = name_at names.roles peer.0 ++ codes "?" ++ message_text names label sort
+
+-- the name of a sort; the unit carries nothing
+abbrev pub sort_name : Sort → List ℕ
+sort_name sort.Unit = codes "nothing"
+sort_name s = shown_text (shown_sort s)
+
+-- `Q!x` or `Q?x`: an act without its sort
+abbrev pub bare_text : Names_data → Act → List ℕ
+bare_text names (act.Puts peer label sort) = name_at names.roles peer.0 ++ codes "!" ++ name_at names.labels label.0
+bare_text names (act.Takes peer label sort) = name_at names.roles peer.0 ++ codes "?" ++ name_at names.labels label.0
+
+-- the same, where there is an act
+abbrev pub maybe_bare_text : Names_data → Option Act → List ℕ
+maybe_bare_text names None = []
+maybe_bare_text names (Some a) = bare_text names a
+
+-- the name of an act's sort, where there is an act
+abbrev pub act_sort_name : Option Act → List ℕ
+act_sort_name None = []
+act_sort_name (Some (act.Puts peer label sort)) = sort_name sort
+act_sort_name (Some (act.Takes peer label sort)) = sort_name sort
+
+-- the name of an arm's sort, where there is an arm
+abbrev pub arm_sort_name : Option Arm → List ℕ
+arm_sort_name None = []
+arm_sort_name (Some a) = sort_name a.sort
 
 -- an act, where there is one
 abbrev pub maybe_act_text : Names_data → Option Act → List ℕ

@@ -4,4 +4,6 @@ pub mod Passed
 pub mod Walks
 pub mod Nearness
 pub mod Alike
+pub mod Elsewhere
+pub mod Dues
 pub mod Stops

@@ -7,6 +7,7 @@ use Rattle.rs_model.specs.declared.graph.Label.{Label}
 use Rattle.rs_model.specs.declared.graph.Node.{Node}
 use Rattle.rs_model.specs.declared.graph.Node.TheVariants.{Talk}
 use Rattle.rs_model.specs.declared.graph.Role.{Role}
+use Rattle.rs_text.specs.NamePlaces.{name_at}
 use Rattle.rs_walk_texts.specs.Data.{WalkSource_data}
 use Rattle.rs_walk_texts.specs.Heads.{at_text, placed_talk_text, talk_by_text, with_commas}
 use Rattle.rs_walk_texts.specs.declared.passed.TalkArm.{TalkArm}
@@ -34,11 +35,23 @@ abbrev pub talk_arm_text : WalkSource_data → Option TalkArm → List ℕ
 talk_arm_text source None = []
 talk_arm_text source (Some t) = talk_by_text source.names t.sender t.receiver t.arm ++ at_text (slice_get source.talks t.number)
 
+-- the first talk for which the projection's state stands and that has the label
+abbrev pub passed_talk : WalkSource_data → ℕ → Label → Option TalkArm
+passed_talk source above label = first_talk source.protocol.nodes label (talks_of source above)
+
 -- an act of the projection at its state, by the first talk for which the state stands and that has the act's label
 abbrev pub passed_text : WalkSource_data → ℕ → Label → List ℕ
-passed_text source above label = talk_arm_text source (first_talk source.protocol.nodes label (talks_of source above))
+passed_text source above label = talk_arm_text source (passed_talk source above label)
 
--- these talks, each with its position; where there is none the protocol has come to its end
+-- the name of the machine's role
+abbrev pub own_name : WalkSource_data → List ℕ
+own_name source = name_at source.names.roles source.machine.role.0
+
+-- the protocol has no talk of the role from there on
+abbrev pub nothing_more : WalkSource_data → List ℕ
+nothing_more source = codes "nothing more for " ++ own_name source
+
+-- these talks, each with its position, or that there is none
 abbrev pub talks_text : WalkSource_data → List ℕ → List ℕ
-talks_text source [] = codes "the end"
+talks_text source [] = nothing_more source
 talks_text source (n ∷ later) = with_commas (placed_talk_text source.names source.protocol.nodes source.talks) (n ∷ later)

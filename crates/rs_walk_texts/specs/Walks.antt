@@ -1,10 +1,11 @@
 -- Public: how a walk of a machine beside its projection is told: a line for each step.
-use Rattle.std.specs.Prelude.{ℕ, List, [], ◌∷◌, ◌++◌, codes, slice_get, Option, Some, None}
+use Rattle.std.specs.Prelude.{ℕ, List, [], ◌∷◌, ◌++◌, codes, length, nat_lt, if◌then◌else◌, slice_get, Option, Some, None}
 use Rattle.rs_derive.specs.Moves.{Spot}
 use Rattle.rs_derive.specs.Rules.{arms_of, rule_at}
 use Rattle.rs_derive.specs.declared.rules.Rule.{Rule}
 use Rattle.rs_derive.specs.declared.rules.Rule.TheVariants.{Pays, SendsBoth, Guesses, Follows}
 use Rattle.rs_explain.specs.Walks.{WalkStep_data}
+use Rattle.rs_model.specs.Data.{Names_data}
 use Rattle.rs_model.specs.declared.graph.Arm.{Arm}
 use Rattle.rs_model.specs.declared.machines.Act.{Act}
 use Rattle.rs_model.specs.declared.machines.State.{State}
@@ -12,7 +13,8 @@ use Rattle.rs_search.specs.Candidates.{start_spot}
 use Rattle.rs_text.specs.NamePlaces.{name_at}
 use Rattle.rs_walk_texts.specs.Data.{WalkSource_data}
 use Rattle.rs_walk_texts.specs.Heads.{act_by, at_text, maybe_act_text}
-use Rattle.rs_walk_texts.specs.Passed.{passed_text}
+use Rattle.rs_walk_texts.specs.Passed.{passed_talk, passed_text}
+use Rattle.rs_walk_texts.specs.declared.passed.TalkArm.{TalkArm}
 
 -- ---- what stands at a spot
 
@@ -49,10 +51,18 @@ abbrev pub both_text : WalkSource_data → Spot → Option Arm → List ℕ
 both_text source p None = []
 both_text source p (Some a) = own_text source p (Some a) ++ codes ", as " ++ passed_text source p.above a.label
 
+-- `due: `; of a choice between several arms `due, if P picks x: `, where P sends the talk
+abbrev pub due_head : Names_data → ℕ → Option TalkArm → List ℕ
+due_head names count None = codes "due: "
+due_head names count (Some t) =
+    if nat_lt count 2 then codes "due: "
+    else codes "due, if " ++ name_at names.roles t.sender.0 ++ codes " picks " ++ name_at names.labels t.arm.label.0 ++ codes ": "
+
 -- the machine passes the act of the projection by that arm, and owes it from there on
 abbrev pub due_text : WalkSource_data → Spot → Option Arm → List ℕ
 due_text source p None = []
-due_text source p (Some b) = codes "due: " ++ passed_text source p.above b.label
+due_text source p (Some b) =
+    due_head source.names (length (arms_of (above_at source p))) (passed_talk source p.above b.label) ++ passed_text source p.above b.label
 
 -- what is done at the spot by the rule that applies there, by the arm at the place
 abbrev pub deed_text : WalkSource_data → Spot → ℕ → Option Rule → List ℕ

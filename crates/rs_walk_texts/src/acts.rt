@@ -51,6 +51,70 @@ pub fn push_act(text: &mut Text, names: &Names, act: Act) -> Result<(), NoMemory
     }
 }
 
+// The name of a sort; the unit carries nothing.
+fn push_sort_name(text: &mut Text, sort: Sort) -> Result<(), NoMemory>
+    ensures { OnOk result (text.new ≡ text.old ++ spec.sort_name sort) }
+{
+    match sort {
+        Sort::Unit => text.push(b"nothing"),
+        Sort::Flag | Sort::Natural | Sort::Whole | Sort::Octets | Sort::Numbers => {
+            push_sort(text, sort)
+        }
+    }
+}
+
+// `Q!x` or `Q?x`
+fn push_bare(text: &mut Text, names: &Names, act: Act) -> Result<(), NoMemory>
+    ensures { OnOk result (text.new ≡ text.old ++ spec.bare_text names.now act) }
+{
+    match act {
+        Act::Puts { peer, label, .. } => {
+            push_role(text, names, peer)?;
+            text.push(b"!")?;
+            push_label(text, names, label)
+        }
+        Act::Takes { peer, label, .. } => {
+            push_role(text, names, peer)?;
+            text.push(b"?")?;
+            push_label(text, names, label)
+        }
+    }
+}
+
+/// Writes an act without its sort, as `Q!x`, and nothing where there is none.
+pub(crate) fn push_maybe_bare(
+    text: &mut Text,
+    names: &Names,
+    act: Option<Act>,
+) -> Result<(), NoMemory>
+    ensures { OnOk result (text.new ≡ text.old ++ spec.maybe_bare_text names.now act) }
+{
+    match act {
+        Some(act) => push_bare(text, names, act),
+        None => Ok(()),
+    }
+}
+
+/// Writes the name of an act's sort, and nothing where there is no act.
+pub(crate) fn push_act_sort(text: &mut Text, act: Option<Act>) -> Result<(), NoMemory>
+    ensures { OnOk result (text.new ≡ text.old ++ spec.act_sort_name act) }
+{
+    match act {
+        Some(Act::Puts { sort, .. } | Act::Takes { sort, .. }) => push_sort_name(text, sort),
+        None => Ok(()),
+    }
+}
+
+/// Writes the name of an arm's sort, and nothing where there is no arm.
+pub(crate) fn push_arm_sort(text: &mut Text, arm: Option<Arm>) -> Result<(), NoMemory>
+    ensures { OnOk result (text.new ≡ text.old ++ spec.arm_sort_name arm) }
+{
+    match arm {
+        Some(arm) => push_sort_name(text, arm.sort),
+        None => Ok(()),
+    }
+}
+
 /// Writes an act, and nothing where there is none. Refused memory is the only error.
 pub fn push_maybe_act(text: &mut Text, names: &Names, act: Option<Act>) -> Result<(), NoMemory>
     ensures { OnOk result (text.new ≡ text.old ++ spec.maybe_act_text names.now act) }

@@ -117,8 +117,8 @@ fn nearest_sent(source: &WalkSource, spot: &SpotRef, place: usize) -> Option<Lab
     }
 }
 
-// The label of an act.
-fn label_of(act: Act) -> Label
+/// The label of an act.
+pub(crate) fn label_of(act: Act) -> Label
     ensures { result ≡ spec.label_of act }
 {
     match act {
@@ -149,8 +149,8 @@ fn nearest_of_own(names: &Names, arms: &[Arm], theirs: Label) -> Option<LabelPai
     None
 }
 
-// The arms of the machine at the spot.
-fn own_arms<'a>(source: &WalkSource<'a>, spot: &SpotRef) -> &'a [Arm]
+/// The arms of the machine at the spot.
+pub(crate) fn own_arms<'a>(source: &WalkSource<'a>, spot: &SpotRef) -> &'a [Arm]
     ensures { result.now ≡ arms_of (state_at source.now spot.now) }
 {
     let machine = source.machine;

@@ -3,6 +3,8 @@
 
 mod acts;
 mod alike;
+mod dues;
+mod elsewhere;
 mod heads;
 mod nearness;
 mod passed;
@@ -13,6 +15,7 @@ mod talks;
 mod walks;
 
 pub use acts::{push_act, push_acts, push_maybe_act, push_owed_line};
+pub use dues::push_dues;
 pub use heads::{act_by, push_head, push_placed_head};
 pub use nearness::is_near;
 pub use positions::{push_at, push_position};

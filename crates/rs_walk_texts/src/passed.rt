@@ -5,7 +5,8 @@ ghost use Rattle.std.specs.List.{flat_map};
 ghost use Rattle.rs_walk_texts.specs.Heads.{behind_comma, placed_talk_text};
 ghost use Rattle.rs_walk_texts.specs.Passed as spec;
 
-use crate::positions::{position_of, push_at};
+use crate::acts::push_role;
+use crate::positions::{position_at, push_at};
 use crate::sources::WalkSource;
 use crate::talks::{push_placed_talk, push_talk_by};
 use rs_derive::arm_of;
@@ -15,7 +16,7 @@ use rs_text::Text;
 /// A talk by one of its arms, and the number of its node.
 #[derive(Clone, Copy, Debug)]
 pub(crate) struct TalkArm {
-    pub number: u32,
+    pub number: usize,
     pub sender: Role,
     pub receiver: Role,
     pub arm: Arm,
@@ -32,8 +33,8 @@ pub(crate) fn talks_of<'a>(source: &WalkSource<'a>, above: u32) -> &'a [u32]
     }
 }
 
-// What stands at the node by its arm with the label, where it is a talk that has one.
-fn talk_with(number: u32, label: Label, node: &Node) -> Option<TalkArm>
+/// What stands at the node by its arm with the label, where it is a talk that has one.
+pub(crate) fn talk_with(number: usize, label: Label, node: &Node) -> Option<TalkArm>
     ensures { result ≡ spec.talk_with number label (Some node.now) }
 {
     match node {
@@ -58,7 +59,7 @@ fn talk_at(nodes: &[Node], label: Label, number: u32) -> Option<TalkArm>
     ensures { result ≡ spec.talk_with number label (slice_get nodes.now number) }
 {
     match nodes.get(number as usize) {
-        Some(node) => talk_with(number, label, node),
+        Some(node) => talk_with(number as usize, label, node),
         None => None,
     }
 }
@@ -76,7 +77,8 @@ fn first_talk(nodes: &[Node], label: Label, numbers: &[u32]) -> Option<TalkArm>
     None
 }
 
-fn push_talk_arm(
+/// Writes the talk as `A->B:x(sort) at L:C`, by its arm, and nothing where there is none.
+pub(crate) fn push_talk_arm(
     text: &mut Text,
     source: &WalkSource,
     talk: Option<TalkArm>,
@@ -87,7 +89,15 @@ fn push_talk_arm(
         return Ok(());
     };
     push_talk_by(text, source.names, talk.sender, talk.receiver, talk.arm)?;
-    push_at(text, position_of(source.talks, talk.number))
+    push_at(text, position_at(source.talks, talk.number))
+}
+
+/// The first talk for which the projection's state stands and that has the label, by its arm with the label.
+pub(crate) fn passed_talk(source: &WalkSource, above: u32, label: Label) -> Option<TalkArm>
+    ensures { result ≡ spec.passed_talk source.now above label }
+{
+    let protocol = source.protocol;
+    first_talk(&protocol.nodes, label, talks_of(source, above))
 }
 
 /// Writes an act of the projection at its state as `A->B:x(sort) at L:C`, by the first talk for which the state stands and
@@ -100,12 +110,10 @@ pub(crate) fn push_passed(
 ) -> Result<(), NoMemory>
     ensures { OnOk result (text.new ≡ text.old ++ spec.passed_text source.now above label) }
 {
-    let protocol = source.protocol;
-    let talk = first_talk(&protocol.nodes, label, talks_of(source, above));
-    push_talk_arm(text, source, talk)
+    push_talk_arm(text, source, passed_talk(source, above, label))
 }
 
-/// Writes these talks, each with its position, or that the protocol has come to its end.
+/// Writes these talks, each with its position, or that the protocol has nothing more for the role.
 pub(crate) fn push_talks(
     text: &mut Text,
     source: &WalkSource,
@@ -114,12 +122,27 @@ pub(crate) fn push_talks(
     ensures { OnOk result (text.new ≡ text.old ++ spec.talks_text source.now numbers.now) }
 {
     match numbers {
-        [] => text.push(b"the end"),
+        [] => push_nothing_more(text, source),
         [first, later @ ..] => {
             push_talk_of_walk(text, source, *first)?;
             push_later_talks(text, source, later)
         }
     }
+}
+
+/// Writes the name of the machine's role.
+pub(crate) fn push_own_name(text: &mut Text, source: &WalkSource) -> Result<(), NoMemory>
+    ensures { OnOk result (text.new ≡ text.old ++ spec.own_name source.now) }
+{
+    let machine = source.machine;
+    push_role(text, source.names, machine.role)
+}
+
+fn push_nothing_more(text: &mut Text, source: &WalkSource) -> Result<(), NoMemory>
+    ensures { OnOk result (text.new ≡ text.old ++ spec.nothing_more source.now) }
+{
+    text.push(b"nothing more for ")?;
+    push_own_name(text, source)
 }
 
 fn push_talk_of_walk(text: &mut Text, source: &WalkSource, number: u32) -> Result<(), NoMemory>

@@ -27,6 +27,13 @@ pub fn push_at(text: &mut Text, position: Option<Position>) -> Result<(), NoMemo
     push_position(text, position)
 }
 
+/// The position at the place.
+pub(crate) fn position_at(positions: &[Position], place: usize) -> Option<Position>
+    ensures { result ≡ slice_get positions.now place }
+{
+    positions.get(place).copied()
+}
+
 /// The position with that number.
 pub(crate) fn position_of(positions: &[Position], number: u32) -> Option<Position>
     ensures { result ≡ slice_get positions.now number }

@@ -9,8 +9,13 @@ use rs_model::{Arm, Names, NoMemory, Node, Role};
 use rs_places::Position;
 use rs_text::Text;
 
-// `A->B`
-fn push_way(text: &mut Text, names: &Names, sender: Role, receiver: Role) -> Result<(), NoMemory>
+/// Writes `A->B`.
+pub(crate) fn push_way(
+    text: &mut Text,
+    names: &Names,
+    sender: Role,
+    receiver: Role,
+) -> Result<(), NoMemory>
     ensures { OnOk result (text.new ≡ text.old ++ spec.way_text names.now sender receiver) }
 {
     push_role(text, names, sender)?;

@@ -1,17 +1,17 @@
 //! How a walk of a machine beside its projection is told: a line for each step.
 
-ghost use Rattle.std.specs.Prelude.{◌≡◌, ◌++◌, OnOk, slice_get};
+ghost use Rattle.std.specs.Prelude.{◌≡◌, ◌++◌, OnOk, Some, length, slice_get};
 ghost use Rattle.rs_derive.specs.Rules.{arms_of};
 ghost use Rattle.rs_walk_texts.specs.Walks as spec;
 
-use crate::acts::{push_maybe_act, push_role};
+use crate::acts::{push_label, push_maybe_act, push_role};
 use crate::heads::act_by;
-use crate::passed::push_passed;
+use crate::passed::{TalkArm, passed_talk, push_passed};
 use crate::positions::{position_of, push_at};
 use crate::sources::{SpotRef, WalkSource};
 use rs_derive::{Rule, arms_at, rule_at};
 use rs_explain::WalkStep;
-use rs_model::{Act, Arm, NoMemory, State};
+use rs_model::{Act, Arm, Names, NoMemory, State};
 use rs_prefix::Pending;
 use rs_text::Text;
 use std::alloc::Global;
@@ -70,6 +70,42 @@ fn push_both(
     push_passed(text, source, spot.above, arm.label)
 }
 
+// What leads to a talk that is passed, of a choice between so many arms.
+fn push_due_head(
+    text: &mut Text,
+    names: &Names,
+    count: usize,
+    talk: Option<TalkArm>,
+) -> Result<(), NoMemory>
+    ensures { OnOk result (text.new ≡ text.old ++ spec.due_head names.now count talk) }
+{
+    match talk {
+        Some(talk) if count >= 2 => push_picked(text, names, talk),
+        _ => text.push(b"due: "),
+    }
+}
+
+fn push_picked(text: &mut Text, names: &Names, talk: TalkArm) -> Result<(), NoMemory>
+    ensures { OnOk result (text.new ≡ text.old ++ spec.due_head names.now 2 (Some talk)) }
+{
+    text.push(b"due, if ")?;
+    push_role(text, names, talk.sender)?;
+    text.push(b" picks ")?;
+    push_label(text, names, talk.arm.label)?;
+    text.push(b": ")
+}
+
+// How many arms the projection's state has.
+fn arms_above(source: &WalkSource, spot: &SpotRef) -> usize
+    ensures { result ≡ length (arms_of (spec.above_at source.now spot.now)) }
+{
+    let projection = source.projection;
+    match projection.machine.states.get(spot.above as usize) {
+        Some(state) => arms_at(state).len(),
+        None => 0,
+    }
+}
+
 // The machine passes the act of the projection by that arm.
 fn push_due(
     text: &mut Text,
@@ -82,7 +118,8 @@ fn push_due(
     let Some(arm) = arm else {
         return Ok(());
     };
-    text.push(b"due: ")?;
+    let talk = passed_talk(source, spot.above, arm.label);
+    push_due_head(text, source.names, arms_above(source, spot), talk)?;
     push_passed(text, source, spot.above, arm.label)
 }
 

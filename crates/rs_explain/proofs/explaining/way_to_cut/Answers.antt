@@ -6,17 +6,17 @@ use Rattle.rs_explain.proofs.explaining.way_to_cut.Goals as goal
 
 pub distances-requires-clause-edges : goal.distances-requires-clause-edges
 distances-requires-clause-edges c =
-    candidate_edges c.args.sub.now c.args.above.now c.args.bound c.args.found.now c.in_ok-lost.lost.graph c.in_ok-lost.lost.gone.items c.requires.found c.in_ok-lost.ensures c.requires.bounded
+    candidate_edges c.args.sub.now c.args.above.now c.args.bound c.args.found.now c.in_ok-lost.lost.graph c.in_ok-lost.lost.gone.items c.requires.found c.in_ok-lost.ensures.lost c.requires.bounded
 
 pub distances-requires-clause-within : goal.distances-requires-clause-within
 distances-requires-clause-within c =
     ends_within c.args.sub.now c.args.above.now c.args.bound (MeetsACut c.args.sub.now c.args.above.now c.args.bound) (cut_dead c.args.sub.now c.args.above.now c.args.bound) c.args.found.now.table.spots c.in_ok-lost.lost.gone.items c.as_slice.result.now
-    c.in_ok-ends.ends.items c.as_slice-2.result.now c.in_ok-lost.ensures.dead c.in_ok-ends.ensures c.as_slice.ensures.value c.as_slice-2.ensures.value
+    c.in_ok-ends.ends.items c.as_slice-2.result.now c.in_ok-lost.ensures.lost.dead c.in_ok-ends.ensures c.as_slice.ensures.value c.as_slice-2.ensures.value
 
 pub walk-requires-clause-downhill : goal.walk-requires-clause-downhill
 walk-requires-clause-downhill c =
     (chart_of c.args.sub.now c.args.above.now c.args.bound (MeetsACut c.args.sub.now c.args.above.now c.args.bound) c.args.found.now c.in_ok-lost.lost.graph c.in_ok-lost.lost.gone.items c.as_slice.result.now c.in_ok-ends.ends.items
-    c.as_slice-2.result.now c.in_ok-far.far.items c.as_slice-3.result.now c.requires.found c.in_ok-lost.ensures c.in_ok-ends.ensures c.as_slice.ensures.value c.as_slice-2.ensures.value
+    c.as_slice-2.result.now c.in_ok-far.far.items c.as_slice-3.result.now c.requires.found c.in_ok-lost.ensures.lost c.in_ok-ends.ensures c.as_slice.ensures.value c.as_slice-2.ensures.value
     c.as_slice-3.ensures.value c.in_ok-far.ensures).downhill
 
 pub walk-requires-clause-known : goal.walk-requires-clause-known
@@ -24,7 +24,7 @@ walk-requires-clause-known c =
     let f = cut_from_start c.args.sub.now c.args.above.now c.args.bound c.requires.refused.0 c.requires.refused.1 c.requires.helps in
     start_far c.args.sub.now c.args.above.now c.args.bound (MeetsACut c.args.sub.now c.args.above.now c.args.bound) c.args.found.now.table.spots c.args.found.now.table.rows c.as_slice-3.result.now
     (chart_of c.args.sub.now c.args.above.now c.args.bound (MeetsACut c.args.sub.now c.args.above.now c.args.bound) c.args.found.now c.in_ok-lost.lost.graph c.in_ok-lost.lost.gone.items c.as_slice.result.now c.in_ok-ends.ends.items
-    c.as_slice-2.result.now c.in_ok-far.far.items c.as_slice-3.result.now c.requires.found c.in_ok-lost.ensures c.in_ok-ends.ensures c.as_slice.ensures.value c.as_slice-2.ensures.value
+    c.as_slice-2.result.now c.in_ok-far.far.items c.as_slice-3.result.now c.requires.found c.in_ok-lost.ensures.lost c.in_ok-ends.ensures c.as_slice.ensures.value c.as_slice-2.ensures.value
     c.as_slice-3.ensures.value c.in_ok-far.ensures)
     c.requires.found.discovery.first f.0 f.1
 
@@ -32,6 +32,6 @@ pub returns : goal.returns
 returns c =
     whole_way c.args.sub.now c.args.above.now c.args.bound (MeetsACut c.args.sub.now c.args.above.now c.args.bound) (cut_dead c.args.sub.now c.args.above.now c.args.bound) c.args.found.now.table.spots c.args.found.now.table.rows c.as_slice-3.result.now
     (chart_of c.args.sub.now c.args.above.now c.args.bound (MeetsACut c.args.sub.now c.args.above.now c.args.bound) c.args.found.now c.in_ok-lost.lost.graph c.in_ok-lost.lost.gone.items c.as_slice.result.now c.in_ok-ends.ends.items
-    c.as_slice-2.result.now c.in_ok-far.far.items c.as_slice-3.result.now c.requires.found c.in_ok-lost.ensures c.in_ok-ends.ensures c.as_slice.ensures.value c.as_slice-2.ensures.value
+    c.as_slice-2.result.now c.in_ok-far.far.items c.as_slice-3.result.now c.requires.found c.in_ok-lost.ensures.lost c.in_ok-ends.ensures c.as_slice.ensures.value c.as_slice-2.ensures.value
     c.as_slice-3.ensures.value c.in_ok-far.ensures)
     c.requires.found.discovery.first c.in_ok-way.way.steps.items c.in_ok-way.way.node c.in_ok-way.ensures

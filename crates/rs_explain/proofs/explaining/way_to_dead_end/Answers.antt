@@ -1,37 +1,21 @@
-use Rattle.rs_explain.proofs.Existing.{walk_from_start}
-use Rattle.rs_explain.proofs.Firsts.{dead_are_dead}
-use Rattle.rs_explain.proofs.Nearest.{candidate_edges, chart_of, ends_within, start_far, whole_way}
-use Rattle.rs_explain.specs.Walks.{IsDeadEnd}
+use Rattle.std.proofs.Common.{List, Option, ℕ, sym, subst}
+use Rattle.rs_explain.specs.Deaths.{AreDeaths}
+use Rattle.rs_explain.proofs.Lowering.{deaths_downhill, dying_way}
+use Rattle.rs_search.specs.Candidates.{start_spot}
 use Rattle.rs_explain.proofs.explaining.way_to_dead_end.Goals as goal
-
-pub distances-requires-clause-edges : goal.distances-requires-clause-edges
-distances-requires-clause-edges c =
-    candidate_edges c.args.sub.now c.args.above.now c.args.bound c.args.found.now c.in_ok-lost.lost.graph c.in_ok-lost.lost.gone.items c.requires.found c.in_ok-lost.ensures c.requires.bounded
-
-pub distances-requires-clause-within : goal.distances-requires-clause-within
-distances-requires-clause-within c =
-    ends_within c.args.sub.now c.args.above.now c.args.bound (IsDeadEnd c.args.sub.now c.args.above.now c.args.bound) (dead_are_dead c.args.sub.now c.args.above.now c.args.bound) c.args.found.now.table.spots c.in_ok-lost.lost.gone.items c.as_slice.result.now
-    c.in_ok-ends.ends.items c.as_slice-2.result.now c.in_ok-lost.ensures.dead c.in_ok-ends.ensures c.as_slice.ensures.value c.as_slice-2.ensures.value
 
 pub walk-requires-clause-downhill : goal.walk-requires-clause-downhill
 walk-requires-clause-downhill c =
-    (chart_of c.args.sub.now c.args.above.now c.args.bound (IsDeadEnd c.args.sub.now c.args.above.now c.args.bound) c.args.found.now c.in_ok-lost.lost.graph c.in_ok-lost.lost.gone.items c.as_slice.result.now c.in_ok-ends.ends.items
-    c.as_slice-2.result.now c.in_ok-far.far.items c.as_slice-3.result.now c.requires.found c.in_ok-lost.ensures c.in_ok-ends.ensures c.as_slice.ensures.value c.as_slice-2.ensures.value
-    c.as_slice-3.ensures.value c.in_ok-far.ensures).downhill
+    deaths_downhill c.args.sub.now c.args.above.now c.args.bound c.args.found.now c.as_slice-2.result.now c.requires.found
+    (subst (λ (z : List (Option ℕ)). AreDeaths c.args.sub.now c.args.above.now c.args.bound c.args.found.now.table.spots z) (sym c.as_slice-2.ensures.value) c.in_ok-far.ensures)
 
 pub walk-requires-clause-known : goal.walk-requires-clause-known
 walk-requires-clause-known c =
-    let f = walk_from_start c.args.sub.now c.args.above.now c.args.bound c.requires.refused.0 c.requires.refused.1 in
-    start_far c.args.sub.now c.args.above.now c.args.bound (IsDeadEnd c.args.sub.now c.args.above.now c.args.bound) c.args.found.now.table.spots c.args.found.now.table.rows c.as_slice-3.result.now
-    (chart_of c.args.sub.now c.args.above.now c.args.bound (IsDeadEnd c.args.sub.now c.args.above.now c.args.bound) c.args.found.now c.in_ok-lost.lost.graph c.in_ok-lost.lost.gone.items c.as_slice.result.now c.in_ok-ends.ends.items
-    c.as_slice-2.result.now c.in_ok-far.far.items c.as_slice-3.result.now c.requires.found c.in_ok-lost.ensures c.in_ok-ends.ensures c.as_slice.ensures.value c.as_slice-2.ensures.value
-    c.as_slice-3.ensures.value c.in_ok-far.ensures)
-    c.requires.found.discovery.first f.0 f.1
+    (subst (λ (z : List (Option ℕ)). AreDeaths c.args.sub.now c.args.above.now c.args.bound c.args.found.now.table.spots z) (sym c.as_slice-2.ensures.value) c.in_ok-far.ensures).all
+    0 (start_spot c.args.sub.now c.args.above.now) c.requires.found.discovery.first c.requires.refused.1.dies
 
 pub returns : goal.returns
 returns c =
-    whole_way c.args.sub.now c.args.above.now c.args.bound (IsDeadEnd c.args.sub.now c.args.above.now c.args.bound) (dead_are_dead c.args.sub.now c.args.above.now c.args.bound) c.args.found.now.table.spots c.args.found.now.table.rows c.as_slice-3.result.now
-    (chart_of c.args.sub.now c.args.above.now c.args.bound (IsDeadEnd c.args.sub.now c.args.above.now c.args.bound) c.args.found.now c.in_ok-lost.lost.graph c.in_ok-lost.lost.gone.items c.as_slice.result.now c.in_ok-ends.ends.items
-    c.as_slice-2.result.now c.in_ok-far.far.items c.as_slice-3.result.now c.requires.found c.in_ok-lost.ensures c.in_ok-ends.ensures c.as_slice.ensures.value c.as_slice-2.ensures.value
-    c.as_slice-3.ensures.value c.in_ok-far.ensures)
-    c.requires.found.discovery.first c.in_ok-way.way.steps.items c.in_ok-way.way.node c.in_ok-way.ensures
+    dying_way c.args.sub.now c.args.above.now c.args.bound c.args.found.now c.as_slice-2.result.now c.requires.found
+    (subst (λ (z : List (Option ℕ)). AreDeaths c.args.sub.now c.args.above.now c.args.bound c.args.found.now.table.spots z) (sym c.as_slice-2.ensures.value) c.in_ok-far.ensures)
+    c.in_ok-way.way.steps.items c.in_ok-way.way.node c.in_ok-way.ensures

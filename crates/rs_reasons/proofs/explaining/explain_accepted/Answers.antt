@@ -1,4 +1,4 @@
-use Rattle.std.proofs.Common.{◌≡◌, ◌++◌, ◌∙◌, ℕ, List, Option, map, ap, sym}
+use Rattle.std.proofs.Common.{◌≡◌, ◌++◌, ◌∙◌, ℕ, List, Option, map, ap}
 use Rattle.rs_answers.specs.Report.{report}
 use Rattle.rs_documents.specs.Data.{Document_data}
 use Rattle.rs_model.specs.Data.{Machine_data, Names_data}

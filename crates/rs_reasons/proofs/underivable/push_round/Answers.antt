@@ -1,4 +1,4 @@
-use Rattle.std.proofs.Common.{◌≡◌, ◌++◌, ◌∙◌, ℕ, List, codes, ap, ap₂}
+use Rattle.std.proofs.Common.{◌≡◌, ◌++◌, ◌∙◌, ℕ, List, Option, codes, slice_get, ap, ap₂}
 use Rattle.std.proofs.lemmas.Result.{on_ok_weaker}
 use Rattle.rs_derive.specs.Moves.{Spot}
 use Rattle.rs_explain.specs.Forgetting.{Forgetting_data}
@@ -7,10 +7,11 @@ use Rattle.rs_model.specs.Data.{Machine_data, Names_data}
 use Rattle.rs_model.specs.declared.machines.Act.{Act}
 use Rattle.rs_text.specs.NamePlaces.{name_at}
 use Rattle.rs_walk_texts.specs.Data.{WalkSource_data}
+use Rattle.rs_walk_texts.specs.Dues.{act_dues}
 use Rattle.rs_walk_texts.specs.Heads.{owed_line}
 use Rattle.rs_walk_texts.specs.Walks.{steps_text}
 use Rattle.rs_reasons.specs.Underivable.{never_line}
-use Rattle.rs_reasons.proofs.Joins.{five}
+use Rattle.rs_reasons.proofs.Joins.{six}
 use Rattle.rs_reasons.proofs.underivable.push_round.Goals as goal
 
 pub returns : goal.returns
@@ -26,11 +27,14 @@ returns c =
     let steps : c.as_slice-2.result.now ≡ f.steps = c.as_slice-2.ensures.value ∙ ap (λ (x : Forgetting_data). x.steps) c.forgetting.view_is in
     let owed : c.as_slice-3.result.now ≡ f.spot.pending = c.as_slice-3.ensures ∙ ap (λ (x : Forgetting_data). x.spot.pending) c.forgetting.view_is in
     let still : c.as_slice-4.result.now ≡ f.spot.pending = c.as_slice-4.ensures ∙ ap (λ (x : Forgetting_data). x.spot.pending) c.forgetting.view_is in
-    on_ok_weaker c.push_never.result
+    let again : c.as_slice-5.result.now ≡ f.spot.pending = c.as_slice-5.ensures ∙ ap (λ (x : Forgetting_data). x.spot.pending) c.forgetting.view_is in
+    let act : c.oldest.result ≡ slice_get f.spot.pending 0 = c.oldest.ensures ∙ ap (λ (x : List Act). slice_get x 0) again in
+    on_ok_weaker c.push_dues.result
     (λ e.
-    five c.args.text.now c.push_name.new.text c.push.new.self c.push_steps.new.text c.push_owed_line.new.text c.push_never.new.text (name_at s.names.roles s.machine.role.0)
-    (codes ", round and round:\n") (steps_text s f.spot f.steps) (owed_line s.names f.spot.pending) (never_line s.names f.spot.pending)
+    six c.args.text.now c.push_name.new.text c.push.new.self c.push_steps.new.text c.push_owed_line.new.text c.push_never.new.text c.push_dues.new.text (name_at s.names.roles s.machine.role.0)
+    (codes ", round and round:\n") (steps_text s f.spot f.steps) (owed_line s.names f.spot.pending) (never_line s.names f.spot.pending) (act_dues s (slice_get f.spot.pending 0))
     (c.in_ok-push_name.ensures ∙ ap₂ (λ (x : List (List ℕ)) (n : ℕ). c.args.text.now ++ name_at x n) roles role) c.in_ok-push.ensures.ok
     (c.in_ok-push_steps.ensures ∙ ap₂ (λ (x : Spot) (y : List WalkStep_data). c.push.new.self ++ steps_text s x y) spot steps)
     (c.in_ok-push_owed_line.ensures ∙ ap₂ (λ (x : Names_data) (y : List Act). c.push_steps.new.text ++ owed_line x y) names owed)
-    (e ∙ ap₂ (λ (x : Names_data) (y : List Act). c.push_owed_line.new.text ++ never_line x y) names still)) c.push_never.ensures
+    (c.in_ok-push_never.ensures ∙ ap₂ (λ (x : Names_data) (y : List Act). c.push_owed_line.new.text ++ never_line x y) names still)
+    (e ∙ ap (λ (z : Option Act). c.push_never.new.text ++ act_dues s z) act)) c.push_dues.ensures

@@ -11,7 +11,7 @@ greatest_helps_text-requires-clause-found c =
     let machine : c.source.inside.machine.now ≡ c.args.source.now.machine = ap (λ (x : WalkSource_data). x.machine) c.source.view_is in
     let above : c.projection.inside.machine ≡ c.args.source.now.projection.machine =
     ap (λ (x : Projection_data). x.machine) c.projection.view_is ∙ ap (λ (x : WalkSource_data). x.projection.machine) c.source.view_is in
-    (c.in-Ok.field-0, subst₂ (λ (x : Machine_data) (y : Machine_data). IsCanonical x y MOST_BOUND c.in-Ok.field-0) machine above c.in-Ok.ensures.ok)
+    subst₂ (λ (x : Machine_data) (y : Machine_data). IsCanonical x y MOST_BOUND c.in-Ok.derivation) machine above c.in-Ok.ensures.ok
 
 pub greatest_refuses_text-requires-clause-refused : goal.greatest_refuses_text-requires-clause-refused
 greatest_refuses_text-requires-clause-refused c =
