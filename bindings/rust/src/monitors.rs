@@ -49,8 +49,9 @@ impl Monitor {
         let mut monitor = Monitor { raw: Handle::closed(), names, role: role.to_owned(), room: 0 };
         let mut refusal = TextHandle::closed();
         // SAFETY: the pointers are those of slices, and the handles are ours alone.
-        let status =
-            unsafe { raw::rumpsteak_monitor_open(text.as_ptr(), text.len(), role.as_ptr(), role.len(), &mut monitor.raw, &mut refusal.raw) };
+        let status = unsafe {
+            raw::rumpsteak_monitor_open(text.as_ptr(), text.len(), role.as_ptr(), role.len(), &mut monitor.raw, &mut refusal.raw)
+        };
         match status {
             raw::FINE => {
                 monitor.names = Names::of(&mut monitor.raw, raw::rumpsteak_monitor_role_name, raw::rumpsteak_monitor_label_name);

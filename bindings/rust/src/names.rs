@@ -112,7 +112,7 @@ impl AsRole for Role {
 }
 
 macro_rules! by_name {
-    ($($type:ty)*) => {
+    ($($type:ty),*) => {
         $(
             impl AsLabel for $type {
                 fn number(&self, names: &NameTable) -> Option<u32> {
@@ -137,4 +137,4 @@ macro_rules! by_name {
     };
 }
 
-by_name!(&str &String);
+by_name!(&str, &String);

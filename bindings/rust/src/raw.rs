@@ -85,7 +85,14 @@ extern "C" {
     pub fn rumpsteak_list(endpoint: *mut Handle, out: *mut i64, out_len: usize, written: *mut usize) -> u32;
     pub fn rumpsteak_leave(endpoint: *mut Handle) -> u32;
 
-    pub fn rumpsteak_monitor_open(text: *const u8, text_len: usize, role: *const u8, role_len: usize, monitor: *mut Handle, refusal: *mut Handle) -> u32;
+    pub fn rumpsteak_monitor_open(
+        text: *const u8,
+        text_len: usize,
+        role: *const u8,
+        role_len: usize,
+        monitor: *mut Handle,
+        refusal: *mut Handle,
+    ) -> u32;
     pub fn rumpsteak_monitor_room(monitor: *mut Handle, room: *mut u64) -> u32;
     pub fn rumpsteak_monitor_role_name(monitor: *mut Handle, role: u32, out: *mut u8, out_len: usize, written: *mut usize) -> u32;
     pub fn rumpsteak_monitor_label_name(monitor: *mut Handle, label: u32, out: *mut u8, out_len: usize, written: *mut usize) -> u32;
