@@ -4,6 +4,7 @@ import asyncio
 import doctest
 import importlib
 import os
+import shutil
 import subprocess
 import sys
 import tempfile
@@ -251,6 +252,10 @@ class Examples(unittest.TestCase):
 
     def test_tasks(self):
         self.assertEqual(self.run_example("tasks.py"), b"9\n16\n9\n16\n")
+
+    @unittest.skipUnless(shutil.which("redis-server"), "redis-server isn't on this machine")
+    def test_broker(self):
+        self.assertEqual(self.run_example("broker.py"), b"THREE\nPROCESSES\nAND\nA\nBROKER\n")
 
 
 if __name__ == "__main__":
