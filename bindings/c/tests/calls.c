@@ -340,8 +340,8 @@ static void monitors(void) {
     STATUS(RUMPSTEAK_STATE_SENDS, rumpsteak_monitor_received(&monitor, 0, copy, RUMPSTEAK_NAT, 1));
     STATUS(RUMPSTEAK_NO_SUCH_LABEL, rumpsteak_monitor_sent(&monitor, 0, copy, RUMPSTEAK_NAT, 1));
     STATUS(RUMPSTEAK_ANOTHER_SORT, rumpsteak_monitor_sent(&monitor, 0, ready, RUMPSTEAK_NAT, 1));
-    STATUS(RUMPSTEAK_UNKNOWN, rumpsteak_monitor_sent(&monitor, 3, ready, RUMPSTEAK_UNIT, 0));
-    STATUS(RUMPSTEAK_UNKNOWN, rumpsteak_monitor_sent(&monitor, 0, 3, RUMPSTEAK_UNIT, 0));
+    STATUS(RUMPSTEAK_UNKNOWN, rumpsteak_monitor_sent(&monitor, UINT32_MAX, ready, RUMPSTEAK_UNIT, 0));
+    STATUS(RUMPSTEAK_UNKNOWN, rumpsteak_monitor_sent(&monitor, 0, UINT32_MAX, RUMPSTEAK_UNIT, 0));
     STATUS(RUMPSTEAK_UNKNOWN, rumpsteak_monitor_sent(&monitor, 0, ready, 6, 0));
     FINE(rumpsteak_monitor_acts(&monitor, &acts));
     IS(acts == 0);
