@@ -60,6 +60,10 @@ class Answers(unittest.TestCase):
         self.assertEqual(rumpsteak.ask("check", text=b"roles \xff")[0], 3)
         self.assertEqual(rumpsteak.ask("run", "--workers", "2", text=RING)[0], 16)
 
+    def test_the_library_and_the_package_have_the_same_version(self):
+        major, minor, patch = map(int, rumpsteak.__version__.split("."))
+        self.assertEqual(rumpsteak.version(), major * 1_000_000 + minor * 1_000 + patch)
+
     def test_the_module_is_a_program(self):
         with tempfile.TemporaryDirectory() as folder:
             path = os.path.join(folder, "film.txt")

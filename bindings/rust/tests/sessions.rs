@@ -158,3 +158,9 @@ fn a_ring_of_threads_goes_round() {
         assert_eq!(thread.join().unwrap(), 999 * 1_000 / 2);
     }
 }
+
+#[test]
+fn the_library_and_the_crate_have_the_same_version() {
+    let parts: Vec<u32> = env!("CARGO_PKG_VERSION").split('.').map(|part| part.parse().unwrap()).collect();
+    assert_eq!(rumpsteak::version(), parts[0] * 1_000_000 + parts[1] * 1_000 + parts[2]);
+}
