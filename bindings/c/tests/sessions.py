@@ -22,7 +22,7 @@ import meaning
 
 ACT = re.compile(r'(\w+)([!?])(\w+)\(([^)]*)\)')
 FORMS = {'unit': '', 'bool': 'true|false', 'nat': r'\d+', 'int': r'-?\d+', 'bytes': '([0-9a-f]{2})*', 'list': r'(-?\d+(,-?\d+)*)?'}
-LIMIT, AT_ONCE = 200, 25
+LIMIT, AT_ONCE, MALFORMED = 200, 25, 3
 OF_BENCH = ('ring 16', 'ring 64', 'choices 2', 'answered 40', 'pipeline 2')
 
 
@@ -51,9 +51,15 @@ def state_after(machine, acts):
     return at
 
 
+def has_label_twice(state):
+    return state is not None and len({label for label, _, _ in state.arms}) < len(state.arms)
+
+
 def fault_of(text, status, acts):
     """What is wrong with the acts of the roles, or nothing."""
     document = meaning.Document(text)
+    if any(has_label_twice(state) for machine in document.machines.values() for state in machine):
+        return None if status == MALFORMED else f'a label twice in a state, and opened with status {status}'
     try:
         machines = meaning.derived(document)[0]
     except meaning.Refused as refused:
