@@ -1,13 +1,15 @@
 //! Sessions over rings, on one thread and on several, and sessions by several workers, whose actors do a stated amount of work
 //! at each act: how many parcels came in order and how far the workers came; with the word `rings` how many parcels came in a
 //! second, and with the word `workers` how many acts were made. With the word `opening`, `stages` or `endpoints` it plays a
-//! session of no acts, by stages or by endpoints. Without a word it ends with 1 where one of some further sessions doesn't go as
-//! it should.
+//! session of no acts, by stages or by endpoints. With the word `watched` or `widely_watched` it makes sends through a monitor of a
+//! machine of one label or of four, and with `unwatched` none. Without a word it ends with 1 where one of some further sessions
+//! doesn't go as it should.
 #![tactic(auto)]
 
 mod act_sessions;
 mod channel_runs;
 mod endpoint_acts;
+mod monitor_acts;
 mod ring_machines;
 mod ring_players;
 mod ring_runs;
@@ -57,6 +59,8 @@ enum Asked {
     WorkerTimes,
     /// A session of so many numbers, played in that way.
     Acts(Way, u32),
+    /// So many sends through a monitor of a machine of so many labels.
+    Watched(u16, u32),
 }
 
 /// What the first word behind the program's name asks for.
@@ -77,6 +81,15 @@ fn what_is_asked<R: Env + Alloc<A = Global>>(rt: &R) -> io::Result<Asked> {
             }
             if word.as_str() == "endpoints" {
                 return Ok(Asked::Acts(Way::Endpoints, NUMBERS));
+            }
+            if word.as_str() == "unwatched" {
+                return Ok(Asked::Watched(1, 0));
+            }
+            if word.as_str() == "watched" {
+                return Ok(Asked::Watched(1, NUMBERS));
+            }
+            if word.as_str() == "widely_watched" {
+                return Ok(Asked::Watched(4, NUMBERS));
             }
         }
     }
@@ -137,6 +150,12 @@ fn tell_acts<R: Print + Alloc<A = Global>>(rt: &R, way: Way, count: u32) -> io::
     }
 }
 
+/// Tells how many sends the monitor let through.
+fn tell_watched<R: Print + Alloc<A = Global>>(rt: &R, labels: u16, count: u32) -> io::Result<()> {
+    let through = told(monitor_acts::let_through(rt.alloc(), labels, count))?;
+    println!(rt; "labels {labels}: {through} of {count} sends were let through")
+}
+
 /// Tells how many parcels came in a second: by the rings of a session, by the kit's channel, and by its ring of two threads.
 fn tell_ring_times<R: Threads + Wait + Sync + Clock + Print + Alloc<A = Global>>(
     rt: &R,
@@ -187,11 +206,17 @@ fn run<R: Threads + Wait + Sync + Clock + Print + Env + Alloc<A = Global>>(
             tell_acts(rt, way, count)?;
             Ok(true)
         }
+        Asked::Watched(labels, count) => {
+            tell_watched(rt, labels, count)?;
+            Ok(true)
+        }
         Asked::Trials => {
             tell_orders(rt)?;
             tell_numbers(rt)?;
             tell_acts(rt, Way::Stages, 1000)?;
             tell_acts(rt, Way::Endpoints, 1000)?;
+            tell_watched(rt, 1, 1000)?;
+            tell_watched(rt, 4, 1000)?;
             told(ring_trials::are_right(rt, rt.alloc()))
         }
     }

@@ -6,8 +6,6 @@ mod copying;
 mod played;
 mod reading;
 mod sessions;
-#[cfg(test)]
-mod tests;
 mod threads;
 mod waiting;
 mod writing;

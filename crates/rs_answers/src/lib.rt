@@ -47,4 +47,4 @@ pub use shown::show;
 pub use tables::project_all;
 pub use texts::Piece;
 pub use verdicts::Verdict;
-pub use verifying::{Blame, verify};
+pub use verifying::{Blame, accept_by_own, are_all_there, verify};

@@ -74,7 +74,7 @@ fn first_blame(
 }
 
 /// Whether each role has its own derivation.
-fn are_all_there(own: &[Option<Derivation>]) -> bool
+pub fn are_all_there(own: &[Option<Derivation>]) -> bool
     ensures { result ≡ list_all is_some own.now }
 {
     own.iter().all(|held| held.is_some())
@@ -144,11 +144,9 @@ fn accept_session(
     }
 }
 
-/// Accepts the session of the document by the document's own derivations; or tells the first reason why it isn't.
-pub(crate) fn accept_by_own(
-    alloc: Global,
-    document: Document,
-) -> Result<AcceptedDocument, RefusedDocument>
+/// Accepts the session of the document by the document's own derivations; or tells the first reason why it isn't. Nothing is
+/// searched.
+pub fn accept_by_own(alloc: Global, document: Document) -> Result<AcceptedDocument, RefusedDocument>
     requires ready { DocumentIsReady document }
     ensures accepted { IfOk result (IsVerifiedDocument document) }
     ensures refused { IfErr result (IsUnverifiedDocument document) }

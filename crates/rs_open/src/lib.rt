@@ -7,7 +7,7 @@ mod running;
 mod sessions;
 mod sorts;
 
-pub use opening::{OpenRefused, open, open_within};
+pub use opening::{OpenRefused, open, open_certified, open_verified, open_within};
 pub use running::CrewFault;
 pub use sessions::OpenSession;
 pub use sorts::sort_word;

@@ -9,7 +9,7 @@ pub mod Seats
 pub mod StepsAsked
 pub mod PassRows
 pub mod ByLabel
-pub mod ByPlace
+pub mod StatesRead
 pub mod Over
 pub mod LeftOver
 pub mod Emptied

@@ -1,5 +1,5 @@
 -- What the steps of `put` ask, and what it says.
-use Rattle.std.proofs.Common.{◌≡◌, ◌≢◌, ℕ, ◌+◌, ◌<◌, List, [], ◌∷◌, length, true, IfSome, slice_get, refl, sym, ap, ◌∙◌, subst, Option, Some, None}
+use Rattle.std.proofs.Common.{◌≡◌, ◌≢◌, ℕ, ◌+◌, ◌<◌, List, [], ◌∷◌, length, true, slice_get, refl, sym, ap, ◌∙◌, subst, Option, Some, None}
 use mathlib.Core.Option.{none}
 use Rattle.atomic_table.specs.Table.{Me, Step, step, rest, Allows}
 use Rattle.rs_slots.specs.declared.parcels.Parcel.{Parcel}
@@ -8,20 +8,17 @@ use Rattle.rs_rings.specs.declared.views.View.{View}
 use Rattle.rs_rings.specs.declared.views.Key.{Key}
 use Rattle.rs_rings.specs.declared.views.Middle.TheVariants.{Idle, Putting, Taking}
 use Rattle.rs_model.specs.declared.graph.Arm.{Arm}
-use Rattle.rs_model.specs.declared.machines.State.TheVariants.{Done, Puts, Takes}
-use Rattle.rs_model.specs.declared.machines.State.{State}
+use Rattle.rs_model.specs.declared.machines.State.TheVariants.{Takes}
 use Rattle.rs_model.specs.Data.{Machine_data}
 use Rattle.rs_core.specs.Configurations.{state_of}
-use Rattle.rs_core.specs.Ways.{arm_with}
 use Rattle.rs_rings.specs.Acts.{role_of_number, sent_act, got_act, Happened, MayPut, MayTake, parcels_sent, parcels_got}
 use Rattle.rs_rings.specs.Asked.{IsCallOn}
 use Rattle.rs_rings.specs.Places.{head_word_of, tail_of, slot_place}
 use Rattle.rs_rings.specs.Rule.{RingsShow, machines_in_key}
-use Rattle.rs_rings.specs.Steps.{HasFittingArm, Call, LoadsHead, StoresTail, LoadsTail, StoresHead, GivesFilled, GivesEmptied, own}
-use Rattle.rs_rings.specs.Told.{TakesFrom, arms_in_state, IsAfter}
+use Rattle.rs_rings.specs.Steps.{Call, LoadsHead, StoresTail, LoadsTail, StoresHead, GivesFilled, GivesEmptied, own}
+use Rattle.rs_rings.specs.Told.{IsAfter}
 use Rattle.rs_rings.specs.Views.{speaks, the_part, view_with_part, sending, taking, getting}
 use Rattle.rs_rings.proofs.Parts.{the_role, speaks_put, the_put_here, the_put_other}
-use Rattle.rs_rings.proofs.Arms.{arm_at}
 use Rattle.rs_rings.proofs.FourSteps.{sees_head, stores_tail, sees_tail, stores_head}
 
 abbrev M : Type 0
@@ -164,20 +161,6 @@ took m m' p q r k s x y res v a was got now is =
 pub took_some : (m : M) (k s : ℕ) (x : Parcel) (res : Option Parcel) (u : View) → m ≡ (u, (k, Some x) ∷ []) → m.1 ≡ (s, res) ∷ rest m.1 → res ≡ None → ⊥
 took_some m k s x res u was got none' = let l : (k, Some x) ∷ [] ≡ (s, res) ∷ rest m.1 = sym (ap (λ (z : M). z.1) was) ∙ got in let pair : pairing k (Some x) ≡ pairing s res =
     cc in let same : Some x ≡ res = ap (λ (z : ℕ × Option Parcel). z.1) pair in let no : Some x ≡ None = same ∙ none' in cc
-
-pub stands_from : (o : Option State) (p : ℕ) (arms : List Arm) → TakesFrom o p → IfSome o (λ s. arms ≡ arms_in_state s) → o ≡ Some (Takes (role_of_number p) arms)
-stands_from None p arms t i = absurd t
-stands_from (Some Done) p arms t i = absurd t
-stands_from (Some (Puts q as')) p arms t i = absurd t
-stands_from (Some (Takes r as')) p arms t i = λ k. Some (Takes (role_of_number (t k)) (sym i k))
-
-pub found_next : (o : Option Arm) (arm : Arm) (next : ℕ) → o ≡ Some arm → IfSome o (λ a. next ≡ a.next) → next ≡ arm.next
-found_next o arm next e h = subst (λ (o : Option Arm). IfSome o (λ a. next ≡ a.next)) e h
-
-pub may_take : (ms : List Machine_data) (p q s : ℕ) (m : Parcel) (next : ℕ) (arms : List Arm) → state_of (slice_get ms q) s ≡ Some (Takes (role_of_number p) arms) → HasFittingArm arms m
-    → IfSome (arm_with arms m.label) (λ a. next ≡ a.next) → MayTake ms q p s m next
-may_take ms p q s m next arms st f h = let at = arm_at arms m.label f.arm f.chosen in
-    record { arms = arms; place = at.0; arm = f.arm; takes = st; picks = at.1; same_label = at.2; has_sort = f.has; goes = found_next (arm_with arms m.label) f.arm next f.chosen h }
 
 -- two changes of one part
 pub after_twice : (p : ℕ) (y z : Part) (v u : View) (m : M) → speaks p v.parts ≡ true → y.role ≡ p → u ≡ view_with_part p y v → IsAfter p z u m → IsAfter p z v m

@@ -2,16 +2,14 @@
 use Rattle.std.specs.Prelude.{◌≡◌, ◌≢◌, ℕ, ◌+◌, ◌<◌, ◌≤◌, List, length, Some, slice_get}
 use Rattle.atomic_table.specs.Seated.{TableId}
 use Rattle.rs_model.specs.Data.{Machine_data}
-use Rattle.rs_model.specs.Sorts.{HasSort}
 use Rattle.rs_model.specs.declared.graph.Arm.{Arm}
 use Rattle.rs_model.specs.declared.graph.Role.{Role}
-use Rattle.rs_model.specs.declared.machines.State.TheVariants.{Puts, Takes}
-use Rattle.rs_model.specs.declared.values.Value.{Value}
+use Rattle.rs_model.specs.declared.machines.State.TheVariants.{Takes}
 use Rattle.rs_core.specs.Choosable.{label_of}
 use Rattle.rs_core.specs.Configurations.{state_of}
 use Rattle.rs_slots.specs.declared.parcels.Parcel.{Parcel}
 use Rattle.rs_rings.specs.Acts.{sent_act, got_act, parcels_sent, parcels_got, Happened, HadTaken, HadPut, MayPut, MayTake}
-use Rattle.rs_rings.specs.Views.{speaks, the_part, part_of, state_in, last_found, part_with_room, gaining, sending, part_with_parcel, taking, getting, KnowsGot, KnowsSent, KnowsOldest}
+use Rattle.rs_rings.specs.Views.{speaks, the_part, part_of, last_found, part_with_room, gaining, sending, part_with_parcel, taking, getting, KnowsGot, KnowsSent, KnowsOldest}
 use Rattle.rs_rings.specs.declared.answers.Put.{Put}
 use Rattle.rs_rings.specs.declared.answers.Put.TheVariants.{Done, Full}
 use Rattle.rs_rings.specs.declared.answers.Got.{Got}
@@ -36,19 +34,6 @@ pub record Pass_data : Type 0 where
 -- role p, in state s, can put the parcel to q
 abbrev pub CanPut : List Machine_data → ℕ → Role → ℕ → Parcel → Type 0
 CanPut machines p q s x = (next : ℕ) × MayPut machines p q.0 s x next
-
--- role p, in state s, puts to the peer by the arm at that place
-pub record PutsTo (machines : List Machine_data) (p s place : ℕ) (peer : Role) (arm : Arm) : Type 0 where
-  pub arms : List Arm
-  pub puts : state_of (slice_get machines p) s ≡ Some (Puts peer arms)
-  pub picks : slice_get arms place ≡ Some arm
-
--- role p, in state s, can put the value by the arm at that place
-pub record CanPutOn (machines : List Machine_data) (p s place : ℕ) (value : Value) : Type 0 where
-  pub peer : Role
-  pub arm : Arm
-  pub by : PutsTo machines p s place peer arm
-  pub has_sort : HasSort value arm.sort
 
 -- role q, in state s, takes from p
 pub record CanTake (machines : List Machine_data) (q : ℕ) (p : Role) (s : ℕ) : Type 0 where
@@ -93,11 +78,6 @@ pub record RingIsFull (machines : List Machine_data) (capacity p q : ℕ) (x : P
 abbrev pub PutTells : List Machine_data → ℕ → ℕ → ℕ → Parcel → View → View → Put → Type 0
 PutTells machines capacity p q x v w Done = IsPut machines capacity p q x v w
 PutTells machines capacity p q x v w (Full sent taken back) = RingIsFull machines capacity p q x sent taken back v w
-
--- what a put of the value by the arm at that place tells: what a put of the parcel with the arm's label to its peer does
-abbrev pub PutOnTells : List Machine_data → ℕ → ℕ → ℕ → Value → View → View → Put → Type 0
-PutOnTells machines capacity p place value v w put =
-    (can : CanPutOn machines p (state_in v p) place value) → PutTells machines capacity p can.peer.0 (record { label = can.arm.label; value = value }) v w put
 
 -- q took x from p: the one load read the number `put` of parcels that p had put, which is more than q has got, by no more than
 -- the capacity; the receive happened, before which p had made so many loads, and q stands in the state `next`. A pass that

@@ -29,13 +29,6 @@ arms_in_state Done = []
 arms_in_state (Puts q arms) = arms
 arms_in_state (Takes p arms) = arms
 
--- the state takes from p
-abbrev pub TakesFrom : Option State → ℕ → Type 0
-TakesFrom None p = ⊥
-TakesFrom (Some Done) p = ⊥
-TakesFrom (Some (Puts q arms)) p = ⊥
-TakesFrom (Some (Takes r arms)) p = r.0 ≡ p
-
 -- what the seat knows of p is y now, all else that it knows is as in the view v, and it holds no slot
 pub record IsAfter (p : ℕ) (y : Part) (v : View) (m : Me (Option Parcel) View) : Type 0 where
   pub part : the_part p m.0.parts ≡ y

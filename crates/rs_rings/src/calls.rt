@@ -7,7 +7,7 @@ ghost use Rattle.rs_model.specs.declared.machines.State.TheVariants.{Takes};
 ghost use Rattle.rs_slots.specs.Places.{IsPair};
 ghost use Rattle.rs_rings.specs.Acts.{MayPut, parcels_sent};
 ghost use Rattle.rs_rings.specs.Asked.{IsCountOf, MayAct};
-ghost use Rattle.rs_rings.specs.Passes.{CanPut, CanPutOn, CanTake, PutOnTells, PutTells, TakeByTells, TakeTells};
+ghost use Rattle.rs_rings.specs.Passes.{CanPut, CanTake, PutTells, TakeByTells, TakeTells};
 ghost use Rattle.rs_rings.specs.Rows.{IsBetweenCalls};
 ghost use Rattle.rs_rings.specs.Rule.{machines_in_key};
 ghost use Rattle.rs_rings.specs.Views.{the_part};
@@ -15,7 +15,7 @@ ghost use Rattle.rs_rings.specs.Views.{the_part};
 use crate::answers::{Got, GotOn, Put, Took};
 use crate::rows::Rows;
 use crate::tables::{RingSeat, RingTable, next_of};
-use rs_model::{Arm, Role, Value};
+use rs_model::{Arm, Role};
 use rs_slots::Parcel;
 
 impl RingTable {
@@ -40,33 +40,6 @@ impl RingTable {
         let arms = self.arms_of(sender, counts.state);
         let next = next_of(arms, parcel.label);
         self.put_by(seat, rows, sender, receiver, counts.sent, parcel, next)
-    }
-
-    #[inline(always)]
-    pub fn put_on(
-        &self,
-        seat: &mut RingSeat,
-        rows: &mut Rows,
-        sender: Role,
-        place: u16,
-        value: Value,
-    ) -> Put
-        requires table { seat.old.table_id ≡ self.now.board.shared.table_id }
-        requires well_formed { AreWellFormed (machines_in_key self.now.board.shared.key) }
-        requires may { MayAct sender.0 seat.old.me rows.old.items }
-        requires can { CanPutOn (machines_in_key self.now.board.shared.key) sender.0 (the_part sender.0 seat.old.me.0.parts).state place value }
-        ensures table { seat.new.table_id ≡ seat.old.table_id }
-        ensures kept { IsBetweenCalls seat.new.me rows.new.items }
-        ensures told { PutOnTells (machines_in_key self.now.board.shared.key) self.now.layout.capacity sender.0 place value seat.old.me.0 seat.new.me.0 result }
-    {
-        let state = rows.state(sender);
-        let (receiver, arm) = self.sending_arm(sender, state, place);
-        let counts = rows.counts(sender, receiver);
-        let parcel = Parcel {
-            label: arm.label,
-            value,
-        };
-        self.put_by(seat, rows, sender, receiver, counts.sent, parcel, arm.next)
     }
 
     // A put by a sender that has sent so many parcels to the receiver, and stands in the state `next` behind it.

@@ -9,7 +9,7 @@ ghost use Rattle.rs_model.specs.declared.machines.State.TheVariants.{Done, Takes
 ghost use Rattle.rs_slots.specs.Places.{ring_count};
 ghost use Rattle.rs_rings.specs.Acts.{MayPut};
 ghost use Rattle.rs_rings.specs.Closed.{IsLeft, IsOver, loose_in};
-ghost use Rattle.rs_rings.specs.Passes.{CanPut, CanPutOn, CanTake, PutOnTells, PutTells, TakeByTells, TakeTells};
+ghost use Rattle.rs_rings.specs.Passes.{CanPut, CanTake, PutTells, TakeByTells, TakeTells};
 ghost use Rattle.rs_rings.specs.Views.{SpeaksFor, state_in, history_in, starting, view_without_role, alone, joint_view};
 
 use crate::answers::{Got, GotOn, Put};
@@ -18,7 +18,7 @@ use crate::loose::Loose;
 use crate::passes::Pass;
 use crate::rows::Rows;
 use crate::tables::RingTable;
-use rs_model::{Arm, Machine, NoMemory, Role, Value, copies_of};
+use rs_model::{Arm, Machine, NoMemory, Role, copies_of};
 use rs_slots::Parcel;
 use std::alloc::Global;
 use std::marker::Model;
@@ -111,23 +111,6 @@ impl Rings {
     {
         self.inner
             .put(&mut pass.seat, &mut pass.rows, sender, receiver, parcel)
-    }
-
-    /// Puts the value into the ring from `sender` to the peer of the state at which `sender` stands, by the arm at that place
-    /// of the state, from 0.
-    ///
-    /// The outcome is that of [`Rings::put`] of the parcel with the arm's label. No label is looked up.
-    #[inline(always)]
-    pub fn put_on(&self, pass: &mut Pass, sender: Role, place: u16, value: Value) -> Put
-        requires table { pass.old.table ≡ self.now.table }
-        requires speaks { SpeaksFor pass.old.view sender.0 }
-        requires can { CanPutOn self.now.machines sender.0 (state_in pass.old.view sender.0) place value }
-        requires acts { length (history_in pass.old.view sender.0) < 2 ^ 63 }
-        ensures table { pass.new.table ≡ pass.old.table }
-        ensures told { PutOnTells self.now.machines self.now.capacity sender.0 place value pass.old.view pass.new.view result }
-    {
-        self.inner
-            .put_on(&mut pass.seat, &mut pass.rows, sender, place, value)
     }
 
     /// Puts the parcel into the ring from `sender` to `receiver`, by an arm that leads to the state `next`.

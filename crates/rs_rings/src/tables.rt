@@ -13,7 +13,6 @@ ghost use Rattle.rs_slots.specs.Places.{IsPair, ring_count};
 ghost use Rattle.rs_rings.specs.Acts.{MayPut, MayTake, parcels_sent, parcels_got};
 ghost use Rattle.rs_rings.specs.Asked.{IsActCall, IsCountOf, IsIdleAt, IsLookCall, IsTakingAt};
 ghost use Rattle.rs_rings.specs.Closed.{IsClosedAs, loose_in};
-ghost use Rattle.rs_rings.specs.Passes.{PutsTo};
 ghost use Rattle.rs_rings.specs.Places.{head_word_of, tail_of, slot_place};
 ghost use Rattle.rs_rings.specs.Rows.{IsBetweenCalls};
 ghost use Rattle.rs_rings.specs.Rule.{machines_in_key, first_view};
@@ -411,18 +410,6 @@ impl RingTable {
                     next,
                 }
             }
-        }
-    }
-
-    /// The peer and the arm at that place, of a role that stands in that state and sends.
-    #[inline(always)]
-    pub fn sending_arm(&self, role: Role, state: u32, place: u16) -> (Role, Arm)
-        requires { (peer : Role) × (arm : Arm) × PutsTo (machines_in_key self.now.board.shared.key) role.0 state place peer arm }
-        ensures { PutsTo (machines_in_key self.now.board.shared.key) role.0 state place result.0 result.1 }
-    {
-        match &self.machines[role.0 as usize].states[state as usize] {
-            State::Puts { peer, arms } => (*peer, arms.as_slice()[place as usize]),
-            _ => unreachable!(),
         }
     }
 

@@ -5,12 +5,12 @@ ghost use Rattle.rs_core.specs.Configurations.{state_of};
 ghost use Rattle.rs_model.specs.declared.machines.State.TheVariants.{Done, Takes};
 ghost use Rattle.rs_rings.specs.Acts.{MayPut};
 ghost use Rattle.rs_rings.specs.Closed.{IsLeft, IsOver};
-ghost use Rattle.rs_rings.specs.Passes.{CanPut, CanPutOn, CanTake, PutOnTells, PutTells, TakeByTells, TakeTells};
+ghost use Rattle.rs_rings.specs.Passes.{CanPut, CanTake, PutTells, TakeByTells, TakeTells};
 ghost use Rattle.rs_rings.specs.Views.{SpeaksFor, history_in, starting, state_in};
 ghost use Rattle.rs_safety.specs.Accepting.{IsAcceptedSession};
 
 use crate::sessions::Session;
-use rs_model::{Arm, NoMemory, Role, Value};
+use rs_model::{Arm, NoMemory, Role};
 use rs_rings::{Closed, Got, GotOn, Pass, Put, Rings};
 use rs_safety::Accepted;
 use rs_slots::Parcel;
@@ -102,22 +102,6 @@ impl Ensemble {
         session
             .rings()
             .put(&mut self.pass, sender, receiver, parcel)
-    }
-
-    /// Sends the value from the role to the peer of the state at which the role stands, by the arm at that place of the state,
-    /// from 0. It looks once at their ring, and takes no memory.
-    ///
-    /// The outcome is that of [`Ensemble::put`] of the parcel with the arm's label. No label is looked up.
-    #[inline(always)]
-    pub fn put_on(&mut self, session: &Session, role: Role, arm: u16, value: Value) -> Put
-        requires table { self.old.table ≡ session.now.table }
-        requires speaks { SpeaksFor self.old.view role.0 }
-        requires can { CanPutOn session.now.machines role.0 (state_in self.old.view role.0) arm value }
-        requires acts { length (history_in self.old.view role.0) < 2 ^ 63 }
-        ensures table { self.new.table ≡ self.old.table }
-        ensures told { PutOnTells session.now.machines session.now.capacity role.0 arm value self.old.view self.new.view result }
-    {
-        session.rings().put_on(&mut self.pass, role, arm, value)
     }
 
     /// Sends the parcel from `sender` to `receiver`, by an arm that leads to the state `next`. It looks once at their ring, and

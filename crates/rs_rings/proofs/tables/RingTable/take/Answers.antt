@@ -3,7 +3,7 @@ use Rattle.rs_model.specs.Data.{Machine_data}
 use Rattle.rs_core.specs.Configurations.{state_of}
 use Rattle.rs_rings.specs.Rule.{machines_in_key}
 use Rattle.rs_rings.proofs.ByLabel.{arms_read, takes_some}
-use Rattle.rs_rings.proofs.ByPlace.{state_read}
+use Rattle.rs_rings.proofs.StatesRead.{state_read}
 use Rattle.rs_rings.proofs.tables.RingTable.take.Goals as goal
 
 pub arms_of-arms-requires : goal.arms_of-arms-requires

@@ -1,0 +1,6 @@
+mod Beginning
+mod Gathering
+mod Keeping
+mod Places
+mod Received
+mod Spent

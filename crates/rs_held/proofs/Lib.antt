@@ -1,0 +1,4 @@
+pub mod Keeping
+pub mod Roles
+pub mod Setting
+pub mod Telling

@@ -1,0 +1,7 @@
+pub mod Copies
+pub mod Kinds
+pub mod Messages
+pub mod Monitors
+pub mod Names
+pub mod States
+pub mod Statuses

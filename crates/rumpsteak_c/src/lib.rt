@@ -1,0 +1,9 @@
+//! Rumpsteak for programs in C, and in whatever calls C. `bindings/c/rumpsteak.h` declares these functions, and says what their
+//! callers keep.
+#![tactic(auto)]
+
+mod endpoints;
+mod monitors;
+mod sessions;
+mod texts;
+mod versions;
