@@ -98,7 +98,7 @@ def played(program, capacity, paths):
     return found
 
 
-def main(program, count='300'):
+def main(program, count='500'):
     texts = random_documents(int(count)) + documents_of_bench() + [path.read_text() for path in sorted((TOP / 'examples').glob('*.txt'))]
     counts, acts_made = collections.Counter(), 0
     with tempfile.TemporaryDirectory() as folder:
