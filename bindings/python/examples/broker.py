@@ -1,129 +1,137 @@
-"""Three processes over a broker: a client, a travel agency and a bank exchange messages through lists of Redis.
+"""Double buffering by three processes over a broker, Redis: one list for each ordered pair of roles. Each process has the monitor of its
+role, so that what `check` promises of the machines holds of the processes.
 
-Each ordered pair of roles has a list of its own: the sender pushes at one end, the receiver takes from the other. So no list
-loses or reorders messages. Each process has a monitor of its role.
+    python broker.py
 
-    python3 broker.py                 starts a Redis server on a free port of this machine, and the three processes
-    python3 broker.py ROLE PORT       plays one role over the server at this port
+It starts a redis-server of its own on a free port of this machine, if one is installed."""
 
-It needs Redis and its Python package (Debian: redis-server, python3-redis). Where they aren't installed it says so.
-"""
-
-import json
-import os
+import multiprocessing
 import shutil
 import socket
 import subprocess
-import sys
-import tempfile
 import time
 
 import rumpsteak
 
-try:
-    import redis
-except ImportError:
-    redis = None
-
 TEXT = """
-roles Client, Agency, Bank
-protocol
-  rec X. Client->Agency{
-    ask(nat). Agency->Client:price(nat). X,
-    book(). Agency->Bank:charge(nat). Bank->Client:paid(). end,
-    leave(). Agency->Bank:nothing(). Bank->Client:bye(). end
-  }
+roles K, S, T
+protocol rec X. K->S:ready(). T->K:ready(). S->K{copy(bytes). K->T:copy(bytes). X, stop(). K->S:ready(). K->T:stop(). end}
+machine K: S!ready(). rec X. S!ready(). T?ready(). S?{copy(bytes). T!copy(bytes). X, stop(). T!stop(). end}
 """
 
 
-class Post:
-    """A role's post office: what goes out is pushed to the list of its receiver, what comes in is taken from that of its sender."""
+class Redis:
+    """A connection to the broker, with as much of its protocol as is needed here."""
+
+    def __init__(self, port):
+        self.socket = socket.create_connection(("127.0.0.1", port))
+        self.file = self.socket.makefile("rb")
+
+    def call(self, *words):
+        self.socket.sendall(b"*%d\r\n" % len(words) + b"".join(b"$%d\r\n%s\r\n" % (len(word), word) for word in words))
+        return self.reply()
+
+    def reply(self):
+        line = self.file.readline()
+        if not line or line[:1] == b"-":
+            raise ConnectionError(line.decode() or "the broker is gone")
+        if line[:1] == b"*":
+            return [self.reply() for _ in range(int(line[1:]))]
+        if line[:1] == b"$":
+            return self.file.read(int(line[1:]) + 2)[:-2]
+        return line[1:-2]
+
+
+class Line:
+    """The lists between a role and all others, with the role's monitor. In a list a message is its label, a zero byte, and its bytes."""
 
     def __init__(self, role, port):
-        self.monitor, self.role = rumpsteak.Monitor(TEXT, role), role
-        self.server = redis.Redis(port=port)
+        self.role, self.broker, self.monitor = role, Redis(port), rumpsteak.Monitor(TEXT, role)
 
     def send(self, peer, label, value=None):
         self.monitor.sent(peer, label, value)
-        self.server.rpush("%s to %s" % (self.role, peer), json.dumps([label, value]))
+        self.broker.call(b"RPUSH", b"%s to %s" % (self.role.encode(), peer.encode()), label.encode() + b"\0" + (value or b""))
 
-    def receive(self, peer):
-        _, text = self.server.blpop(["%s to %s" % (peer, self.role)])
-        label, value = json.loads(text)
-        self.monitor.received(peer, label, value)
-        return label, value
-
-
-def client(post):
-    for journey in (3, 2, 1):
-        post.send("Agency", "ask", journey)
-        _, price = post.receive("Agency")
-        print("Client: journey %d costs %d" % (journey, price))
-        if price <= 200:
-            post.send("Agency", "book")
-            break
-    else:
-        post.send("Agency", "leave")
-    print("Client: %s" % post.receive("Bank")[0])
+    def receive(self):
+        state = self.monitor.state
+        message = self.broker.call(b"BLPOP", b"%s to %s" % (state.peer.encode(), self.role.encode()), b"0")[1]
+        label, _, value = message.partition(b"\0")
+        arm = next((arm for arm in state.arms if arm.label == label.decode()), None)
+        value = value if arm is None or arm.sort == "bytes" else None
+        self.monitor.received(state.peer, label.decode(), value)
+        return label.decode(), value
 
 
-def agency(post):
-    price = 0
+def kernel(port):
+    line = Line("K", port)
+    line.send("S", "ready")
     while True:
-        label, journey = post.receive("Client")
-        if label == "book":
-            return post.send("Bank", "charge", price)
-        if label == "leave":
-            return post.send("Bank", "nothing")
-        price = 100 * journey
-        post.send("Client", "price", price)
+        line.send("S", "ready")
+        line.receive()  # the sink's `ready`
+        label, piece = line.receive()
+        if label == "stop":
+            break
+        line.send("T", "copy", piece.upper())
+    line.send("T", "stop")
 
 
-def bank(post):
-    label, _ = post.receive("Agency")
-    post.send("Client", "paid" if label == "charge" else "bye")
+def source(port):
+    line = Line("S", port)
+    line.receive()
+    for piece in (b"three", b"processes", b"and", b"a", b"broker"):
+        line.send("K", "copy", piece)
+        line.receive()
+    line.send("K", "stop")
+    line.receive()
 
 
-ROLES = {"Client": client, "Agency": agency, "Bank": bank}
-
-
-def play(role, port):
-    post = Post(role, port)
-    ROLES[role](post)
-    print("%s: %d acts, ended: %s" % (role, post.monitor.acts, post.monitor.has_ended))
+def sink(port):
+    line = Line("T", port)
+    while True:
+        line.send("K", "ready")
+        label, piece = line.receive()
+        if label == "stop":
+            return
+        print(piece.decode(), flush=True)
 
 
 def free_port():
-    with socket.socket() as probe:
-        probe.bind(("127.0.0.1", 0))
-        return probe.getsockname()[1]
+    with socket.socket() as listening:
+        listening.bind(("127.0.0.1", 0))
+        return listening.getsockname()[1]
+
+
+def wait_for(port):
+    for _ in range(500):
+        try:
+            return Redis(port)
+        except OSError:
+            time.sleep(0.01)
+    raise SystemExit("the broker doesn't answer")
 
 
 def main():
-    if redis is None or not shutil.which("redis-server"):
-        print("broker: Redis or its Python package isn't installed (Debian: redis-server, python3-redis)")
-        return 0
+    program = shutil.which("redis-server")
+    if program is None:
+        print("redis-server isn't on this machine: nothing was played")
+        return
     port = free_port()
-    with tempfile.TemporaryDirectory() as folder:
-        server = subprocess.Popen(
-            ["redis-server", "--port", str(port), "--bind", "127.0.0.1", "--save", "", "--dir", folder], stdout=subprocess.DEVNULL)
-        try:
-            for _ in range(100):
-                try:
-                    redis.Redis(port=port).ping()
-                    break
-                except redis.ConnectionError:
-                    time.sleep(0.05)
-            players = {role: subprocess.Popen([sys.executable, os.path.abspath(__file__), role, str(port)], stdout=subprocess.PIPE, text=True)
-                       for role in ROLES}
-            told = {role: player.communicate(timeout=60)[0] for role, player in players.items()}
-            for role in ROLES:
-                print(told[role], end="")
-            return max(player.returncode for player in players.values())
-        finally:
-            server.terminate()
-            server.wait()
+    words = [program, "--port", str(port), "--bind", "127.0.0.1", "--save", "", "--appendonly", "no"]
+    broker = subprocess.Popen(words, stdout=subprocess.DEVNULL)
+    try:
+        wait_for(port)
+        context = multiprocessing.get_context("spawn")
+        processes = [context.Process(target=play, args=(port,)) for play in (kernel, source, sink)]
+        for process in processes:
+            process.start()
+        for process in processes:
+            process.join(60)
+        if any(process.exitcode != 0 for process in processes):
+            raise SystemExit("a process failed")
+    finally:
+        broker.terminate()
+        broker.wait()
 
 
 if __name__ == "__main__":
-    sys.exit(play(sys.argv[1], int(sys.argv[2])) if len(sys.argv) == 3 else main())
+    main()

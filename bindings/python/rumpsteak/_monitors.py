@@ -1,0 +1,121 @@
+"""Monitors, for programs that have queues of their own."""
+
+import threading
+from ctypes import byref
+from types import TracebackType
+from typing import Optional, Tuple, Type
+
+from ._answers import Refused, RumpsteakError, refusal
+from ._library import CALLS, FINE, KINDS, NAT, UNKNOWN, Handle, names_of, number_at
+from ._states import Sendable, State, kind_of, state_at
+
+_REASONS = {
+    22: "unknown name",
+    32: "another peer",
+    33: "state receives",
+    34: "state sends",
+    35: "no such label",
+    36: "another sort",
+    37: "has ended",
+}
+
+
+class Departure(RumpsteakError):
+    """An act that the role's machine doesn't have in its state. `reason` is the first of these that applies: unknown name, has ended, another
+    peer, state receives, state sends, no such label, another sort. `state` is what the role may do."""
+
+    def __init__(self, reason: str, state: State, text: str) -> None:
+        super().__init__(text)
+        self.reason = reason
+        self.state = state
+
+
+class Monitor:
+    """Watches one role's program, which sends and receives over queues of its own: queue.Queue, asyncio.Queue, sockets, a broker.
+
+    The program calls `sent` before each message that it puts into a queue, and `received` after each that it took from one. An act that the
+    machine doesn't have raises Departure, and changes nothing. If all programs go through their monitors, and there is one queue for each
+    ordered pair of roles, which neither loses nor reorders messages and holds at least `room` of them, then what `check` promises of the
+    machines holds of the programs.
+
+    >>> camera = Monitor("roles A, B protocol A->B:hello(nat). B->A:done(). end", "A")
+    >>> camera.sent("B", "hello", 7)
+    >>> camera.sent("B", "hello", 7)
+    Traceback (most recent call last):
+    rumpsteak.Departure: A can't send hello(nat) to B now: its state is B?{done()}
+    """
+
+    def __init__(self, text: str, role: str) -> None:
+        self._handle = Handle()
+        data, name, left = text.encode(), role.encode(), Handle()
+        status = CALLS["monitor_open"](data, len(data), name, len(name), byref(self._handle), byref(left))
+        if status == UNKNOWN:
+            raise Refused(3, "the text has no role %s\n" % role)
+        if status != FINE:
+            raise refusal(status, text, left)
+        self._lock = threading.Lock()
+        self.role = role
+        self.roles: Tuple[str, ...] = names_of(self._handle, "monitor_role_name")
+        self.labels: Tuple[str, ...] = names_of(self._handle, "monitor_label_name")
+        self.room: int = number_at(self._handle, "monitor_room")
+        self._role_numbers = {name: number for number, name in enumerate(self.roles)}
+        self._label_numbers = {name: number for number, name in enumerate(self.labels)}
+
+    @property
+    def state(self) -> State:
+        """What the program may do next."""
+        with self._lock:
+            return state_at(self._handle, "monitor_", self.roles, self.labels)
+
+    @property
+    def has_ended(self) -> bool:
+        return self.state.ended
+
+    @property
+    def acts(self) -> int:
+        """How many acts were let through."""
+        with self._lock:
+            return number_at(self._handle, "monitor_acts")
+
+    def may_send(self, peer: str, label: str, value: Sendable = None) -> bool:
+        """Whether the program may send this message now; nothing changes."""
+        return self._judge("may_send", peer, label, value) == FINE
+
+    def sent(self, peer: str, label: str, value: Sendable = None) -> None:
+        """Lets a send through: call it before the message goes into the queue."""
+        self._must("sent", peer, label, value)
+
+    def received(self, peer: str, label: str, value: Sendable = None) -> None:
+        """Reports a message that was taken from the queue from that peer."""
+        self._must("received", peer, label, value)
+
+    def close(self) -> None:
+        """Frees the monitor."""
+        with self._lock:
+            CALLS["monitor_close"](byref(self._handle))
+
+    def __enter__(self) -> "Monitor":
+        return self
+
+    def __exit__(self, kind: Optional[Type[BaseException]], error: Optional[BaseException], trace: Optional[TracebackType]) -> None:
+        self.close()
+
+    def __del__(self) -> None:
+        CALLS["monitor_close"](byref(self._handle))
+
+    def _judge(self, call: str, peer: str, label: str, value: Sendable) -> int:
+        role, number, kind = self._role_numbers.get(peer), self._label_numbers.get(label), kind_of(value)
+        if role is None or number is None:
+            return UNKNOWN
+        with self._lock:
+            return CALLS["monitor_" + call](byref(self._handle), role, number, kind, value if kind == NAT else 0)
+
+    def _must(self, call: str, peer: str, label: str, value: Sendable) -> None:
+        status = self._judge(call, peer, label, value)
+        if status != FINE:
+            if status not in _REASONS:
+                raise RumpsteakError("the monitor is closed")
+            sort, state = KINDS[kind_of(value)], self.state
+            act = "%s(%s)" % (label, "" if sort == "unit" else sort)
+            act = "send %s to %s" % (act, peer) if call == "sent" else "receive %s from %s" % (act, peer)
+            raise Departure(_REASONS[status], state, "%s can't %s now: its state is %s" % (self.role, act, state))

@@ -1,0 +1,226 @@
+//! Answers to texts: what the program `rumpsteak` prints, and why a text is refused.
+use crate::raw::{self, Handle};
+use std::error::Error;
+use std::fmt;
+
+/// A text that a call of the library left.
+pub(crate) struct TextHandle {
+    pub raw: Handle,
+}
+
+impl TextHandle {
+    pub fn closed() -> TextHandle {
+        TextHandle { raw: Handle::closed() }
+    }
+
+    /// The text, or nothing if no call left one.
+    pub fn text(&mut self) -> String {
+        let (mut out, mut written) = (Vec::new(), 0);
+        loop {
+            // SAFETY: the handle is ours alone; `out` has room for its length, and `written` is a place of ours.
+            match unsafe { raw::rumpsteak_text(&mut self.raw, out.as_mut_ptr(), out.len(), &mut written) } {
+                raw::FINE => return String::from_utf8_lossy(&out).into_owned(),
+                raw::TOO_SMALL => out.resize(written, 0),
+                _ => return String::new(),
+            }
+        }
+    }
+}
+
+impl Drop for TextHandle {
+    fn drop(&mut self) {
+        // SAFETY: the handle is ours alone, and nobody uses it after this.
+        unsafe { raw::rumpsteak_text_close(&mut self.raw) };
+    }
+}
+
+/// What the program `rumpsteak` answers: its status, and the text that it prints.
+#[derive(Clone, Debug, PartialEq, Eq)]
+pub struct Answer {
+    /// 0 is success; [`RefusalKind`] has the others.
+    pub status: u32,
+    pub text: String,
+}
+
+/// What the program `rumpsteak` prints if it is called with these words and reads this text, and its status.
+///
+/// For words without a function of their own, such as `run`, `project`, `verify` or `show`:
+///
+/// ```
+/// let answer = rumpsteak::ask(&["project"], "roles A, B protocol A->B:hello(nat). end");
+/// assert_eq!(answer.status, 0);
+/// assert!(answer.text.starts_with("table A {\n0 B!{hello(nat) 1}\n"));
+/// ```
+pub fn ask(words: &[&str], text: &str) -> Answer {
+    let words = words.join("\0");
+    let mut answer = TextHandle::closed();
+    // SAFETY: the pointers are those of slices, and the handle is ours alone.
+    let status = unsafe { raw::rumpsteak_ask(words.as_ptr(), words.len(), text.as_ptr(), text.len(), &mut answer.raw) };
+    Answer { status, text: if status == raw::NO_MEMORY { String::new() } else { answer.text() } }
+}
+
+/// Checks the text's session: whether its machines can go wrong together.
+///
+/// A report means that in every configuration that the machines can reach over unbounded first-in-first-out queues, no machine
+/// finds a message that it doesn't take at the head of the queue it reads, and either some machine can step, or all have ended
+/// with every queue empty. This is proved of the library. A refused session may still be safe.
+///
+/// ```
+/// let report = rumpsteak::check("roles A, B protocol rec X. A->B:ping(). B->A:pong(). X").unwrap();
+/// assert_eq!(report.room(), 3);
+///
+/// let refusal = rumpsteak::check("roles A, B, C protocol A->B{x(). C->A:y(). end, z(). end}").unwrap_err();
+/// assert_eq!(refusal.role(), Some("C"));
+/// ```
+pub fn check(text: &str) -> Result<Report, Refusal> {
+    report(ask(&["check"], text))
+}
+
+/// Checks as [`check`] does, and says why: where a machine breaks which rule, by line and column, or how far it is ahead.
+///
+/// ```
+/// let text = "roles A, B
+/// protocol A->B:x(). B->A:y(). end
+/// machine A: B?y(). B!x(). end";
+/// let refusal = rumpsteak::explain(text).unwrap_err();
+/// assert_eq!(refusal.role(), Some("A"));
+/// assert!(refusal.text().lines().count() > 2);
+/// ```
+pub fn explain(text: &str) -> Result<Report, Refusal> {
+    report(ask(&["explain"], text))
+}
+
+/// Moves sends of the role ahead of its receives, as often as is asked: the document with the machine that results, and with a
+/// derivation of each role.
+///
+/// ```
+/// let text = "roles A, B protocol rec X. A->B:ping(). B->A:pong(). X";
+/// let improved = rumpsteak::improve("B", 1, text).unwrap();
+/// assert!(improved.starts_with("# B: swaps 1, asked\n"));
+/// assert!(rumpsteak::check(&improved).is_ok());
+/// ```
+pub fn improve(role: &str, swaps: u32, text: &str) -> Result<String, Refusal> {
+    let answer = ask(&["improve", role, "--swaps", &swaps.to_string()], text);
+    if answer.status == raw::FINE {
+        Ok(answer.text)
+    } else {
+        Err(Refusal::of(answer))
+    }
+}
+
+fn report(answer: Answer) -> Result<Report, Refusal> {
+    if answer.status == raw::FINE {
+        Ok(Report { text: answer.text })
+    } else {
+        Err(Refusal::of(answer))
+    }
+}
+
+/// What `check` or `explain` reports of an accepted text.
+#[derive(Clone, Debug, PartialEq, Eq)]
+pub struct Report {
+    text: String,
+}
+
+impl Report {
+    /// The lines that the program prints.
+    pub fn text(&self) -> &str {
+        &self.text
+    }
+
+    /// Queues for this number of messages are always enough.
+    pub fn room(&self) -> u64 {
+        self.text.lines().find_map(|line| line.strip_prefix("room ")).and_then(|room| room.parse().ok()).unwrap_or(0)
+    }
+}
+
+impl fmt::Display for Report {
+    fn fmt(&self, f: &mut fmt::Formatter<'_>) -> fmt::Result {
+        f.write_str(&self.text)
+    }
+}
+
+/// Why a text is refused, in one word.
+#[derive(Clone, Copy, Debug, PartialEq, Eq, Hash)]
+#[non_exhaustive]
+pub enum RefusalKind {
+    /// Some role's machine is refused.
+    Refused,
+    /// The words are none of the program's.
+    Usage,
+    /// The text is at fault, or has no such role.
+    Malformed,
+    /// The protocol has no projection onto some role.
+    Unprojectable,
+    /// A quantity passes its limit.
+    TooLarge,
+    /// Memory ran out; this says nothing of the text.
+    NoMemory,
+    /// Another status, which only [`ask`] answers: those of the words `run` and `demo`.
+    Other(u32),
+}
+
+/// Why a text is refused: what the program prints, and for which role.
+#[derive(Clone, Debug, PartialEq, Eq)]
+pub struct Refusal {
+    kind: RefusalKind,
+    text: String,
+}
+
+impl Refusal {
+    pub(crate) fn of(answer: Answer) -> Refusal {
+        let kind = match answer.status {
+            1 => RefusalKind::Refused,
+            2 => RefusalKind::Usage,
+            3 => RefusalKind::Malformed,
+            4 => RefusalKind::Unprojectable,
+            5 => RefusalKind::TooLarge,
+            raw::NO_MEMORY => RefusalKind::NoMemory,
+            other => RefusalKind::Other(other),
+        };
+        let text = if kind == RefusalKind::NoMemory { "memory ran out\n".to_owned() } else { answer.text };
+        Refusal { kind, text }
+    }
+
+    /// The refusal of a text that isn't opened, in the words of `explain` if they can be had.
+    pub(crate) fn of_opening(status: u32, mut refusal: TextHandle, text: &str) -> Refusal {
+        if status == raw::NO_MEMORY {
+            return Refusal::of(Answer { status, text: String::new() });
+        }
+        let answer = ask(&["explain"], text);
+        if answer.status == status {
+            return Refusal::of(answer);
+        }
+        Refusal::of(Answer { status, text: refusal.text() })
+    }
+
+    pub(crate) fn of_role(role: &str) -> Refusal {
+        Refusal { kind: RefusalKind::Malformed, text: format!("the text has no role {role}\n") }
+    }
+
+    /// Why, in one word.
+    pub fn kind(&self) -> RefusalKind {
+        self.kind
+    }
+
+    /// The role whose machine, or whose projection, is at fault.
+    pub fn role(&self) -> Option<&str> {
+        match self.kind {
+            RefusalKind::Refused | RefusalKind::Unprojectable => self.text.lines().nth(1)?.split_once(": ").map(|(role, _)| role),
+            _ => None,
+        }
+    }
+
+    /// The lines that the program prints.
+    pub fn text(&self) -> &str {
+        &self.text
+    }
+}
+
+impl fmt::Display for Refusal {
+    fn fmt(&self, f: &mut fmt::Formatter<'_>) -> fmt::Result {
+        f.write_str(self.text.trim_end())
+    }
+}
+
+impl Error for Refusal {}

@@ -1,0 +1,47 @@
+//! What monitors let through, and why they refuse.
+use rumpsteak::{Monitor, Reason, RefusalKind, Value};
+
+const FILM: &str = "roles Camera, Screen, Audience
+protocol rec X. Screen->Camera:ready(). Camera->Screen{frame(nat). Screen->Audience:shown(). X, over(). Screen->Audience:over(). end}";
+
+#[test]
+fn a_monitor_lets_through_what_its_machine_does() {
+    let mut screen = Monitor::open(FILM, "Screen").unwrap();
+    assert_eq!(screen.state().to_string(), "Camera!{ready()}");
+    screen.may_send("Camera", "ready", &Value::Unit).unwrap();
+    assert_eq!(screen.acts(), 0);
+    screen.sent("Camera", "ready", &Value::Unit).unwrap();
+    screen.received("Camera", "frame", &Value::Nat(3)).unwrap();
+    screen.sent("Audience", "shown", &Value::Unit).unwrap();
+    screen.sent("Camera", "ready", &Value::Unit).unwrap();
+    let (camera, over) = (screen.role_of("Camera").unwrap(), screen.label("over").unwrap());
+    screen.received(camera, over, &Value::Unit).unwrap();
+    screen.sent("Audience", over, &Value::Unit).unwrap();
+    assert!(screen.has_ended());
+    assert_eq!((screen.acts(), screen.role()), (6, "Screen"));
+    assert!(screen.room() > 0);
+}
+
+#[test]
+fn a_refusal_gives_the_first_reason_and_changes_nothing() {
+    let mut screen = Monitor::open(FILM, "Screen").unwrap();
+    let mut reason = |peer: &str, label: &str, value: Value| screen.sent(peer, label, &value).unwrap_err().reason();
+    assert_eq!(reason("Audience", "shown", Value::Unit), Reason::AnotherPeer);
+    assert_eq!(reason("Camera", "frame", Value::Nat(1)), Reason::NoSuchLabel);
+    assert_eq!(reason("Camera", "ready", Value::Nat(1)), Reason::AnotherSort);
+    assert_eq!(reason("Camera", "click", Value::Unit), Reason::UnknownName);
+    assert_eq!(reason("Cinema", "ready", Value::Unit), Reason::UnknownName);
+    assert_eq!(screen.received("Camera", "frame", &Value::Nat(1)).unwrap_err().reason(), Reason::StateSends);
+    screen.sent("Camera", "ready", &Value::Unit).unwrap();
+    assert_eq!(screen.sent("Camera", "ready", &Value::Unit).unwrap_err().reason(), Reason::StateReceives);
+    assert_eq!(screen.received("Camera", "frame", &Value::Nat(u64::MAX)).unwrap_err().reason(), Reason::AnotherSort);
+    screen.received("Camera", "frame", &Value::Int(1)).unwrap();
+    assert_eq!(screen.acts(), 2);
+}
+
+#[test]
+fn a_text_that_is_refused_has_no_monitor() {
+    assert_eq!(Monitor::open(FILM, "Cinema").unwrap_err().kind(), RefusalKind::Malformed);
+    let refusal = Monitor::open("roles A, B protocol A->B:x(). B->A:y(). end machine A: B?y(). B!x(). end", "B").unwrap_err();
+    assert_eq!((refusal.kind(), refusal.role()), (RefusalKind::Refused, Some("A")));
+}
