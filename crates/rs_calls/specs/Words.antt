@@ -1,4 +1,4 @@
--- Headline: words in one piece of bytes.
+-- Public: words in one piece of bytes.
 use Rattle.std.specs.Prelude.{◌≡◌, ℕ, List, [], ◌∷◌, ◌==◌, IsUtf8, Some, slice_get}
 use Rattle.std.specs.List.{slice_split}
 
