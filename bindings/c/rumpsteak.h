@@ -155,10 +155,11 @@ typedef struct {
 } rumpsteak_text_handle;
 
 /* Leaves behind `answer` what the program `rumpsteak` prints to these words and this standard input, and answers its status. `words` are
- * without the program's name, with a zero byte between two of them: "check", or "improve\0ROLE". Statuses: 0 to 11, and
- * RUMPSTEAK_NEEDS_WORKERS, where the text is the program's too; with RUMPSTEAK_NO_MEMORY `answer` may hold a part of the text, or be as it was.
+ * without the program's name, with a zero byte between two of them: "check", or "improve\0ROLE". Statuses: 0 to 11, with all that the
+ * program prints. There is no answer, and nothing has changed, with RUMPSTEAK_NO_MEMORY; with RUMPSTEAK_NEEDS_WORKERS; and with
+ * RUMPSTEAK_USAGE where a word isn't UTF-8.
  *
- * If the words are those of a `check` and the status is RUMPSTEAK_FINE, the machines of the text are safe: in every configuration that
+ * If the words are those of a `check`, an `explain` or a `verify`, and the status is RUMPSTEAK_FINE, the machines of the text are safe: in every configuration that
  * they can reach over unbounded queues no machine finds a message that it doesn't take at the head of the queue it reads, and either
  * some machine can step, or all have ended with every queue empty. */
 uint32_t rumpsteak_ask(const uint8_t *words, size_t words_len, const uint8_t *text, size_t text_len, rumpsteak_text_handle *answer);
@@ -283,7 +284,7 @@ uint32_t rumpsteak_monitor_arm(rumpsteak_monitor *monitor, uint32_t place, uint3
 
 /* Whether the program may send the message now; nothing changes. `kind` is that of its value (enum rumpsteak_kind), and `natural` the value
  * where it is a nat, 0 else. RUMPSTEAK_FINE, or the first reason why not (RUMPSTEAK_ANOTHER_PEER to RUMPSTEAK_HAS_ENDED); RUMPSTEAK_UNKNOWN: the peer,
- * the label or the kind is no such number. */
+ * the label or the kind is no such number; RUMPSTEAK_NO_MEMORY comes for RUMPSTEAK_LIST alone. */
 uint32_t rumpsteak_monitor_may_send(rumpsteak_monitor *monitor, uint32_t peer, uint32_t label, uint32_t kind, uint64_t natural);
 
 /* Lets a send through: with RUMPSTEAK_FINE the machine has moved on, and the program may put the message into its queue to the peer. With another

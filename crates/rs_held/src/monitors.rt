@@ -92,12 +92,7 @@ pub fn room(alloc: Global, monitor: &mut MonitorHandle, room: &mut u64) -> CallS
 }
 
 /// Tells the number of the role with this name.
-pub fn role(
-    alloc: Global,
-    monitor: &mut MonitorHandle,
-    name: &[u8],
-    role: &mut u32,
-) -> CallStatus
+pub fn role(alloc: Global, monitor: &mut MonitorHandle, name: &[u8], role: &mut u32) -> CallStatus
     ensures { Reads monitor.old.value monitor.new.value (role.new ≡ role.old) (λ held. NumberTells held.opened.names.roles name.now role.old role.new result) result }
 {
     match monitor.take(alloc) {
@@ -111,12 +106,7 @@ pub fn role(
 }
 
 /// Tells the number of the label with this name.
-pub fn label(
-    alloc: Global,
-    monitor: &mut MonitorHandle,
-    name: &[u8],
-    label: &mut u32,
-) -> CallStatus
+pub fn label(alloc: Global, monitor: &mut MonitorHandle, name: &[u8], label: &mut u32) -> CallStatus
     ensures { Reads monitor.old.value monitor.new.value (label.new ≡ label.old) (λ held. NumberTells held.opened.names.labels name.now label.old label.new result) result }
 {
     match monitor.take(alloc) {
@@ -287,7 +277,14 @@ pub fn received(
 {
     match monitor.take(alloc) {
         Some(mut held) => {
-            let status = rs_numbered::received(alloc, &mut held.monitor, peer, label, kind, natural);
+            let status = rs_numbered::received(
+                alloc,
+                &mut held.monitor,
+                peer,
+                label,
+                kind,
+                natural,
+            );
             monitor.put(held);
             status
         }

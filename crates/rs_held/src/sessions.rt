@@ -95,12 +95,7 @@ pub fn room(alloc: Global, session: &mut SessionHandle, room: &mut u64) -> CallS
 }
 
 /// Tells the number of the role with this name.
-pub fn role(
-    alloc: Global,
-    session: &mut SessionHandle,
-    name: &[u8],
-    role: &mut u32,
-) -> CallStatus
+pub fn role(alloc: Global, session: &mut SessionHandle, name: &[u8], role: &mut u32) -> CallStatus
     ensures { Reads session.old.value session.new.value (role.new ≡ role.old) (λ begun. NumberTells begun.opened.names.roles name.now role.old role.new result) result }
 {
     match session.take(alloc) {
@@ -114,12 +109,7 @@ pub fn role(
 }
 
 /// Tells the number of the label with this name.
-pub fn label(
-    alloc: Global,
-    session: &mut SessionHandle,
-    name: &[u8],
-    label: &mut u32,
-) -> CallStatus
+pub fn label(alloc: Global, session: &mut SessionHandle, name: &[u8], label: &mut u32) -> CallStatus
     ensures { Reads session.old.value session.new.value (label.new ≡ label.old) (λ begun. NumberTells begun.opened.names.labels name.now label.old label.new result) result }
 {
     match session.take(alloc) {

@@ -18,12 +18,7 @@ pub(crate) fn kept(alloc: Global, text: &[u8]) -> Result<Box<KeptText>, NoMemory
 }
 
 /// Hands out the text.
-pub fn copy(
-    alloc: Global,
-    text: &mut TextHandle,
-    out: &mut [u8],
-    written: &mut usize,
-) -> CallStatus
+pub fn copy(alloc: Global, text: &mut TextHandle, out: &mut [u8], written: &mut usize) -> CallStatus
     ensures { Reads text.old.value text.new.value ((out.new ≡ out.old) × (written.new ≡ written.old)) (λ held. CopyTells held.bytes.items out.old out.new written.new result) result }
 {
     match text.take(alloc) {

@@ -162,10 +162,7 @@ pub extern "C" fn rumpsteak_list(
 
 /// Gives the role up, and frees the endpoint.
 #[unsafe(no_mangle)]
-pub extern "C" fn rumpsteak_leave(
-    alloc: Global,
-    endpoint: &mut EndpointHandle,
-) -> u32
+pub extern "C" fn rumpsteak_leave(alloc: Global, endpoint: &mut EndpointHandle) -> u32
     ensures { Answers result (λ status. Closes endpoint.old.value endpoint.new.value status) }
 {
     endpoints::leave(alloc, endpoint).number()

@@ -2,6 +2,7 @@
 //! callers keep.
 #![tactic(auto)]
 
+mod answers;
 mod endpoints;
 mod monitors;
 mod sessions;

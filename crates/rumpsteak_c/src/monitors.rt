@@ -184,10 +184,7 @@ pub extern "C" fn rumpsteak_monitor_acts(
 
 /// Frees the monitor.
 #[unsafe(no_mangle)]
-pub extern "C" fn rumpsteak_monitor_close(
-    alloc: Global,
-    monitor: &mut MonitorHandle,
-) -> u32
+pub extern "C" fn rumpsteak_monitor_close(alloc: Global, monitor: &mut MonitorHandle) -> u32
     ensures { Answers result (λ status. Closes monitor.old.value monitor.new.value status) }
 {
     monitors::close(alloc, monitor).number()

@@ -28,11 +28,7 @@ pub extern "C" fn rumpsteak_open(
 
 /// Tells the session's room.
 #[unsafe(no_mangle)]
-pub extern "C" fn rumpsteak_room(
-    alloc: Global,
-    session: &mut SessionHandle,
-    room: &mut u64,
-) -> u32
+pub extern "C" fn rumpsteak_room(alloc: Global, session: &mut SessionHandle, room: &mut u64) -> u32
     ensures { Answers result (λ status. Reads session.old.value session.new.value (room.new ≡ room.old) (λ begun. (status ≡ Fine) × (room.new ≡ room_of begun.opened.session.derivations)) status) }
 {
     sessions::room(alloc, session, room).number()
@@ -107,10 +103,7 @@ pub extern "C" fn rumpsteak_endpoint_of(
 
 /// Frees the session, with the endpoints that weren't handed out.
 #[unsafe(no_mangle)]
-pub extern "C" fn rumpsteak_close(
-    alloc: Global,
-    session: &mut SessionHandle,
-) -> u32
+pub extern "C" fn rumpsteak_close(alloc: Global, session: &mut SessionHandle) -> u32
     ensures { Answers result (λ status. Closes session.old.value session.new.value status) }
 {
     sessions::close(alloc, session).number()

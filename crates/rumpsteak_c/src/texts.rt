@@ -23,10 +23,7 @@ pub extern "C" fn rumpsteak_text(
 
 /// Frees the text.
 #[unsafe(no_mangle)]
-pub extern "C" fn rumpsteak_text_close(
-    alloc: Global,
-    text: &mut TextHandle,
-) -> u32
+pub extern "C" fn rumpsteak_text_close(alloc: Global, text: &mut TextHandle) -> u32
     ensures { Answers result (λ status. Closes text.old.value text.new.value status) }
 {
     texts::close(alloc, text).number()

@@ -10,10 +10,15 @@ use Rattle.rs_held.proofs.Telling.{is_refusal, refuses_to_open}
 use Rattle.rs_held.proofs.sessions.open_text.Goals as goal
 
 pub returns-in-Ok-begun : goal.returns-in-Ok-begun
-returns-in-Ok-begun c = (c.in-Ok-begun.begun.value, c.put.ensures, record {
-  opened = subst (λ (d : AcceptedDocument). IsOpenedText DEFAULT_BOUND c.args.text.now d) (sym c.in-Ok-begun.ensures.same) c.in-Ok.ensures.opened;
-  endpoints = subst (λ (d : AcceptedDocument). AreBegun d.session.machines (capacity_for c.args.capacity (room_of d.session.derivations)) c.in-Ok-begun.begun.value.endpoints.items) (sym c.in-Ok-begun.ensures.same) c.in-Ok-begun.ensures.begun;
-}, search rules)
+returns-in-Ok-begun c = (
+  c.in-Ok-begun.begun.value,
+  c.put.ensures,
+  record {
+    opened = subst (λ (d : AcceptedDocument). IsOpenedText DEFAULT_BOUND c.args.text.now d) (sym c.in-Ok-begun.ensures.same) c.in-Ok.ensures.opened;
+    endpoints = subst (λ (d : AcceptedDocument). AreBegun d.session.machines (capacity_for c.args.capacity (room_of d.session.derivations)) c.in-Ok-begun.begun.value.endpoints.items) (sym c.in-Ok-begun.ensures.same) c.in-Ok-begun.ensures.begun;
+  },
+  search rules,
+)
 
 pub returns-in-Ok-kept : goal.returns-in-Ok-kept
 returns-in-Ok-kept c = subst (λ (s : CallStatus). OpenTells c.args.text.now c.args.capacity c.args.session.now.value c.args.session.now.value c.args.refusal.now.value c.put-in-Ok-kept.new.self.value s) (sym c.status_of.ensures)

@@ -7,6 +7,9 @@ use Rattle.rs_held.specs.Opens.{Changes}
 use Rattle.rumpsteak_c.proofs.endpoints.rumpsteak_send_int.Goals as goal
 
 pub returns : goal.returns
-returns c = (c.send.result, c.number.ensures,
-    subst (λ (z : ℤ). Changes c.args.endpoint.now.value c.send.new.endpoint.value ⊤ (λ before after. SendTells before.endpoint c.args.label (kind.Whole z) after.endpoint c.send.result × (after.last ≡ before.last)) c.send.result)
-    (to_z-of_z w64 c.args.value c.ranges.value) c.send.ensures)
+returns c = (
+  c.send.result,
+  c.number.ensures,
+  subst (λ (z : ℤ). Changes c.args.endpoint.now.value c.send.new.endpoint.value ⊤ (λ before after. SendTells before.endpoint c.args.label (kind.Whole z) after.endpoint c.send.result × (after.last ≡ before.last)) c.send.result)
+      (to_z-of_z w64 c.args.value c.ranges.value) c.send.ensures,
+)

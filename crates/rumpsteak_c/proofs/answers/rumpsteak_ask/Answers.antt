@@ -1,0 +1,15 @@
+use Rattle.std.proofs.Common.{sym, ◌∙◌, inl}
+use Rattle.rumpsteak_c.proofs.Codes.{kept_fine}
+use Rattle.rumpsteak_c.proofs.answers.rumpsteak_ask.Goals as goal
+
+pub returns-in-Ok-clause-told : goal.returns-in-Ok-clause-told
+returns-in-Ok-clause-told c = (c.keep.result, c.number.ensures, inl (c.in-Ok.told, c.in-Ok.ensures.answer, c.keep.ensures))
+
+pub returns-in-Ok-clause-checked : goal.returns-in-Ok-clause-checked
+returns-in-Ok-clause-checked c = λ bound spells zero. c.in-Ok.ensures.checked bound spells (kept_fine c.in-Ok.told c.args.answer.now.value c.keep.new.answer.value c.keep.result c.keep.ensures (sym c.number.ensures ∙ zero))
+
+pub returns-in-Ok-clause-explained : goal.returns-in-Ok-clause-explained
+returns-in-Ok-clause-explained c = λ bound spells zero. c.in-Ok.ensures.explained bound spells (kept_fine c.in-Ok.told c.args.answer.now.value c.keep.new.answer.value c.keep.result c.keep.ensures (sym c.number.ensures ∙ zero))
+
+pub returns-in-Ok-clause-verified : goal.returns-in-Ok-clause-verified
+returns-in-Ok-clause-verified c = λ spells zero. c.in-Ok.ensures.verified spells (kept_fine c.in-Ok.told c.args.answer.now.value c.keep.new.answer.value c.keep.result c.keep.ensures (sym c.number.ensures ∙ zero))
