@@ -6,6 +6,7 @@ Cases that ask for several workers are answered by the library with a status of 
 import concurrent.futures
 import os
 import pathlib
+import re
 import subprocess
 import sys
 
@@ -25,8 +26,8 @@ def cases():
 
 
 def asks_for_workers(words):
-    joined = b'\0'.join(words)
-    return b'--workers' in joined and b'--workers\x001' not in joined.replace(b'=', b'\0') + b'\0'
+    found = re.search(rb'--workers[\0=](\d+)', b'\0'.join(words))
+    return found is not None and found[1] != b'1'
 
 
 def main(program):
