@@ -1,7 +1,8 @@
 //! The time of a message through endpoints, beside the bounded channel of the standard library: on one thread, and between two.
+//! Then the time of an act through a monitor.
 //!
 //!     cargo run --release --example messages [MESSAGES]
-use rumpsteak::{Endpoint, Label, Session, Value};
+use rumpsteak::{Endpoint, Label, Monitor, Session, Value};
 use std::sync::mpsc::sync_channel;
 use std::thread;
 use std::time::{Duration, Instant};
@@ -84,6 +85,19 @@ fn channel_by_two(messages: u64, capacity: usize) -> Stream {
     (sum, begun.elapsed())
 }
 
+/// Sends of `A`, through its monitor alone.
+fn watched(acts: u64) -> Stream {
+    let mut monitor = Monitor::open(TEXT, "A").unwrap();
+    let (peer, item) = (monitor.role_of("B").unwrap(), monitor.label("item").unwrap());
+    let begun = Instant::now();
+    let mut sum = 0;
+    for number in 0..acts {
+        monitor.sent(peer, item, &Value::Nat(number)).unwrap();
+        sum += number;
+    }
+    (sum, begun.elapsed())
+}
+
 fn main() {
     let messages = std::env::args().nth(1).map_or(1_000_000, |word| word.parse().expect("a number of messages"));
     println!("| threads | capacity | endpoints from Rust | sync_channel |\n|---|---|---|---|");
@@ -97,4 +111,5 @@ fn main() {
         let channel = best(messages, || channel_by_two(messages, capacity.into()));
         println!("| 2 | {capacity} | {session:.0} | {channel:.0} |");
     }
+    println!("\nan act through a monitor: {:.0}", best(messages, || watched(messages)));
 }
