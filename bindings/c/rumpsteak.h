@@ -13,7 +13,7 @@
  *
  * Link with librumpsteak.a or librumpsteak.so. They need the C library, and nothing else: x86-64-v2, Linux.
  *
- *     gcc program.c -I. librumpsteak.a -lpthread
+ *     gcc program.c -I<folder of rumpsteak.h> <folder of the library>/librumpsteak.a -lpthread
  *
  *
  * A WHOLE PROGRAM, on one thread for brevity:
@@ -155,8 +155,9 @@ typedef struct {
 } rumpsteak_text_handle;
 
 /* Leaves behind `answer` what the program `rumpsteak` prints to these words and this standard input, and answers its status. `words` are
- * without the program's name, with a zero byte between two of them: "check", or "improve\0ROLE". Statuses: 0 to 11, with all that the
- * program prints. There is no answer, and nothing has changed, with RUMPSTEAK_NO_MEMORY; with RUMPSTEAK_NEEDS_WORKERS; and with
+ * without the program's name, with a zero byte between two of them: "check", or "improve\0ROLE", or "explain\0--bound\0" "4" ("\04" would be
+ * one byte in octal). Their length is that of the whole, sizeof words - 1 for such a constant: strlen stops at the first zero. Statuses: 0 to
+ * 11, with all that the program prints. There is no answer, and nothing has changed, with RUMPSTEAK_NO_MEMORY; with RUMPSTEAK_NEEDS_WORKERS; and with
  * RUMPSTEAK_USAGE where a word isn't UTF-8.
  *
  * If the words are those of a `check`, an `explain` or a `verify`, and the status is RUMPSTEAK_FINE, the machines of the text are safe: in every configuration that
@@ -237,7 +238,7 @@ typedef struct {
     uint32_t label;
     uint32_t kind;    /* enum rumpsteak_kind; it says which of these is the value, the others are 0: */
     uint64_t natural; /* a nat; or a bool, 0 or 1 */
-    int64_t whole;    /* an int */
+    int64_t whole;    /* an int. Where the arm's sort is int the sender may have sent a nat: then the kind is RUMPSTEAK_NAT, and it is in `natural` */
     size_t length;    /* of the bytes, or of the list: rumpsteak_bytes and rumpsteak_list copy them out */
 } rumpsteak_message;
 

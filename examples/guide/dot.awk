@@ -1,6 +1,6 @@
 # awk -v role=ROLE -f dot.awk TABLES: the table of the role as a graph, for dot of Graphviz
 BEGIN { print "digraph machine {" }
-$1 == "table" { inside = ($2 == role); next }
+$1 == "table" { inside = ($2 == role); found = found || inside; next }
 inside && match($0, /\{.*\}/) {
     arms = substr($0, RSTART + 1, RLENGTH - 2)
     head = substr($0, length($1) + 2, RSTART - length($1) - 2)
@@ -10,4 +10,4 @@ inside && match($0, /\{.*\}/) {
         print "    " $1 " -> " part[2] " [label=\"" head part[1] "\"]"
     }
 }
-END { print "}" }
+END { print "}"; if (!found) { print "no table of " role > "/dev/stderr"; exit 1 } }

@@ -1,7 +1,7 @@
 /* Double buffering on three threads: a source reads standard input, a kernel changes each byte b to 255 - b, and a sink writes standard
  * output. The kernel asks for the next piece before it hands the last one on, so that the source reads while the kernel works.
  *
- *     gcc -I.. double_buffering.c librumpsteak.a -lpthread -o double_buffering
+ *     gcc -I<folder of rumpsteak.h> double_buffering.c <folder of the library>/librumpsteak.a -lpthread -o double_buffering
  *     ./double_buffering < picture > negative */
 #include "rumpsteak.h"
 

@@ -1,7 +1,7 @@
 /* Two processes with a pipe in each direction between them. Each has a monitor of its role, and asks it before it writes a message and
  * after it has read one. On the pipe a message is its label's number and its value, four and eight bytes.
  *
- *     gcc -I.. pipe.c librumpsteak.a -o pipe
+ *     gcc -I<folder of rumpsteak.h> pipe.c <folder of the library>/librumpsteak.a -lpthread -o pipe
  *     ./pipe */
 #include "rumpsteak.h"
 

@@ -1,6 +1,6 @@
 /* Opens the text of standard input, or says why it is refused: in the words of `explain`, with the lines and columns of the faults.
  *
- *     gcc -I.. refused.c librumpsteak.a -o refused
+ *     gcc -I<folder of rumpsteak.h> refused.c <folder of the library>/librumpsteak.a -lpthread -o refused
  *     ./refused < film.txt */
 #include "rumpsteak.h"
 

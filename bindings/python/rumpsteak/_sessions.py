@@ -174,7 +174,8 @@ class Endpoint:
             await asyncio.sleep(pause.next())
 
     def __iter__(self) -> Iterator[Message]:
-        """Receives messages for as long as the role's state receives."""
+        """Receives messages for as long as the role's state receives. The loop also ends, with no error, where its body left out a send that was
+        due: `has_ended` tells."""
         while self.state.receives:
             yield self.receive()
 

@@ -119,6 +119,8 @@ impl Endpoint {
     }
 
     /// Receives a message. Until one comes it looks again, a hundred times at once and then each time after it let other threads run.
+    ///
+    /// The message borrows the endpoint for its name. To send its value on, take that out first: `let value = end.receive()?.value;`.
     #[inline]
     pub fn receive(&mut self) -> Result<Message<'_>, ActError> {
         let mut pause = Pause::new();

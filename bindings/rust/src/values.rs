@@ -59,7 +59,8 @@ pub enum Value {
     Bool(bool),
     /// A natural number below 2^63. It may be sent as an `int` too.
     Nat(u64),
-    /// An integer. If it isn't below 0, it may be sent as a `nat` too.
+    /// An integer. If it isn't below 0, it may be sent as a `nat` too. Where an `int` is received it may come as a `Nat`, if the sender's machine
+    /// sends a `nat` there: `i64::try_from` takes both.
     Int(i64),
     Bytes(Vec<u8>),
     /// A list of integers.
