@@ -13,8 +13,6 @@ mod of_rs_io_standard;
 #[cfg(test)]
 mod of_rs_machines;
 #[cfg(test)]
-mod of_rs_machines_readings;
-#[cfg(test)]
 mod of_rs_model;
 #[cfg(test)]
 mod of_rs_prefix;
@@ -24,9 +22,5 @@ mod of_rs_project;
 mod of_rs_search;
 #[cfg(test)]
 mod of_rs_text;
-#[cfg(test)]
-mod of_rs_text_messages;
-#[cfg(test)]
-mod of_rs_text_names;
 #[cfg(test)]
 mod of_rs_wellformed;

@@ -3,10 +3,7 @@
 ghost use Rattle.std.specs.Prelude.{◌≤◌, length};
 
 use rs_model::NoMemory;
-use rs_text::{
-    FaultKind, Lexer, Stop, Text, TextFault, TextKind, TokenKind, Wanted, expected, fault,
-    next_token, place,
-};
+use rs_text::{FaultKind, Lexer, Text, TokenKind, next_token, place};
 use std::alloc::Global;
 use std::test::Fail;
 
@@ -144,56 +141,4 @@ fn counts_lines_and_columns(rt: HostRuntime) {
     assert!(rt; place(b"a\r\tb", 3) == (1, 4));
     assert!(rt; place(b"roles A, 4294967296", 9) == (1, 10));
     assert!(rt; place(b"roles A, B\nprotocol A-", 21) == (2, 11));
-}
-
-#[test]
-fn writes_texts(rt: HostRuntime) -> Result<(), Fail> {
-    let mut text = Text::new(rt.alloc());
-    text.push(b"node ")?;
-    text.push_number(0)?;
-    text.push(b" ")?;
-    text.push_number(65537)?;
-    text.push(b" ")?;
-    text.push_number(u64::MAX)?;
-    text.push(b" ")?;
-    text.push(Wanted::BoundNumber.text().as_bytes())?;
-    let wanted = b"node 0 65537 18446744073709551615 number from 1 to 64";
-    assert!(rt; text.as_slice() == wanted.as_slice());
-    Ok(())
-}
-
-#[test]
-fn tells_why_a_reading_stops(rt: HostRuntime) {
-    let memory = TextFault {
-        kind: TextKind::NoMemory,
-        at: 7,
-    };
-    assert!(rt; Stop::from(NoMemory).into_fault(7) == memory);
-    let deep = TextFault {
-        kind: TextKind::TooDeep,
-        at: 3,
-    };
-    assert!(rt; fault::<()>(TextKind::TooDeep, 3) == Err(Stop::Fault(deep)));
-    assert!(rt; Stop::Fault(deep).into_fault(7) == deep);
-    let dot = TextFault {
-        kind: TextKind::Expected(Wanted::Dot),
-        at: 4,
-    };
-    assert!(rt; expected::<()>(Wanted::Dot, 4) == Err(Stop::Fault(dot)));
-}
-
-#[test]
-fn tokens_say_what_they_are(rt: HostRuntime) {
-    let text = b" rec a1 # no\n ;".as_slice();
-    let binder = next_token(text, 0);
-    assert!(rt; binder.kind() == Ok(TokenKind::Word));
-    assert!(rt; binder.word() == Some(b"rec".as_slice()));
-    assert!(rt; binder.plain().is_none());
-    assert!(rt; binder.from() == 1);
-    let name = next_token(text, binder.until());
-    assert!(rt; name.plain() == Some(b"a1".as_slice()));
-    let faulty = next_token(text, name.until());
-    assert!(rt; faulty.kind() == Err(FaultKind::BadByte));
-    assert!(rt; faulty.from() == 14);
-    assert!(rt; faulty.until() == 14);
 }

@@ -25,10 +25,6 @@ pub const BUFFERING: &[u8] =
 pub const ENDLESS_BUFFERING: &[u8] =
     b"roles K, S, T\nprotocol rec X. K->S:ready(). T->K:ready(). S->K:copy(bytes). K->T:copy(bytes). X\nmachine K: S!ready(). rec X. S!ready(). T?ready(). S?copy(bytes). T!copy(bytes). X\n";
 
-/// B sends before it receives.
-pub const SWAPPED: &[u8] =
-    b"roles A, B\nprotocol A->B:x(). B->A:y(). end\nmachine B: A!y(). A?x(). end\n";
-
 /// Both send twice before they receive: rings of one message are too small.
 pub const TWICE: &[u8] =
     b"roles A, B\nprotocol A->B:x(). A->B:x(). B->A:y(). B->A:y(). end\nmachine B: A!y(). A!y(). A?x(). A?x(). end\n";
@@ -36,15 +32,6 @@ pub const TWICE: &[u8] =
 /// A waits first, where the protocol lets it send.
 pub const WAITS: &[u8] =
     b"roles A, B\nprotocol A->B:x(). B->A:y(). end\nmachine A: B?y(). B!x(). end\n";
-
-/// A sends a list.
-pub const LISTS: &[u8] = b"roles A, B\nprotocol A->B:x(list). end\n";
-
-/// A sends one number.
-pub const ONCE: &[u8] = b"roles A, B\nprotocol A->B:x(nat). end\n";
-
-/// A sends a `nat` where an `int` is expected.
-pub const NAT_FOR_INT: &[u8] = b"roles A, B\nprotocol A->B:x(int). end\nmachine A: B!x(nat). end\n";
 
 /// A goes on for ever, as B does.
 pub const ENDLESS: &[u8] = b"roles A, B\nprotocol rec X. A->B:x(). B->A:y(). X\n";

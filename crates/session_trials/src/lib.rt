@@ -2,8 +2,6 @@
 //! that it tests. The documents and the gates also serve the tests of the program.
 #![tactic(auto)]
 
-#[cfg(test)]
-mod counting;
 pub mod documents;
 pub mod gates;
 #[cfg(test)]
@@ -20,8 +18,6 @@ mod of_rs_pool;
 mod of_rs_room;
 #[cfg(test)]
 mod of_rs_session;
-#[cfg(test)]
-mod of_rs_session_held;
 #[cfg(test)]
 mod recorder;
 #[cfg(test)]

@@ -3,7 +3,7 @@
 ghost use Rattle.std.specs.Prelude.{◌≡◌, ◌≢◌, ◌<◌, ◌^◌, IfOk, IfSome, length};
 ghost use Rattle.rs_core.specs.Configurations.{role_of};
 
-use crate::documents::{BUFFERING, ENDLESS_SENDS, SWAPPED, accepted_of};
+use crate::documents::{BUFFERING, ENDLESS_SENDS, accepted_of};
 use rs_alive::{AliveFault, taken_within};
 use rs_core::{Core, Event};
 use rs_model::{NoMemory, Octets, Role, Value, copies_of};
@@ -245,33 +245,6 @@ fn puts(role: u8, arm: u16, value: Value) -> Event {
 
 fn takes(role: u8) -> Event {
     Event::Receive { role: Role(role) }
-}
-
-#[test]
-fn one_message_is_taken(rt: HostRuntime) -> Result<(), Fail> {
-    let alloc = rt.alloc();
-    let past = [puts(1, 0, Value::Unit)];
-    match taken_of(alloc, SWAPPED, &past, Role(1), Role(0), 0) {
-        Some(Ok(events)) => {
-            assert!(rt; events.len() <= 156);
-            assert!(rt;
-                matches!(
-                    events.as_slice().last(),
-                    Some(Event::Receive { role: Role(0) })
-                )
-            );
-        }
-        _ => assert!(rt; false, "not taken"),
-    }
-    match taken_of(alloc, SWAPPED, &past, Role(1), Role(0), 1) {
-        Some(Err(fault)) => assert!(rt; fault == AliveFault::NoMessage { len: 1 }),
-        _ => assert!(rt; false, "a second message"),
-    }
-    match taken_of(alloc, SWAPPED, &[takes(0)], Role(1), Role(0), 0) {
-        Some(Err(fault)) => assert!(rt; fault == AliveFault::NotAPast { at: 0 }),
-        _ => assert!(rt; false, "a past"),
-    }
-    Ok(())
 }
 
 /// Double buffering with the seed 0, in the order of its rounds.

@@ -1,9 +1,9 @@
-//! Steps of accepted machines, and what refuses them.
+//! The steps of docs/definitions.md, by hand.
 
-ghost use Rattle.std.specs.Prelude.{◌≡◌, ◌<◌, ◌≤◌, IfSome, length};
+ghost use Rattle.std.specs.Prelude.{◌≡◌, ◌<◌, ◌≤◌, length};
 ghost use Rattle.rs_core.specs.Configurations.{role_of};
 
-use crate::documents::{BUFFERING, NAT_FOR_INT, accepted_of};
+use crate::documents::{BUFFERING, accepted_of};
 use crate::of_rs_alive::after;
 use rs_core::{Core, Event, StepFault, Stepped};
 use rs_model::{Label, NoMemory, Role, Value};
@@ -13,10 +13,6 @@ use std::alloc::Global;
 
 fn word_of(fault: StepFault) -> &'static str {
     match fault {
-        StepFault::NotSending => "not sending",
-        StepFault::NoArm => "no arm",
-        StepFault::WrongSort => "wrong sort",
-        StepFault::NotReceiving => "not receiving",
         StepFault::QueueEmpty => "queue empty",
         _ => "another fault",
     }
@@ -29,10 +25,6 @@ fn word_of_step(step: Stepped) -> &'static str {
             label: Label(0),
             value: Value::Unit,
         } => "got ready",
-        Stepped::Got {
-            value: Value::Natural(9_223_372_036_854_775_807),
-            ..
-        } => "got the greatest number",
         Stepped::Got { .. } => "got another",
     }
 }
@@ -50,17 +42,6 @@ fn tell(text: &mut Text, core: &mut Core, event: Event) -> Result<(), NoMemory>
     text.push(b".")
 }
 
-/// Adds where a role stands, and how many messages are under way from K to S.
-fn tell_state(text: &mut Text, core: &Core, role: Role) -> Result<(), NoMemory>
-    requires role { role.0 < length core.now.machines }
-    requires two { 2 ≤ length core.now.machines }
-{
-    text.push_number(u64::from(core.state(role)))?;
-    text.push(b" ")?;
-    text.push_number(core.queue_len(Role(0), Role(1)) as u64)?;
-    text.push(b".")
-}
-
 fn send(role: u8, arm: u16, value: Value) -> Event
     ensures { role_of result ≡ role }
 {
@@ -69,20 +50,6 @@ fn send(role: u8, arm: u16, value: Value) -> Event
         arm,
         value,
     }
-}
-
-fn tell_steps(text: &mut Text, core: &mut Core) -> Result<(), NoMemory>
-    requires { 2 ≤ length core.old.machines }
-{
-    tell(text, core, send(1, 0, Value::Unit))?;
-    tell(text, core, send(0, 1, Value::Unit))?;
-    tell(text, core, send(0, 0, Value::Flag(true)))?;
-    tell(text, core, Event::Receive { role: Role(0) })?;
-    tell(text, core, Event::Receive { role: Role(1) })?;
-    tell(text, core, send(0, 0, Value::Unit))?;
-    tell_state(text, core, Role(0))?;
-    tell(text, core, Event::Receive { role: Role(1) })?;
-    tell_state(text, core, Role(1))
 }
 
 /// Adds how many messages are under way from one role to another, behind a blank.
@@ -129,47 +96,6 @@ fn tell_events_by_hand(text: &mut Text, core: &mut Core) -> Result<(), NoMemory>
     tell_moment(text, core, Event::Receive { role: Role(1) })
 }
 
-fn tell_numbers(text: &mut Text, core: &mut Core) -> Result<(), NoMemory>
-    requires { 2 ≤ length core.old.machines }
-{
-    tell(text, core, send(0, 0, Value::Whole(7)))?;
-    tell(
-        text,
-        core,
-        send(0, 0, Value::Natural(9_223_372_036_854_775_808)),
-    )?;
-    tell(
-        text,
-        core,
-        send(0, 0, Value::Natural(9_223_372_036_854_775_807)),
-    )?;
-    tell(text, core, Event::Receive { role: Role(1) })
-}
-
-/// The machines of an accepted text at their start, where there are two or more.
-fn begun(alloc: Global, text: &[u8]) -> Option<Core>
-    ensures { IfSome result (λ core. 2 ≤ length core.machines) }
-{
-    let Some(accepted) = accepted_of(alloc, text) else {
-        return None;
-    };
-    if accepted.machines().len() < 2 {
-        return None;
-    }
-    after(alloc, &accepted, &[])
-}
-
-fn steps_told(alloc: Global) -> Option<Text> {
-    let Some(mut core) = begun(alloc, BUFFERING) else {
-        return None;
-    };
-    let mut text = Text::new(alloc);
-    match tell_steps(&mut text, &mut core) {
-        Ok(()) => Some(text),
-        Err(NoMemory) => None,
-    }
-}
-
 /// What is told of the example, from the start.
 fn told_by_hand(alloc: Global, accepted: &Accepted) -> Option<Text> {
     if accepted.machines().len() < 3 {
@@ -183,45 +109,6 @@ fn told_by_hand(alloc: Global, accepted: &Accepted) -> Option<Text> {
         Ok(()) => Some(text),
         Err(NoMemory) => None,
     }
-}
-
-fn numbers_told(alloc: Global) -> Option<Text> {
-    let Some(mut core) = begun(alloc, NAT_FOR_INT) else {
-        return None;
-    };
-    let mut text = Text::new(alloc);
-    match tell_numbers(&mut text, &mut core) {
-        Ok(()) => Some(text),
-        Err(NoMemory) => None,
-    }
-}
-
-/// Whether this was told.
-fn is_told(told: Option<Text>, wanted: &str) -> bool {
-    match told {
-        Some(told) => told.as_slice() == wanted.as_bytes(),
-        None => false,
-    }
-}
-
-#[test]
-fn steps_are_made_or_refused(rt: HostRuntime) {
-    assert!(rt;
-        is_told(
-            steps_told(rt.alloc()),
-            "not sending.no arm.wrong sort.not receiving.queue empty.sent.1 1.got ready.1 0.",
-        )
-    );
-}
-
-#[test]
-fn a_nat_stays_what_it_is(rt: HostRuntime) {
-    assert!(rt;
-        is_told(
-            numbers_told(rt.alloc()),
-            "wrong sort.wrong sort.sent.got the greatest number.",
-        )
-    );
 }
 
 /// Where K, S and T stand behind each event, and the four queues.

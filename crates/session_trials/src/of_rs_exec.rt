@@ -1,51 +1,13 @@
 //! Runs on one thread, over unbounded queues, bounded ones and rings.
 
-use crate::counting::{CountingActor, counting};
-use crate::documents::{BUFFERING, ENDLESS_BUFFERING, LISTS, SWAPPED, TWICE};
+use crate::documents::{BUFFERING, ENDLESS_BUFFERING, TWICE};
 use crate::runs::{QueueKind, seeded, session_run};
 use crate::transcripts::{Words, text_of};
-use rs_core::{Run, RunFault};
+use rs_core::RunFault;
 use rs_model::{NoMemory, Role};
 use rs_text::Text;
 use std::alloc::Global;
 use std::test::Fail;
-
-const ROLES: Words = ["A", "B", "none"];
-
-const LABELS: Words = ["x", "y", "none"];
-
-fn taken_by(actors: &[CountingActor]) -> u64 {
-    let mut taken: u64 = 0;
-    for actor in actors {
-        taken = taken.saturating_add(actor.taken);
-    }
-    taken
-}
-
-/// How many messages came, and the transcripts.
-fn told(alloc: Global, text: &[u8], queues: QueueKind) -> Result<Text, NoMemory> {
-    let mut told = Text::new(alloc);
-    if let Some(Ok(run)) = session_run(alloc, text, counting(alloc)?, queues, 1_000_000) {
-        told.push_number(taken_by(run.actors.as_slice()))?;
-        told.push(b"\n")?;
-        told.push(text_of(alloc, &run, &ROLES, &LABELS)?.as_slice())?;
-    }
-    Ok(told)
-}
-
-#[test]
-fn sessions_end(rt: HostRuntime) -> Result<(), Fail> {
-    let alloc = rt.alloc();
-    let swapped = b"2\nB!x.B?y.\nA!y.A?x.\n".as_slice();
-    assert!(rt; told(alloc, SWAPPED, QueueKind::Rings(11))?.as_slice() == swapped);
-    assert!(rt; told(alloc, SWAPPED, QueueKind::Unbounded)?.as_slice() == swapped);
-    let twice = b"4\nB!x.B!x.B?y.B?y.\nA!y.A!y.A?x.A?x.\n".as_slice();
-    assert!(rt; told(alloc, TWICE, QueueKind::Rings(11))?.as_slice() == twice);
-    assert!(rt; told(alloc, TWICE, QueueKind::Unbounded)?.as_slice() == twice);
-    let lists = b"1\nB!x.\nA?x.\n".as_slice();
-    assert!(rt; told(alloc, LISTS, QueueKind::Unbounded)?.as_slice() == lists);
-    Ok(())
-}
 
 /// Why a seeded run has no outcome.
 fn fault_of(

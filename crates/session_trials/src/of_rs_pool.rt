@@ -1,78 +1,21 @@
-//! Runs by workers, beside plain runs.
+//! Runs by workers: where a role is stopped, and the calls of the gate. `.ci/examples` and `.ci/demos` compare runs by workers with
+//! those of one.
 
-ghost use Rattle.std.specs.Prelude.{◌≡◌, ◌≤◌, true};
-ghost use Rattle.rs_demos.specs.Sessions.{has_session};
+ghost use Rattle.std.specs.Prelude.{◌≤◌};
 
-use crate::documents::{BUFFERING, ENDLESS};
+use crate::documents::ENDLESS;
 use crate::recorder::Recorder;
-use crate::runs::{HowToRun, QueueKind, pool_run, seeded, session_run};
-use rs_core::{Actor, Outcome, Run, Transcript};
-use rs_demos::{DemoActor, demo_actors, demo_document, demo_output};
+use crate::runs::{HowToRun, pool_run, seeded};
+use rs_core::{Outcome, Run, Transcript};
+use rs_demos::{DemoActor, demo_actors, demo_document};
 use rs_model::Demo;
 use rs_pool::{Gate, NoGate};
-use rs_text::Text;
 use std::alloc::Global;
 use std::sync::Wait;
 use std::test::Fail;
 use std::thread::Threads;
 
-/// The transcripts of a run that ended, as one text.
-fn text_of<A: Actor>(alloc: Global, run: &Run<A>) -> Result<Option<String>, Fail> {
-    match &run.outcome {
-        Outcome::Ended(transcripts) => Ok(Some(format!(in alloc; "{transcripts:?}")?)),
-        Outcome::Stopped(_) => Ok(None),
-    }
-}
-
 const WORKERS: [u8; 5] = [1, 2, 4, 8, 16];
-
-/// The transcripts of the plain run of double buffering.
-fn plain_text(alloc: Global, seed: u32) -> Result<Option<String>, Fail> {
-    match session_run(
-        alloc,
-        BUFFERING,
-        seeded(alloc, 3, seed)?,
-        QueueKind::Unbounded,
-        1000,
-    ) {
-        Some(Ok(run)) => text_of(alloc, &run),
-        _ => Ok(None),
-    }
-}
-
-/// The transcripts of its run by so many workers.
-fn pool_text<R: Threads + Wait + Sync>(
-    rt: &R,
-    alloc: Global,
-    seed: u32,
-    workers: u8,
-) -> Result<Option<String>, Fail>
-    requires { (1 ≤ workers) × (workers ≤ 16) }
-{
-    let how = HowToRun {
-        workers,
-        limit: 1000,
-    };
-    let actors = seeded(alloc, 3, seed)?;
-    match pool_run(rt, alloc, BUFFERING, actors, how, &NoGate) {
-        Some(run) => text_of(alloc, &run),
-        None => Ok(None),
-    }
-}
-
-#[test]
-fn transcripts_are_those_of_the_plain_run(rt: HostRuntime) -> Result<(), Fail> {
-    let alloc = rt.alloc();
-    for seed in 0..8 {
-        let plain = plain_text(alloc, seed)?;
-        assert!(rt; plain.is_some(), "the plain run of seed {seed} ends");
-        for workers in WORKERS {
-            let pooled = pool_text(&rt, alloc, seed, workers)?;
-            assert!(rt; pooled == plain, "seed {seed} with {workers} workers");
-        }
-    }
-    Ok(())
-}
 
 /// Whether a role of an endless session is stopped by so many workers, and all actors come back.
 fn is_stopped<R: Threads + Wait + Sync>(rt: &R, alloc: Global, workers: u8) -> Result<bool, Fail>
@@ -104,20 +47,6 @@ fn a_role_stops_at_its_limit(rt: HostRuntime) -> Result<(), Fail> {
     Ok(())
 }
 
-#[test]
-fn texts_that_are_refused_do_not_run(rt: HostRuntime) -> Result<(), Fail> {
-    let alloc = rt.alloc();
-    let how = HowToRun {
-        workers: 2,
-        limit: 10,
-    };
-    let refused = pool_run(&rt, alloc, b"roles A", seeded(alloc, 1, 0)?, how, &NoGate);
-    assert!(rt; refused.is_none());
-    let few = pool_run(&rt, alloc, ENDLESS, seeded(alloc, 1, 0)?, how, &NoGate);
-    assert!(rt; few.is_none());
-    Ok(())
-}
-
 /// The butterfly of eight numbers, run by so many workers past the gate.
 fn butterfly_run<R: Threads + Wait + Sync, G: Gate + Sync>(
     rt: &R,
@@ -138,41 +67,6 @@ fn butterfly_run<R: Threads + Wait + Sync, G: Gate + Sync>(
         limit: 4096,
     };
     pool_run(rt, alloc, text.as_slice(), actors, how, gate)
-}
-
-/// What it prints.
-fn butterfly<R: Threads + Wait + Sync>(rt: &R, alloc: Global, workers: u8) -> Option<Text>
-    requires { (1 ≤ workers) × (workers ≤ 16) }
-{
-    match butterfly_run(rt, alloc, workers, &NoGate) {
-        Some(
-            Run {
-                outcome: Outcome::Ended(_),
-                actors,
-            },
-        ) => demo_output(alloc, Demo::Butterfly, actors.as_slice()).ok(),
-        _ => None,
-    }
-}
-
-/// Whether that is the transform.
-fn is_transformed<R: Threads + Wait + Sync>(rt: &R, alloc: Global, workers: u8) -> bool
-    requires { (1 ≤ workers) × (workers ≤ 16) }
-{
-    match butterfly(rt, alloc, workers) {
-        Some(text) => text.as_slice() == b"36 -4 -8 0 -16 0 0 0\n".as_slice(),
-        None => false,
-    }
-}
-
-#[test]
-fn butterflies_transform(rt: HostRuntime) {
-    for workers in WORKERS {
-        assert!(rt;
-            is_transformed(&rt, rt.alloc(), workers),
-            "with {workers} workers"
-        );
-    }
 }
 
 /// Whether the gate's calls lay round each turn of each role: one turn for each act, and one more that told its end.

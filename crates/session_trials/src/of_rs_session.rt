@@ -8,7 +8,7 @@ ghost use Rattle.rs_exec.specs.Tasks.{IsTaskOf};
 ghost use Rattle.rs_session.specs.Stages.{AreFirst, IsEnded, sight_of_stage};
 ghost use Rattle.rs_session.specs.declared.stages.Stage.TheVariants as kind;
 
-use crate::documents::{ONCE, TWICE, accepted_of};
+use crate::documents::{TWICE, accepted_of};
 use crate::transcripts::push_entries;
 use futures::executor::block_on;
 use futures::future::join;
@@ -161,23 +161,6 @@ fn what_is_under_way_is_handed_out(rt: HostRuntime) {
     }
 }
 
-#[test]
-fn full_and_empty_rings_are_told(rt: HostRuntime) {
-    let alloc = rt.alloc();
-    let mut pair = pair_of(&rt, alloc, TWICE, 1);
-    let moved = pair.a.turn(alloc, &pair.session);
-    assert!(rt; moved == Turn::Moved);
-    let full = pair.a.turn(alloc, &pair.session);
-    let wanted = Turn::Waits(Why::Full {
-        peer: Role(1),
-        sent: 1,
-        taken: 0,
-    });
-    assert!(rt; full == wanted);
-    let over = left_of(&rt, alloc, pair);
-    assert!(rt; over.loose.len() == 1);
-}
-
 pub(crate) fn ended_of(rt: &impl Abort, stage: Stage) -> Ended
     ensures { stage ≡ kind.Ended result }
 {
@@ -256,71 +239,6 @@ fn a_session_closes(rt: HostRuntime) -> Result<(), Fail> {
     assert!(rt; closed.roles() == 2);
     assert!(rt; did(alloc, a_did.as_slice())?.as_slice() == b"B!x.B!x.B?y.B?y.".as_slice());
     assert!(rt; did(alloc, b_did.as_slice())?.as_slice() == b"A!y.A!y.A?x.A?x.".as_slice());
-    Ok(())
-}
-
-/// A session that is given up before any role has made an act.
-fn given_up(session: Session, stages: Vec<Stage>) -> Closed
-    requires { AreFirst session stages.items }
-    ensures { result.machines ≡ session.machines }
-{
-    session.abandon(stages)
-}
-
-#[test]
-fn a_session_is_given_up(rt: HostRuntime) {
-    let alloc = rt.alloc();
-    let Some((session, stages)) = begun_of(alloc, TWICE, 1) else {
-        panic!(rt; "not accepted");
-    };
-    let closed = given_up(session, stages);
-    assert!(rt; closed.roles() == 2);
-}
-
-/// An executor polls the task until it doesn't go on. It hands back the task, which is still one that began so.
-fn blocked_on<R: Wait + RandomSource + AllocGlobal, A: Actor, N: TaskName<A>>(
-    rt: &R,
-    alloc: Global,
-    session: &Session,
-    task: RoleTask<A>,
-) -> (io::Result<Turn>, RoleTask<A>)
-    requires session { session.now ≡ N.begun.session }
-    requires from { IsTaskFrom A.behaviour N.begun task }
-    ensures stopped { IfOk result.0 HasStopped }
-    ensures from { IsTaskFrom A.behaviour N.begun result.1 }
-{
-    let mut task = SessionTask::<A, N>::new(task);
-    let turn = block_on(rt, RoleFuture::new(alloc, &mut task, session));
-    (turn, task.into_task())
-}
-
-/// The role A plays to its end as a future, while B does nothing: the turn with which it is ready, and what is left.
-fn polled<R: Wait + RandomSource + AllocGlobal + Abort>(
-    rt: &R,
-    alloc: Global,
-    pair: Pair,
-) -> (io::Result<Turn>, LeftOver)
-    requires a { IsTaskFrom by_draws (begun_by pair.session pair.a) pair.a }
-    requires b { IsTaskOf pair.session pair.b }
-{
-    let Pair { session, a, b } = pair;
-    let (turn, a) = blocked_on::<R, SeededActor, Brand>(rt, alloc, &session, a);
-    (turn, left_of(rt, alloc, Pair { session, a, b }))
-}
-
-#[test]
-fn an_executor_plays_a_role(rt: HostRuntime) -> Result<(), Fail> {
-    let alloc = rt.alloc();
-    let pair = pair_of(&rt, alloc, ONCE, 1);
-    let (turn, over) = polled(&rt, alloc, pair);
-    assert!(rt; turn? == Turn::Ended);
-    match over.loose.as_slice() {
-        [x] => {
-            assert!(rt; x.sender == Role(0) && x.receiver == Role(1));
-            assert!(rt; matches!(x.parcel.value, Value::Natural(_)));
-        }
-        _ => assert!(rt; false, "one is under way"),
-    }
     Ok(())
 }
 

@@ -52,13 +52,12 @@ fn pooled<R: Threads + Wait + Sync, A: Actor + Send, G: Gate + Sync>(
     }
 }
 
-/// The queues of a run on one thread: without a bound, bounded ones, or rings, of a capacity or of the room that the session needs.
+/// The queues of a run on one thread: without a bound, bounded ones, or rings of a capacity.
 #[derive(Clone, Copy)]
 pub(crate) enum QueueKind {
     Unbounded,
     Bounded(usize),
     Rings(u16),
-    RingsOfTheRoom,
 }
 
 /// The run over unbounded queues.
@@ -105,16 +104,16 @@ fn inlined<A: Actor>(
     alloc: Global,
     accepted: &Accepted,
     actors: Vec<A>,
-    capacity: u64,
+    capacity: u16,
     limit: u32,
 ) -> Option<Result<Run<A>, RunFault>> {
     if actors.len() != accepted.machines().len()
         || capacity < 1
-        || capacity > u64::from(MOST_CAPACITY)
+        || capacity > MOST_CAPACITY
     {
         return None;
     }
-    match run_inline(alloc, accepted, actors, capacity as u16, limit) {
+    match run_inline(alloc, accepted, actors, capacity, limit) {
         Ok(Ran { run, closed: _ }) => Some(Ok(run)),
         Err(fault) => Some(Err(fault)),
     }
@@ -130,8 +129,7 @@ fn run_over<A: Actor>(
     match queues {
         QueueKind::Unbounded => plainly(alloc, accepted, actors, limit),
         QueueKind::Bounded(capacity) => boundedly(alloc, accepted, actors, capacity, limit),
-        QueueKind::Rings(capacity) => inlined(alloc, accepted, actors, u64::from(capacity), limit),
-        QueueKind::RingsOfTheRoom => inlined(alloc, accepted, actors, accepted.room(), limit),
+        QueueKind::Rings(capacity) => inlined(alloc, accepted, actors, capacity, limit),
     }
 }
 
