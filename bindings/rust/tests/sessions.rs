@@ -159,6 +159,36 @@ fn a_ring_of_threads_goes_round() {
     }
 }
 
+/// C acts first and last. In between its endpoint is held, and the other two roles go on without it on two threads.
+#[test]
+fn an_endpoint_is_held_while_two_threads_go_on() {
+    let text = "roles A, B, C protocol C->A:x(). A->B:y(). B->A:y(). A->B:y(). B->A:y(). A->C:x(). end";
+    let mut session = Session::with_capacity(text, 1).unwrap();
+    let [mut a, mut b, mut c] = ["A", "B", "C"].map(|role| session.endpoint(role).unwrap());
+    assert!(matches!(a.try_receive(), Ok(None)));
+    assert!(matches!(b.try_receive(), Ok(None)));
+    c.send("x", ()).unwrap();
+    let first = thread::spawn(move || {
+        assert_eq!(a.receive().unwrap().name, "x");
+        for _ in 0..2 {
+            a.send("y", ()).unwrap();
+            assert_eq!(a.receive().unwrap().name, "y");
+        }
+        a.send("x", ()).unwrap();
+        a
+    });
+    let second = thread::spawn(move || {
+        for _ in 0..2 {
+            assert_eq!(b.receive().unwrap().name, "y");
+            b.send("y", ()).unwrap();
+        }
+        b
+    });
+    assert!(first.join().unwrap().has_ended() && second.join().unwrap().has_ended());
+    assert_eq!(c.receive().unwrap().name, "x");
+    assert!(c.has_ended());
+}
+
 #[test]
 fn the_library_and_the_crate_have_the_same_version() {
     let parts: Vec<u32> = env!("CARGO_PKG_VERSION").split('.').map(|part| part.parse().unwrap()).collect();
