@@ -3,7 +3,6 @@ pub mod Derivings
 pub mod Figuring
 pub mod Answering
 pub mod Reporting
-pub mod Outcomes
 pub mod Verified
 pub mod Owed
 pub mod Printables
@@ -12,21 +11,6 @@ pub mod Agreeing
 pub mod OneReason
 pub mod SomeSession
 pub mod SpeltFaults
-pub mod RunSessions
-pub mod PoolAnswers
-pub mod Opening
-pub mod Performing
-pub mod DemoEndings
-pub mod OneDemo
-pub mod SomeDemo
-pub mod Computing
-pub mod Stopping
-pub mod Leading
-pub mod Drawn
-pub mod Performed
-pub mod Told
-pub mod OverRings
-pub mod OneBesideSeveral
 pub mod Renumbered
 pub mod SmallNumbers
 pub mod ReadAgain
@@ -37,3 +21,4 @@ pub mod SwapLines
 pub mod Improvements
 pub mod OneImproved
 pub mod ImprovedAnswers
+pub mod Refusing

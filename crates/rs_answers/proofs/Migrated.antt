@@ -23,7 +23,7 @@ use Rattle.rs_answers.specs.declared.verdicts.Verdict.TheVariants.{Fine}
 use Rattle.rs_answers.proofs.Derivings.{session_of}
 use Rattle.rs_answers.proofs.OneReason.{not_unverified, one_unverified}
 use Rattle.rs_answers.proofs.ReadAgain.{spelt_verified, verified_again}
-use Rattle.rs_answers.proofs.RunSessions.{IsRefusing, refusal_refuses}
+use Rattle.rs_answers.proofs.Refusing.{IsRefusing, refusal_refuses}
 
 -- ---- both refuse the same
 

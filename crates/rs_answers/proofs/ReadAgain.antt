@@ -50,7 +50,7 @@ use Rattle.rs_answers.specs.Sessions.{HasMachines, first_refusal, machine_or, ma
 use Rattle.rs_answers.specs.Verifying.{IsReported, IsVerified, Verifies, those_there}
 use Rattle.rs_answers.specs.declared.verdicts.Verdict.TheVariants.{Fine}
 use Rattle.rs_answers.proofs.OneReason.{not_refused, one_session_derived}
-use Rattle.rs_answers.proofs.RunSessions.{IsRefusing, refusal_refuses}
+use Rattle.rs_answers.proofs.Refusing.{IsRefusing, refusal_refuses}
 use Rattle.rs_answers.proofs.Derivings.{IsChosen, chosen, derivations_are, each_fits, found_at, one_each, ready_session, session_of}
 use Rattle.rs_answers.proofs.EachRole.{chosen_small_by, few_states}
 use Rattle.rs_answers.proofs.Owed.{IsActOf, Receives, Sends}

@@ -1,8 +1,6 @@
 pub mod Accepting
 pub mod Checks
 pub mod Data
-pub mod DemoSessions
-pub mod Demos
 pub mod Derivations
 pub mod Figures
 pub mod Improves
@@ -11,18 +9,13 @@ pub mod Lines
 pub mod Machines
 pub mod Migrates
 pub mod OwnMachines
-pub mod Pools
-pub mod Ready
 pub mod RefusalTexts
 pub mod Refusals
 pub mod Report
-pub mod RunSessions
-pub mod Runs
 pub mod Sessions
 pub mod Shown
 pub mod SpeltFaults
 pub mod Tables
 pub mod Texts
-pub mod TranscriptTexts
 pub mod Verified
 pub mod Verifying

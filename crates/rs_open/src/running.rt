@@ -1,7 +1,7 @@
 //! How a session that was opened is run, and what it comes to.
 
 ghost use Rattle.std.specs.Prelude.{◌≡◌, ◌<◌, ◌≤◌, ◌⊎◌, List, Err, IfErr, IfOk, Ok, length, min};
-ghost use Rattle.rs_answers.specs.Runs.{outcome_answer};
+ghost use Rattle.rs_runs.specs.Runs.{outcome_answer};
 ghost use Rattle.rs_core.specs.declared.runs.RunFault.TheVariants as fault;
 ghost use Rattle.rs_model.specs.declared.limits.TheConstants.{MOST_CAPACITY, MOST_ROLES};
 ghost use Rattle.rs_open.specs.Making.{AreMadeBy};
@@ -9,11 +9,11 @@ ghost use Rattle.rs_open.specs.Running.{IsRunAlone, IsRunByCrew, IsStuckRun};
 ghost use Rattle.rs_safety.specs.Room.{room_of};
 
 use crate::sessions::OpenSession;
-use rs_answers::outcome_answer;
 use rs_core::{Actor, Outcome, RunFault};
 use rs_exec::{Ran, run_inline};
 use rs_model::{Crew, MOST_CAPACITY, NoMemory, Role};
 use rs_pool::{Gate, run_pool};
+use rs_runs::outcome_answer;
 use rs_text::Text;
 use std::alloc::Global;
 use std::sync::Wait;

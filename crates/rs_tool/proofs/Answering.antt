@@ -4,7 +4,7 @@ use Rattle.std.specs.Prelude.{IfOk, IfSome, OnOk}
 use Rattle.std.specs.Io.KnownBytes.{Appends, Keeps, IsAtEnd}
 use Rattle.rs_io.specs.Prefix.{AppendsPrefix}
 use Rattle.rs_model.specs.declared.limits.TheConstants.{MOST_BYTES}
-use Rattle.rs_answers.specs.declared.answers.AnswerWithSession.{AnswerWithSession}
+use Rattle.rs_runs.specs.declared.answers.AnswerWithSession.{AnswerWithSession}
 use Rattle.rs_answers.specs.declared.verdicts.Verdict.{Verdict}
 use Rattle.rs_answers.specs.declared.verdicts.Verdict.TheVariants as verdict
 use Rattle.rs_tool.specs.Calls.{Ends, ForInput, IsStopped, Tells, TellsAll, TellsPart, TellsReadFault, TellsNoMemory}

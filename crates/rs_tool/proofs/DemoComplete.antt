@@ -1,14 +1,14 @@
 -- A demo that can be performed is performed.
 use Rattle.std.proofs.Common.{◌≡◌, ℕ, ◌≤◌, List, length, Option, Some, sym, subst, arith}
 use Rattle.rs_answers.specs.Data.{Answer_data}
-use Rattle.rs_answers.specs.Runs.{capacity_of}
+use Rattle.rs_runs.specs.Runs.{capacity_of}
 use Rattle.rs_answers.specs.Sessions.{HasMachines}
 use Rattle.rs_answers.proofs.OneReason.{not_refused, one_session_derived}
 use Rattle.rs_core.specs.Plain.{Ending, IsPlain}
-use Rattle.rs_answers.specs.Demos.{AnswersDemo, HasBadNumbers, IsDocument, AnswersOwn, IsRefused, IsAccepted, IsTooSmall, IsRun, TellsDemoEnd, HasEnded, IsStopped, Opens, actor_at}
-use Rattle.rs_answers.specs.declared.limits.TheConstants.{DEMO_LIMIT}
-use Rattle.rs_answers.proofs.OneDemo.{one_opening}
-use Rattle.rs_answers.proofs.Stopping.{never_stopped}
+use Rattle.rs_runs.specs.Demos.{AnswersDemo, HasBadNumbers, IsDocument, AnswersOwn, IsRefused, IsAccepted, IsTooSmall, IsRun, TellsDemoEnd, HasEnded, IsStopped, Opens, actor_at}
+use Rattle.rs_runs.specs.declared.limits.TheConstants.{DEMO_LIMIT}
+use Rattle.rs_runs.proofs.OneDemo.{one_opening}
+use Rattle.rs_runs.proofs.Stopping.{never_stopped}
 use Rattle.rs_demos.specs.Acting.{by_demo}
 use Rattle.rs_demos.specs.declared.actors.DemoTalker.{DemoTalker}
 use Rattle.rs_demos.proofs.Deciding.{not_both_shown}

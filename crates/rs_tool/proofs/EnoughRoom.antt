@@ -14,8 +14,8 @@ use Rattle.rs_safety.specs.Room.{room_of}
 use Rattle.rs_answers.specs.Data.{Answer_data}
 use Rattle.rs_answers.specs.Derivations.{AreCanonical}
 use Rattle.rs_tool.specs.RunHeadline.{IsOfRun}
-use Rattle.rs_answers.specs.Runs as runs
-use Rattle.rs_answers.specs.Runs.{Runs, TellsEnd, HasEnded, IsStopped, IsFull, actor_of, capacity_of}
+use Rattle.rs_runs.specs.Runs as runs
+use Rattle.rs_runs.specs.Runs.{Runs, TellsEnd, HasEnded, IsStopped, IsFull, actor_of, capacity_of}
 use Rattle.rs_answers.specs.Sessions.{HasMachines}
 use Rattle.rs_tool.specs.Statuses.{status_of}
 use Rattle.rs_model.specs.declared.runs.RunOptions.{RunOptions}

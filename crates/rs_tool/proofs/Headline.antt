@@ -21,7 +21,7 @@ use Rattle.rs_tool.specs.declared.statuses.Status.TheVariants as status
 use Rattle.rs_tool.specs.Pipelines.{pipeline_text, pipeline_of}
 use Rattle.rs_tool.specs.Answers.{Answers, SpellsNothing, CarriesOut, AnswersPipeline, AnswersText, IsTooLong, IsFaulty, IsDocument, AnswersDocument, AnswersTask}
 use Rattle.rs_tool.specs.Calls.{Ends, Tells, TellsAll, TellsPart, TellsReadFault, TellsNoMemory}
-use Rattle.rs_answers.proofs.RunSessions.{IsRefusing, fault_refuses, refusal_refuses}
+use Rattle.rs_runs.proofs.RunSessions.{IsRefusing, fault_refuses, refusal_refuses}
 use Rattle.rs_answers.specs.declared.verdicts.Verdict.{Verdict}
 use Rattle.rs_answers.specs.declared.verdicts.Verdict.TheVariants as verdict
 use Rattle.rs_answers.specs.Checks as checks
@@ -44,10 +44,10 @@ use Rattle.rs_project.specs.Data.{Projection_data}
 use Rattle.rs_tool.specs.Headline.{SpellsSafeMachines}
 use Rattle.rs_tool.specs.ImproveHeadline.{WritesSafeMachines}
 use Rattle.rs_tool.specs.RunHeadline.{IsOfRun}
-use Rattle.rs_answers.specs.Pools as pools
-use Rattle.rs_answers.specs.Pools.{RunsByWorkers, RunsWith}
-use Rattle.rs_answers.specs.Runs as runs
-use Rattle.rs_answers.specs.Runs.{Runs}
+use Rattle.rs_runs.specs.Pools as pools
+use Rattle.rs_runs.specs.Pools.{RunsByWorkers, RunsWith}
+use Rattle.rs_runs.specs.Runs as runs
+use Rattle.rs_runs.specs.Runs.{Runs}
 use Rattle.rs_model.specs.declared.runs.RunOptions.{RunOptions}
 use Rattle.rs_model.specs.declared.runs.Workers.{Workers}
 use Rattle.rs_model.specs.declared.runs.Workers.TheVariants.{One, Several}

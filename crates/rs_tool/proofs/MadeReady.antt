@@ -4,16 +4,16 @@ use Rattle.std.specs.Prelude.{IfOk, IfSome, OnOk, codes}
 use Rattle.std.specs.Io.KnownBytes.{IsAtEnd}
 use Rattle.std.proofs.lemmas.Result.{IfOk-weaker}
 use Rattle.rs_answers.specs.Data.{Answer_data}
-use Rattle.rs_answers.specs.Ready.{ComesOf, IsReadyFor, Warrants}
+use Rattle.rs_runs.specs.Ready.{ComesOf, IsReadyFor, Warrants}
 use Rattle.rs_answers.specs.RefusalTexts.{too_large, fault_answer, usage}
-use Rattle.rs_answers.specs.RunSessions.{GivesRun}
-use Rattle.rs_answers.specs.DemoSessions.{GivesDemo}
-use Rattle.rs_answers.specs.declared.answers.AnswerWithSession.{AnswerWithSession}
-use Rattle.rs_answers.specs.declared.ready.Prepared.{Prepared}
-use Rattle.rs_answers.specs.declared.ready.Prepared.TheVariants.{Answered}
+use Rattle.rs_runs.specs.RunSessions.{GivesRun}
+use Rattle.rs_runs.specs.DemoSessions.{GivesDemo}
+use Rattle.rs_runs.specs.declared.answers.AnswerWithSession.{AnswerWithSession}
+use Rattle.rs_runs.specs.declared.ready.Prepared.{Prepared}
+use Rattle.rs_runs.specs.declared.ready.Prepared.TheVariants.{Answered}
 use Rattle.rs_answers.specs.declared.verdicts.Verdict.{Verdict}
-use Rattle.rs_answers.proofs.Leading.{HoldsAlone, made_leads}
-use Rattle.rs_answers.proofs.RunSessions.{alone, fault_is_alone, not_there, still_there}
+use Rattle.rs_runs.proofs.Leading.{HoldsAlone, made_leads}
+use Rattle.rs_runs.proofs.RunSessions.{alone, fault_is_alone, not_there, still_there}
 use Rattle.rs_documents.specs.Data.{Document_data}
 use Rattle.rs_documents.specs.Documents.{FirstFault, SpellsDocument}
 use Rattle.rs_model.specs.declared.limits.TheConstants.{DEFAULT_BOUND, MOST_BYTES}

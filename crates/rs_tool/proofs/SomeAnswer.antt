@@ -16,7 +16,7 @@ use Rattle.rs_wellformed.specs.Faults.{first_fault}
 use Rattle.rs_wellformed.specs.declared.checks.WfFault.{WfFault}
 use Rattle.rs_wellformed.proofs.Faults.{no_fault}
 use Rattle.rs_answers.specs.declared.verdicts.Verdict.TheVariants.{Fine}
-use Rattle.rs_answers.proofs.SomeDemo.{some_demo}
+use Rattle.rs_runs.proofs.SomeDemo.{some_demo}
 use Rattle.rs_words.specs.declared.tasks.DocumentTask.{DocumentTask}
 use Rattle.rs_words.specs.declared.tasks.DocumentTask.TheVariants as on_document
 use Rattle.rs_words.specs.declared.tasks.Task.{Task}
@@ -33,7 +33,7 @@ use Rattle.rs_answers.specs.Report.{report}
 use Rattle.rs_answers.proofs.OneImproved.{some_improving}
 use Rattle.rs_reasons.proofs.OneExplanation.{some_explaining}
 use Rattle.rs_draw.proofs.OneDrawing.{some_drawing}
-use Rattle.rs_answers.proofs.PoolAnswers.{some_with}
+use Rattle.rs_runs.proofs.PoolAnswers.{some_with}
 use Rattle.rs_answers.specs.Shown.{Shows}
 use Rattle.rs_documents.specs.Canonical.{derivations_text}
 use Rattle.rs_documents.proofs.OneCanonical.{some_lines}

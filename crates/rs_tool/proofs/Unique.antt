@@ -11,7 +11,7 @@ use Rattle.rs_model.specs.declared.limits.TheConstants.{DEFAULT_BOUND}
 use Rattle.rs_words.proofs.Exact.{words_spell_one_task}
 use Rattle.rs_wellformed.proofs.Faults.{no_fault}
 use Rattle.rs_answers.specs.declared.verdicts.Verdict.TheVariants.{Fine, Stopped}
-use Rattle.rs_answers.proofs.OneDemo.{one_demo}
+use Rattle.rs_runs.proofs.OneDemo.{one_demo}
 use Rattle.rs_answers.proofs.OneImproved.{one_improving}
 use Rattle.rs_reasons.proofs.OneExplanation.{one_explaining}
 use Rattle.rs_draw.proofs.OneDrawing.{one_drawing}
@@ -28,9 +28,9 @@ use Rattle.rs_answers.specs.Data.{Answer_data}
 use Rattle.rs_documents.specs.Documents.{SpellsDocument}
 use Rattle.rs_answers.specs.RefusalTexts.{fault_answer, wf_answer, proj_answer}
 use Rattle.rs_answers.specs.Refusals.{refusal_answer}
-use Rattle.rs_answers.specs.Pools.{RunsWith}
+use Rattle.rs_runs.specs.Pools.{RunsWith}
 use Rattle.rs_model.specs.declared.runs.RunOptions.{RunOptions}
-use Rattle.rs_answers.proofs.PoolAnswers.{one_by_one, one_by_workers}
+use Rattle.rs_runs.proofs.PoolAnswers.{one_by_one, one_by_workers}
 use Rattle.rs_model.specs.declared.runs.Workers.{Workers}
 use Rattle.rs_model.specs.declared.runs.Workers.TheVariants.{One, Several}
 use Rattle.rs_documents.specs.Canonical.{AreShown, derivations_text}

@@ -2,10 +2,10 @@
 use Rattle.std.specs.Prelude.{◌≡◌, ℕ, ◌<◌, ◌≤◌, ◌++◌, codes, length, List, Option, false, None}
 use Rattle.rs_answers.specs.Checks.{Checks}
 use Rattle.rs_answers.specs.Data.{Answer_data}
-use Rattle.rs_answers.specs.Demos.{AnswersDemo}
+use Rattle.rs_runs.specs.Demos.{AnswersDemo}
 use Rattle.rs_answers.specs.Improves.{Improves}
 use Rattle.rs_answers.specs.Migrates.{Migrates}
-use Rattle.rs_answers.specs.Pools.{RunsWith}
+use Rattle.rs_runs.specs.Pools.{RunsWith}
 use Rattle.rs_answers.specs.RefusalTexts.{usage, too_large, fault_answer}
 use Rattle.rs_answers.specs.Shown.{Shows}
 use Rattle.rs_answers.specs.Tables.{Projects}

@@ -2,8 +2,8 @@
 use Rattle.std.specs.Prelude.{ℕ, ◌≤◌, List, length, Option, IfSome}
 use Rattle.rs_answers.specs.Derivations.{AreCanonical}
 use Rattle.rs_answers.specs.Machines.{machines_of}
-use Rattle.rs_answers.specs.Runs.{capacity_of}
-use Rattle.rs_answers.specs.Demos.{Opens}
+use Rattle.rs_runs.specs.Runs.{capacity_of}
+use Rattle.rs_runs.specs.Demos.{Opens}
 use Rattle.rs_demos.specs.declared.actors.DemoTalker.{DemoTalker}
 use Rattle.rs_derive.specs.Data.{Derivation_data}
 use Rattle.rs_model.specs.declared.limits.TheConstants.{MOST_BYTES}

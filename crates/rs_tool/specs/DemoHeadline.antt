@@ -1,6 +1,6 @@
 -- Public: what the statuses of a `demo` tell that was carried out.
 use Rattle.std.specs.Prelude.{ℕ, List}
-use Rattle.rs_answers.specs.Demos.{Opens}
+use Rattle.rs_runs.specs.Demos.{Opens}
 use Rattle.rs_demos.specs.declared.actors.DemoTalker.{DemoTalker}
 use Rattle.rs_model.specs.declared.demos.Demo.{Demo}
 use Rattle.rs_tool.specs.Headline.{SpellsSafeMachines}

@@ -2,10 +2,10 @@
 use Rattle.std.specs.Prelude.{◌≡◌, ℕ, ◌<◌, ◌≤◌, List, length, Option, Some, None, Result, Ok, Err, IfOk, IfSome, OnOk}
 use Rattle.std.specs.Io.KnownBytes.{Appends, IsAtEnd}
 use Rattle.rs_io.specs.Prefix.{AppendsPrefix}
-use Rattle.rs_answers.specs.declared.answers.AnswerWithSession.{AnswerWithSession}
+use Rattle.rs_runs.specs.declared.answers.AnswerWithSession.{AnswerWithSession}
 use Rattle.rs_model.specs.declared.limits.TheConstants.{MOST_BYTES}
-use Rattle.rs_answers.specs.Ready.{ComesOf, IsReadyFor}
-use Rattle.rs_answers.specs.declared.ready.Prepared.{Prepared}
+use Rattle.rs_runs.specs.Ready.{ComesOf, IsReadyFor}
+use Rattle.rs_runs.specs.declared.ready.Prepared.{Prepared}
 use Rattle.rs_model.specs.declared.runs.Workers.{Workers}
 use Rattle.rs_tool.specs.Calls.{ForInput}
 use Rattle.rs_tool.specs.Data.{CallInput, CallOutput}

@@ -1,10 +1,10 @@
 -- Public: which session a call hands out.
 use Rattle.std.specs.Prelude.{◌≡◌, ◌⊎◌, ℕ, List, Option, None}
 use Rattle.rs_answers.specs.Data.{Answer_data}
-use Rattle.rs_answers.specs.RunSessions.{HasCome, IsThereWhere, WasRunOf}
-use Rattle.rs_answers.specs.declared.answers.AnswerWithSession.{AnswerWithSession}
+use Rattle.rs_runs.specs.RunSessions.{HasCome, IsThereWhere, WasRunOf}
+use Rattle.rs_runs.specs.declared.answers.AnswerWithSession.{AnswerWithSession}
 use Rattle.rs_answers.specs.declared.verdicts.Verdict.{Verdict}
-use Rattle.rs_answers.specs.DemoSessions.{WasPerformed}
+use Rattle.rs_runs.specs.DemoSessions.{WasPerformed}
 use Rattle.rs_documents.specs.Data.{Document_data}
 use Rattle.rs_documents.specs.Documents.{SpellsDocument}
 use Rattle.rs_rings.specs.Closed.{Closed_data}

@@ -21,10 +21,11 @@ ghost use Rattle.rs_words.specs.Words.{bytes_of_words};
 
 use crate::preparing::prepare;
 use crate::statuses::{CallStop, Reply, Serial, Status};
-use rs_answers::{AnswerWithSession, run_alone, run_by_crew, usage};
+use rs_answers::usage;
 use rs_io::{Sink, Source, write_all};
 use rs_model::{NoMemory, Workers};
 use rs_pool::Gate;
+use rs_runs::{AnswerWithSession, run_alone, run_by_crew};
 use rs_words::{Task, read_words};
 use std::alloc::Global;
 use std::sync::Wait;

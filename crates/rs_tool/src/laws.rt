@@ -15,7 +15,7 @@ ghost use Rattle.rs_answers.specs.Data.{Answer_data};
 ghost use Rattle.rs_tool.specs.Headline.{SpellsSafeMachines};
 ghost use Rattle.rs_answers.specs.Derivations.{AreCanonical};
 ghost use Rattle.rs_answers.specs.Machines.{machines_of};
-ghost use Rattle.rs_answers.specs.Runs.{Runs, capacity_of};
+ghost use Rattle.rs_runs.specs.Runs.{Runs, capacity_of};
 ghost use Rattle.rs_answers.specs.Sessions.{HasMachines};
 ghost use Rattle.rs_model.specs.declared.runs.RunOptions.{RunOptions};
 ghost use Rattle.rs_answers.specs.declared.verdicts.Verdict.TheVariants.{Full, Stopped};

@@ -2,7 +2,7 @@
 
 ghost use Rattle.std.specs.Prelude.{◌≡◌, ◌<◌, ◌≤◌, ℕ, List, option_map, length, vec_len, IfOk, IfSome, OnOk, Ok, Err};
 ghost use Rattle.std.specs.Io.KnownBytes.{IsAtEnd};
-ghost use Rattle.rs_answers.specs.Ready.{IsReadyFor, Warrants};
+ghost use Rattle.rs_runs.specs.Ready.{IsReadyFor, Warrants};
 ghost use Rattle.rs_io.specs.Faults.{Rose};
 ghost use Rattle.rs_model.specs.declared.limits.TheConstants.{MOST_BYTES};
 ghost use Rattle.rs_model.specs.declared.runs.Workers.{Workers};
@@ -17,14 +17,15 @@ use crate::generating::answer_to_gen;
 use crate::statuses::CallStop;
 use rs_answers::Piece::Words;
 use rs_answers::{
-    Prepared, answer_to_fault, check, check_with_derivations, improve_role, migrate, project_all,
-    ready_demo, ready_run, show, too_large, verify,
+    answer_to_fault, check, check_with_derivations, improve_role, migrate, project_all, show,
+    too_large, verify,
 };
 use rs_documents::read_document;
 use rs_draw::draw;
 use rs_io::{ReadStop, Source, read_all};
 use rs_model::{MOST_BYTES, NoMemory};
 use rs_reasons::explain;
+use rs_runs::{Prepared, ready_demo, ready_run};
 use rs_words::{DocumentTask, Task};
 use std::alloc::Global;
 

@@ -1,8 +1,8 @@
 -- What a run by draws is told as.
 use Rattle.std.proofs.Common.{◌≡◌, ℕ, List, length, refl, sym}
-use Rattle.rs_answers.proofs.Outcomes.{tells_run}
+use Rattle.rs_runs.proofs.Outcomes.{tells_run}
 use Rattle.rs_answers.specs.Data.{Answer_data}
-use Rattle.rs_answers.specs.Runs.{TellsRun, actor_of, outcome_answer}
+use Rattle.rs_runs.specs.Runs.{TellsRun, actor_of, outcome_answer}
 use Rattle.rs_core.specs.Draws.{by_draws}
 use Rattle.rs_exec.specs.declared.runs.Ran.{Ran}
 use Rattle.rs_model.specs.Data.{Machine_data, Names_data}

@@ -3,7 +3,7 @@
 
 ghost use Rattle.std.specs.Prelude.{◌≡◌, IfOk, min};
 ghost use Rattle.rs_answers.specs.Data.{Answer_data};
-ghost use Rattle.rs_answers.specs.Runs.{TellsRun, actor_of};
+ghost use Rattle.rs_runs.specs.Runs.{TellsRun, actor_of};
 ghost use Rattle.rs_model.specs.declared.limits.TheConstants.{MOST_CAPACITY};
 ghost use Rattle.rs_safety.specs.Room.{room_of};
 ghost use Rattle.uses.specs.declared.TheConstants.{LIMIT, SEED};

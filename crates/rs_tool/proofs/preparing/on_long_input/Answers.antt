@@ -1,4 +1,4 @@
-use Rattle.rs_answers.proofs.Leading.{made_leads}
+use Rattle.rs_runs.proofs.Leading.{made_leads}
 use Rattle.rs_tool.specs.Sessions.{Gives}
 use Rattle.rs_tool.proofs.MadeReady.{long_alone}
 use Rattle.rs_words.specs.Tasks.{workers_of}

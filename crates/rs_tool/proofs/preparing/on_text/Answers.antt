@@ -2,8 +2,8 @@ use Rattle.std.proofs.Common.{Bool, sym, subst}
 use Rattle.std.specs.Prelude.{IfOk}
 use Rattle.std.proofs.lemmas.Result.{IfOk-weaker}
 use Rattle.rs_answers.specs.Checks.{Checks}
-use Rattle.rs_answers.specs.Ready.{Warrants}
-use Rattle.rs_answers.proofs.Leading.{made_leads}
+use Rattle.rs_runs.specs.Ready.{Warrants}
+use Rattle.rs_runs.proofs.Leading.{made_leads}
 use Rattle.rs_documents.proofs.CanShow.{can_show}
 use Rattle.rs_tool.specs.Sessions.{Gives}
 use Rattle.rs_tool.proofs.MadeReady.{both_ok, document_leads, fault_alone, of_fault, run_gives}

@@ -1,8 +1,8 @@
 use Rattle.std.proofs.Common.{◌≡◌, ◌≤◌, ℕ, List, length, arith, ap, refl, sym, subst, ◌∙◌, Err}
 use Rattle.std.specs.Prelude.{IfOk}
-use Rattle.rs_answers.specs.Ready.{Warrants}
-use Rattle.rs_answers.specs.declared.answers.AnswerWithSession.{AnswerWithSession}
-use Rattle.rs_answers.proofs.Leading.{made_leads}
+use Rattle.rs_runs.specs.Ready.{Warrants}
+use Rattle.rs_runs.specs.declared.answers.AnswerWithSession.{AnswerWithSession}
+use Rattle.rs_runs.proofs.Leading.{made_leads}
 use Rattle.rs_model.specs.declared.limits.TheConstants.{MOST_BYTES}
 use Rattle.rs_tool.specs.Answers.{AnswersPipeline}
 use Rattle.rs_tool.specs.Sessions.{Gives}

@@ -1,5 +1,0 @@
-use Rattle.rs_answers.proofs.OneDemo.{one_demo}
-use Rattle.rs_answers.proofs.laws.demos_have_one_answer.Goals as goal
-
-pub returns : goal.returns
-returns c = one_demo

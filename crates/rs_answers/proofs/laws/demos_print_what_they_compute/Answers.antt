@@ -1,5 +1,0 @@
-use Rattle.rs_answers.proofs.Computing.{computed}
-use Rattle.rs_answers.proofs.laws.demos_print_what_they_compute.Goals as goal
-
-pub returns : goal.returns
-returns c = computed

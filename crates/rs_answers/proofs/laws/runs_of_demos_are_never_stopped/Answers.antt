@@ -1,5 +1,0 @@
-use Rattle.rs_answers.proofs.Stopping.{never_stopped}
-use Rattle.rs_answers.proofs.laws.runs_of_demos_are_never_stopped.Goals as goal
-
-pub returns : goal.returns
-returns c = never_stopped

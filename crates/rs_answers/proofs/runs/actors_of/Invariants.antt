@@ -1,7 +1,0 @@
-use Rattle.std.proofs.Common.{◌≡◌, length}
-use Rattle.rs_core.specs.Runs.{IsGiven}
-use Rattle.rs_answers.specs.Runs.{actor_of}
-use Rattle.rs_answers.proofs.runs.actors_of.Given as goal
-
-abbrev pub invariant-loop-role : goal.invariant-loop-role
-invariant-loop-role l = (length l.actors.items ≡ l.role) × IsGiven (actor_of l.seed) l.actors.items

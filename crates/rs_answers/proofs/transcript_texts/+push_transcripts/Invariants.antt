@@ -1,5 +1,0 @@
-use Rattle.std.proofs.Common.{length}
-use Rattle.rs_answers.proofs.transcript_texts.+push_transcripts.Given as goal
-
-abbrev pub decreases-push_transcripts : goal.decreases-push_transcripts
-decreases-push_transcripts l = length l.roles.now

@@ -1,0 +1,16 @@
+pub mod Outcomes
+pub mod RunSessions
+pub mod PoolAnswers
+pub mod Opening
+pub mod Performing
+pub mod DemoEndings
+pub mod OneDemo
+pub mod SomeDemo
+pub mod Computing
+pub mod Stopping
+pub mod Leading
+pub mod Drawn
+pub mod Performed
+pub mod Told
+pub mod OverRings
+pub mod OneBesideSeveral
