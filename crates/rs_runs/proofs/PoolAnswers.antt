@@ -41,7 +41,7 @@ use Rattle.rs_answers.specs.declared.verdicts.Verdict.TheVariants as verdict
 use Rattle.rs_answers.proofs.Derivings.{canonical_safe, session_of}
 use Rattle.rs_answers.proofs.OneReason.{not_refused, one_refusal, one_session_derived, same_session}
 use Rattle.rs_runs.proofs.Outcomes.{actors_are, one_run, some_run, transcripts_are}
-use Rattle.rs_runs.proofs.RunSessions.{IsRefusing, refusal_refuses}
+use Rattle.rs_answers.proofs.Refusing.{IsRefusing, refusal_refuses}
 use Rattle.rs_answers.proofs.SomeSession.{Derived, NotSo, Prepared}
 
 -- ---- one answer

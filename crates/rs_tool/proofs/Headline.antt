@@ -21,7 +21,7 @@ use Rattle.rs_tool.specs.declared.statuses.Status.TheVariants as status
 use Rattle.rs_tool.specs.Pipelines.{pipeline_text, pipeline_of}
 use Rattle.rs_tool.specs.Answers.{Answers, SpellsNothing, CarriesOut, AnswersPipeline, AnswersText, IsTooLong, IsFaulty, IsDocument, AnswersDocument, AnswersTask}
 use Rattle.rs_tool.specs.Calls.{Ends, Tells, TellsAll, TellsPart, TellsReadFault, TellsNoMemory}
-use Rattle.rs_runs.proofs.RunSessions.{IsRefusing, fault_refuses, refusal_refuses}
+use Rattle.rs_answers.proofs.Refusing.{IsRefusing, fault_refuses, refusal_refuses}
 use Rattle.rs_answers.specs.declared.verdicts.Verdict.{Verdict}
 use Rattle.rs_answers.specs.declared.verdicts.Verdict.TheVariants as verdict
 use Rattle.rs_answers.specs.Checks as checks
