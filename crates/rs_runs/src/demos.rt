@@ -12,9 +12,7 @@ use crate::limits::DEMO_LIMIT;
 use crate::ready::{Prepared, Ready};
 use crate::runs::{capacity_for, stopped_answer};
 use rs_answers::Piece::Words;
-use rs_answers::{
-    AcceptedDocument, Answer, Verdict, accept_document, line_of_answer, too_small,
-};
+use rs_answers::{AcceptedDocument, Answer, Verdict, accept_document, line_of_answer, too_small};
 use rs_core::{Outcome, Run};
 use rs_demos::{DemoActor, DemoFault, demo_actors, demo_session_document, into_demo_output};
 use rs_exec::Ran;
