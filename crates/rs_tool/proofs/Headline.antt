@@ -235,6 +235,20 @@ improves_safely options bytes a within (IsDocument short d doc h) fine =
 improves_safely options bytes a within (IsTooLong long is) fine = let no = sym (ap (λ (z : Answer_data). z.verdict) is) ∙ fine in absurd cc
 improves_safely options bytes a within (IsFaulty short k at h is) fine = absurd (no_run a _ is (fault_is_no_run bytes k at) (subst (λ (v : Verdict). IsOfRun (status_of v)) (sym fine) tt))
 
+-- the same of answers to words
+pub migrated_answer_is_safe : (words : List (List ℕ)) (bytes : List ℕ) (a : Answer_data) → SpellsMigrate words → Answers words bytes a → IsOfRun (status_of a.verdict) → SpellsSafeMachines bytes
+migrated_answer_is_safe words bytes a spells h run = migrates_safely bytes a (task_is_answered words (task.OnDocument on_document.Migrate) bytes a spells h) run
+
+pub run_answer_is_safe : (words : List (List ℕ)) (options : RunOptions) (bytes : List ℕ) (a : Answer_data) → SpellsRun words options → Answers words bytes a → IsOfRun (status_of a.verdict)
+    → SpellsSafeMachines bytes
+run_answer_is_safe words options bytes a spells h run =
+    runs_safely options spells.0 bytes a (task_is_answered words (task.OnDocument (on_document.Run options spells.0)) bytes a spells.1 h) run
+
+pub improved_answer_is_safe : (words : List (List ℕ)) (bytes : List ℕ) (a : Answer_data) → SpellsImprove words → Answers words bytes a → a.verdict ≡ verdict.Fine → SpellsSafeMachines a.text
+improved_answer_is_safe words bytes a spells h fine =
+    let within = (spelt_numbers_are_in_range words (task.OnDocument (on_document.Improve spells.0)) spells.1).0 in
+    improves_safely spells.0 bytes a within (task_is_answered words (task.OnDocument (on_document.Improve spells.0)) bytes a spells.1 h) fine
+
 fine_is_run : (s : Status) → s ≡ status.Fine → IsOfRun s
 fine_is_run s e = subst IsOfRun (sym e) tt
 

@@ -107,7 +107,10 @@ fn inlined<A: Actor>(
     capacity: u16,
     limit: u32,
 ) -> Option<Result<Run<A>, RunFault>> {
-    if actors.len() != accepted.machines().len() || capacity < 1 || capacity > MOST_CAPACITY {
+    if actors.len() != accepted.machines().len()
+        || capacity < 1
+        || u32::from(capacity) > MOST_CAPACITY
+    {
         return None;
     }
     match run_inline(alloc, accepted, actors, capacity, limit) {
