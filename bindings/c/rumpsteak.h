@@ -114,7 +114,7 @@ enum rumpsteak_status {
     RUMPSTEAK_FULL = 19,           /* the queue is full: again once the receiver has taken a message */
     RUMPSTEAK_EMPTY = 20,          /* nothing has come: again once the sender has sent */
     RUMPSTEAK_NOT_NOW = 21,        /* the role's state has no such act: direction, label or sort */
-    RUMPSTEAK_UNKNOWN = 22,        /* there is no such role, label, arm or kind */
+    RUMPSTEAK_UNKNOWN = 22,        /* there is no such role, label, arm, kind or status */
     RUMPSTEAK_HANDED_OUT = 23,     /* the role's endpoint was handed out before */
     RUMPSTEAK_GONE = 24,           /* nothing has come and nothing will: the sender's endpoint was given up */
     /* What a monitor answers to an act that the machine doesn't have: the first of these that applies. */
@@ -145,6 +145,10 @@ enum rumpsteak_direction {
 
 /* The version of the library, to be compared with RUMPSTEAK_VERSION. */
 uint32_t rumpsteak_version(void);
+
+/* What a status says, in English, without a full stop, such as "the queue is full" for RUMPSTEAK_FULL; no text is longer than 100 bytes.
+ * RUMPSTEAK_UNKNOWN: no status has this number. */
+uint32_t rumpsteak_status_text(uint32_t status, uint8_t *out, size_t out_len, size_t *written);
 
 
 /* ---- Texts and answers ------------------------------------------------------------------------------------------------------ */
@@ -189,10 +193,15 @@ typedef struct {
     void *at;
 } rumpsteak_endpoint;
 
-/* Accepts the text as `check` does, and begins its session: each queue holds `capacity` messages (1 to 1,024), or where `capacity` is
- * 0 or greater as many as the session's room, 1,024 at most. Queues of the room never hold up a role for ever; smaller ones may.
- * Where the text is refused (RUMPSTEAK_REFUSED, _MALFORMED, _UNPROJECTABLE or _TOO_LARGE), `refusal` holds what `check` prints, and
- * rumpsteak_ask of "explain" says more. */
+/* Accepts the text, and begins its session: each queue holds `capacity` messages (1 to 1,024), or where `capacity` is 0 or greater as many
+ * as the session's room, 1,024 at most. Queues of the room never hold up a role for ever; smaller ones may.
+ *
+ * If the text has a derivation of each role, as `check --derivations` prints them, these are tested as `verify` does, and nothing is
+ * searched: so a program that starts tests what was searched when it was built. Otherwise the text is accepted as `check` does.
+ *
+ * Where the text is refused (RUMPSTEAK_REFUSED, _MALFORMED, _UNPROJECTABLE or _TOO_LARGE), `refusal` holds what `explain` prints: the answer
+ * of `check`, and then where and why. Where it is one of the text's own derivations that is refused, `refusal` holds what `verify`
+ * prints. */
 uint32_t rumpsteak_open(const uint8_t *text, size_t text_len, uint16_t capacity, rumpsteak_session *session,
                         rumpsteak_text_handle *refusal);
 
@@ -267,8 +276,9 @@ typedef struct {
     void *at;
 } rumpsteak_monitor;
 
-/* Accepts the text as `check` does, and opens the monitor of the role with this name, at the start of the role's machine. Where the text is
- * refused, `refusal` holds what `check` prints. RUMPSTEAK_UNKNOWN: the text has no such role. */
+/* Accepts the text as rumpsteak_open does, by its own derivations or by a search, and opens the monitor of the role with this name, at
+ * the start of the role's machine. Where the text is refused, `refusal` holds what it holds after rumpsteak_open. RUMPSTEAK_UNKNOWN: the text
+ * has no such role. */
 uint32_t rumpsteak_monitor_open(const uint8_t *text, size_t text_len, const uint8_t *role, size_t role_len, rumpsteak_monitor *monitor,
                                 rumpsteak_text_handle *refusal);
 

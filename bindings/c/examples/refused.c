@@ -6,7 +6,6 @@
 
 #include <stdio.h>
 #include <stdlib.h>
-#include <string.h>
 
 /* Prints a text that a call left, and frees it. */
 static void print(rumpsteak_text_handle *answer, FILE *file) {
@@ -32,8 +31,6 @@ int main(void) {
         rumpsteak_close(&session);
         return 0;
     }
-    rumpsteak_text_close(&answer);
-    rumpsteak_ask((const uint8_t *)"explain", strlen("explain"), text, length, &answer);
     print(&answer, stderr);
     return (int)status;
 }

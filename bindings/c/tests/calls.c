@@ -148,6 +148,86 @@ static void names(void) {
     STATUS(RUMPSTEAK_CLOSED, rumpsteak_close(&session));
 }
 
+/* The text behind the handle, which is freed, is what the program answers to the words and this text. */
+static void is_answer(const char *words, size_t words_length, const void *input, size_t input_length, rumpsteak_text_handle *left) {
+    static uint8_t told[65536], asked[65536];
+    size_t length = 0, other = 0;
+    FINE(rumpsteak_text(left, told, sizeof told, &length));
+    rumpsteak_answer(at(words), words_length, input, input_length, asked, sizeof asked, &other);
+    IS(length > 0 && length == other && memcmp(told, asked, length) == 0);
+    FINE(rumpsteak_text_close(left));
+}
+
+/* A text with derivations is opened by them, also if a search within the standard bound finds none. A refused text leaves the reason. */
+static void certificates(void) {
+    rumpsteak_session session = {0};
+    rumpsteak_monitor monitor = {0};
+    rumpsteak_text_handle refusal = {0};
+    static const char unprojectable[] = "roles A, B, C protocol A->B{x(). C->A:y(). end, z(). end}";
+    static const char search[] = "check\0--bound\0" "17\0--derivations";
+    static char ahead[1024];
+    static uint8_t derived[65536];
+    size_t length;
+    uint64_t room;
+    /* M sends before it receives 17 messages, one more than the standard bound allows to put off. */
+    strcpy(ahead, "roles M, A protocol ");
+    for (int i = 0; i < 17; i++)
+        strcat(ahead, "A->M:v(). ");
+    strcat(ahead, "M->A:x(). end machine M: A!x(). ");
+    for (int i = 0; i < 17; i++)
+        strcat(ahead, "A?v(). ");
+    strcat(ahead, "end");
+    STATUS(RUMPSTEAK_REFUSED, open_text(ahead, 0, &session, &refusal));
+    is_answer("explain", 7, ahead, strlen(ahead), &refusal);
+    STATUS(RUMPSTEAK_REFUSED, rumpsteak_monitor_open(at(ahead), strlen(ahead), at("M"), 1, &monitor, &refusal));
+    is_answer("explain", 7, ahead, strlen(ahead), &refusal);
+    IS(!session.at && !monitor.at);
+
+    FINE(rumpsteak_answer(at(search), sizeof search - 1, at(ahead), strlen(ahead), derived, sizeof derived - 1, &length));
+    FINE(rumpsteak_open(derived, length, 0, &session, &refusal));
+    FINE(rumpsteak_room(&session, &room));
+    IS(room >= 17);
+    FINE(rumpsteak_close(&session));
+    FINE(rumpsteak_monitor_open(derived, length, at("M"), 1, &monitor, &refusal));
+    FINE(rumpsteak_monitor_close(&monitor));
+    IS(!refusal.at);
+
+    char *bound = strstr((char *)derived, "bound 17");
+    IS(bound != NULL);
+    bound[7] = '6';
+    STATUS(RUMPSTEAK_REFUSED, rumpsteak_open(derived, length, 0, &session, &refusal));
+    is_answer("verify", 6, derived, length, &refusal);
+    STATUS(RUMPSTEAK_REFUSED, rumpsteak_monitor_open(derived, length, at("M"), 1, &monitor, &refusal));
+    is_answer("verify", 6, derived, length, &refusal);
+    bound[0] = '!';
+    STATUS(RUMPSTEAK_MALFORMED, rumpsteak_open(derived, length, 0, &session, &refusal));
+    is_answer("verify", 6, derived, length, &refusal);
+    STATUS(RUMPSTEAK_UNPROJECTABLE, open_text(unprojectable, 0, &session, &refusal));
+    is_answer("explain", 7, unprojectable, strlen(unprojectable), &refusal);
+    IS(!session.at && !monitor.at);
+}
+
+/* What statuses say. */
+static void statuses(void) {
+    uint8_t out[100];
+    size_t length = 99;
+    int known = 0;
+    FINE(rumpsteak_status_text(RUMPSTEAK_FULL, out, sizeof out, &length));
+    IS(length == 17 && memcmp(out, "the queue is full", 17) == 0);
+    STATUS(RUMPSTEAK_TOO_SMALL, rumpsteak_status_text(RUMPSTEAK_NO_MEMORY, out, 13, &length));
+    IS(length == 14 && memcmp(out, "the queue is full", 17) == 0);
+    FINE(rumpsteak_status_text(RUMPSTEAK_NO_MEMORY, out, 14, &length));
+    IS(length == 14 && memcmp(out, "memory ran out", 14) == 0);
+    for (uint32_t status = 0; status < 1000; status++) {
+        length = 0;
+        uint32_t answer = rumpsteak_status_text(status, out, sizeof out, &length);
+        IS(answer == RUMPSTEAK_FINE ? length > 10 : answer == RUMPSTEAK_UNKNOWN && length == 0);
+        known += answer == RUMPSTEAK_FINE;
+    }
+    IS(known == 25);
+    STATUS(RUMPSTEAK_UNKNOWN, rumpsteak_status_text(UINT32_MAX, out, sizeof out, &length));
+}
+
 static void acts(void) {
     rumpsteak_session session = {0};
     rumpsteak_text_handle refusal = {0};
@@ -368,6 +448,8 @@ int main(void) {
     closed();
     answers();
     names();
+    certificates();
+    statuses();
     acts();
     gone();
     monitors();

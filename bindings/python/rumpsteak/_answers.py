@@ -1,9 +1,9 @@
 """Answers to texts: what the program `rumpsteak` prints, and why a text is refused."""
 
 from ctypes import byref
-from typing import NamedTuple, Optional, Union
+from typing import NamedTuple, Optional, Tuple, Union
 
-from ._library import CALLS, FINE, NO_MEMORY, Handle, text_of
+from ._library import CALLS, FINE, NO_MEMORY, Handle, status_text, text_of
 
 _REFUSALS = {1: "refused", 2: "usage", 3: "malformed", 4: "unprojectable", 5: "too large"}
 
@@ -13,14 +13,15 @@ class RumpsteakError(Exception):
 
 
 class Refused(RumpsteakError):
-    """A text is refused. The text of the exception is what the program prints, in the words of `explain` if they were asked for.
+    """A text is refused. The text of the exception is what the program prints: in the words of `explain` if they were asked for, or if the
+    text was to be opened.
 
     `status` is the program's status, `kind` the same in a word (refused, usage, malformed, unprojectable, too large), and `role` the role
     whose machine or projection is at fault, or None.
     """
 
     def __init__(self, status: int, text: str) -> None:
-        super().__init__(text.rstrip("\n"))
+        super().__init__(text.rstrip("\n") or status_text(status))
         self.status = status
         self.text = text
         self.kind = _REFUSALS.get(status, "status %d" % status)
@@ -64,22 +65,42 @@ def ask(*words: str, text: Union[str, bytes] = "") -> Answer:
     status = CALLS["ask"](spelt, len(spelt), data, len(data), byref(answer))
     told = text_of(answer)
     if status == NO_MEMORY:
-        raise MemoryError("memory ran out")
+        raise MemoryError(status_text(NO_MEMORY))
     return Answer(status, told)
 
 
-def check(text: str) -> Report:
+def check(text: str, bound: Optional[int] = None) -> Report:
     """Checks the text's session: whether its machines can go wrong together. Raises Refused if they may.
+
+    No machine may put off more acts than the bound, which is 16 if none is given.
 
     >>> check("roles A, B protocol rec X. A->B:ping(). B->A:pong(). X").room
     3
     """
-    return _report(ask("check", text=text))
+    return _report(ask("check", *_within(bound), text=text))
 
 
-def explain(text: str) -> Report:
+def explain(text: str, bound: Optional[int] = None) -> Report:
     """Checks as `check` does, and says why: where a machine breaks which rule, or how far it is ahead."""
-    return _report(ask("explain", text=text))
+    return _report(ask("explain", *_within(bound), text=text))
+
+
+def _within(bound: Optional[int]) -> Tuple[str, ...]:
+    return () if bound is None else ("--bound", str(bound))
+
+
+def certify(text: str, bound: Optional[int] = None) -> str:
+    """The text with a derivation of each role, by which Session and Monitor accept it and search nothing. Raises Refused, with the words of
+    `explain`, if the text isn't accepted.
+
+    >>> "derivation A" in certify("roles A, B protocol B->A:x(). A->B:y(). end machine A: B!y(). B?x(). end")
+    True
+    """
+    status, told = ask("check", *_within(bound), "--derivations", text=text)
+    if status != FINE:
+        explain(text, bound)
+        raise Refused(status, told)
+    return told
 
 
 def improve(role: str, text: str, swaps: int = 1) -> str:
@@ -96,10 +117,7 @@ def _report(answer: Answer) -> Report:
     return Report(answer.text)
 
 
-def refusal(status: int, text: str, left: Handle) -> Exception:
-    """Why a text isn't opened, in the words of `explain` if they can be had."""
+def refusal(status: int, left: Handle) -> Exception:
+    """Why a text isn't opened, with what the call left."""
     told = text_of(left)
-    if status == NO_MEMORY:
-        return MemoryError("memory ran out")
-    explained = ask("explain", text=text)
-    return Refused(status, explained.text if explained.status == status else told)
+    return MemoryError(status_text(status)) if status == NO_MEMORY else Refused(status, told)

@@ -27,6 +27,7 @@ _NUMBER: List[Any] = [POINTER(c_uint32)]
 _ACT: List[Any] = [c_uint32, c_uint32, c_uint32, c_uint64]
 _CALLS: Dict[str, List[Any]] = {
     "version": [],
+    "status_text": [c_uint32] + _OUT,
     "ask": _TEXT + _TEXT + _HANDLE,
     "text": _HANDLE + _OUT,
     "text_close": _HANDLE,
@@ -74,6 +75,17 @@ def _load() -> Dict[str, Callable[..., int]]:
 
 
 CALLS = _load()
+
+
+def status_text(status: int) -> str:
+    """What a status of the library says, such as "the queue is full" for 19.
+
+    >>> status_text(19)
+    'the queue is full'
+    """
+    out, written = ctypes.create_string_buffer(100), c_size_t()
+    known = 0 <= status < 1 << 32 and CALLS["status_text"](status, out, 100, byref(written)) == FINE
+    return out.raw[: written.value].decode() if known else "status %d" % status
 
 
 def text_of(handle: Handle) -> str:

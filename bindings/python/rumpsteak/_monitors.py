@@ -36,7 +36,7 @@ class Monitor:
     The program calls `sent` before each message that it puts into a queue, and `received` after each that it took from one. An act that the
     machine doesn't have raises Departure, and changes nothing. If all programs go through their monitors, and there is one queue for each
     ordered pair of roles, which neither loses nor reorders messages and holds at least `room` of them, then what `check` promises of the
-    machines holds of the programs.
+    machines holds of the programs. The text is accepted as by Session.
 
     >>> camera = Monitor("roles A, B protocol A->B:hello(nat). B->A:done(). end", "A")
     >>> camera.sent("B", "hello", 7)
@@ -52,7 +52,7 @@ class Monitor:
         if status == UNKNOWN:
             raise Refused(3, "the text has no role %s\n" % role)
         if status != FINE:
-            raise refusal(status, text, left)
+            raise refusal(status, left)
         self._lock = threading.Lock()
         self.role = role
         self.roles: Tuple[str, ...] = names_of(self._handle, "monitor_role_name")

@@ -10,7 +10,7 @@ from typing import Dict, Iterator, List, NamedTuple, Optional, Tuple, Type
 
 from ._answers import RumpsteakError, refusal
 from ._library import (BOOL, BYTES, CALLS, EMPTY, FINE, FULL, GONE, HANDED_OUT, INT, KINDS, LIST, NAT, NO_MEMORY, UNIT, Handle, RawMessage,
-                       names_of, number_at)
+                       names_of, number_at, status_text)
 from ._states import Sendable, State, Value, bytes_of, kind_of, state_at
 
 _SPINS = 20
@@ -36,7 +36,10 @@ class Session:
     """A session that was accepted and has begun: a lock-free queue for each ordered pair of roles, and an endpoint for each role.
 
     `capacity` is the number of messages that each queue holds, 1 to 1,024. Without it, it is the session's room (1,024 at most), so that no
-    role waits for ever because a queue is full. Raises Refused, with the words of `explain`, if the text isn't accepted.
+    role waits for ever because a queue is full.
+
+    If the text has a derivation of each role, as `certify` makes them, these are tested, and nothing is searched. Raises Refused if the text
+    isn't accepted, with the words of `explain`, or with those of `verify` if one of the text's own derivations is at fault.
 
     >>> with Session("roles A, B protocol A->B:hello(nat). end") as session:
     ...     a, b = session.endpoint("A"), session.endpoint("B")
@@ -52,7 +55,7 @@ class Session:
         data, left = text.encode(), Handle()
         status = CALLS["open"](data, len(data), capacity or 0, byref(self._handle), byref(left))
         if status != FINE:
-            raise refusal(status, text, left)
+            raise refusal(status, left)
         self._lock = threading.Lock()
         self.roles: Tuple[str, ...] = names_of(self._handle, "role_name")
         self.labels: Tuple[str, ...] = names_of(self._handle, "label_name")
@@ -66,9 +69,9 @@ class Session:
         with self._lock:
             status = CALLS["endpoint_of"](byref(self._handle), self.roles.index(role), byref(handle))
         if status == NO_MEMORY:
-            raise MemoryError("memory ran out")
+            raise MemoryError(status_text(NO_MEMORY))
         if status == HANDED_OUT:
-            raise RumpsteakError("the endpoint of %s was handed out before" % role)
+            raise RumpsteakError("%s: %s" % (role, status_text(HANDED_OUT)))
         if status != FINE:
             raise RumpsteakError("the session is closed")
         return Endpoint(handle, role, self.roles, self.labels)
@@ -124,7 +127,7 @@ class Endpoint:
         if status == FINE or status == FULL:
             return status == FINE
         if status == NO_MEMORY:
-            raise MemoryError("memory ran out")
+            raise MemoryError(status_text(NO_MEMORY))
         sort = KINDS[kind_of(value)]
         raise NotNow("%s can't send %s(%s) now: its state is %s" % (self.role, label, "" if sort == "unit" else sort, self.state))
 
@@ -152,7 +155,7 @@ class Endpoint:
         if status == GONE:
             raise Gone("nothing comes any more: the endpoint of %s was closed" % self.state.peer)
         if status == NO_MEMORY:
-            raise MemoryError("memory ran out")
+            raise MemoryError(status_text(NO_MEMORY))
         raise NotNow("%s can't receive now: its state is %s" % (self.role, self.state))
 
     def receive(self, timeout: Optional[float] = None) -> Message:

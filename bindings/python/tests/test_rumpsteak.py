@@ -25,6 +25,8 @@ machine B: rec X. C!x(nat). A?x(nat). X
 machine C: rec X. A!x(nat). B?x(nat). X
 """
 WRONG = "roles A, B protocol A->B:x(). B->A:y(). end machine A: B?y(). B!x(). end"
+# A sends before it receives 17 messages, one more than a search puts off.
+AHEAD = "roles A, B protocol %sA->B:x(). end machine A: B!x(). %send" % ("B->A:v(). " * 17, "B?v(). " * 17)
 FILM = """
 roles Camera, Screen, Audience
 protocol rec X. Screen->Camera:ready(). Camera->Screen{frame(nat). Screen->Audience:shown(). X, over(). Screen->Audience:over(). end}
@@ -47,6 +49,17 @@ class Answers(unittest.TestCase):
         with self.assertRaises(Refused) as caught:
             rumpsteak.check("roles A, B, C protocol A->B{x(). C->A:y(). end, z(). end}")
         self.assertEqual((caught.exception.kind, caught.exception.role), ("unprojectable", "C"))
+
+    def test_the_bound_can_be_given(self):
+        self.assertTrue(rumpsteak.check(AHEAD, bound=17).text.startswith("accepted\n"))
+        self.assertTrue(rumpsteak.explain(AHEAD, 17).text.startswith("accepted\n"))
+        for word in rumpsteak.check, rumpsteak.explain:
+            self.assertRaises(Refused, word, AHEAD)
+
+    def test_statuses_are_sentences(self):
+        self.assertEqual(rumpsteak.status_text(19), "the queue is full")
+        self.assertEqual([rumpsteak.status_text(status) for status in (7, -1, 1 << 32)], ["status 7", "status -1", "status 4294967296"])
+        self.assertEqual(str(Refused(16, "")), "the words ask for several workers, of which the library has none")
 
     def test_improve_moves_a_send_ahead(self):
         improved = rumpsteak.improve("B", "roles A, B protocol rec X. A->B:ping(). B->A:pong(). X")
@@ -232,6 +245,19 @@ class Monitors(unittest.TestCase):
         audience = Monitor(FILM, "Audience")
         audience.received("Screen", "over")
         self.assertEqual(reason(audience.received, "Screen", "over"), "has ended")
+
+    def test_a_text_with_derivations_is_opened_by_them(self):
+        with self.assertRaises(Refused) as caught:
+            Monitor(AHEAD, "A")
+        self.assertEqual((caught.exception.status, caught.exception.text), rumpsteak.ask("explain", text=AHEAD))
+        certified = rumpsteak.certify(AHEAD, bound=17)
+        Monitor(certified, "A").sent("B", "x")
+        Session(certified).close()
+        wrong = certified.replace("bound 17", "bound 16", 1)
+        for opens in (lambda: Monitor(wrong, "A")), (lambda: Session(wrong)):
+            with self.assertRaises(Refused) as caught:
+                opens()
+            self.assertEqual((caught.exception.status, caught.exception.text), rumpsteak.ask("verify", text=wrong))
 
     def test_a_refused_text_has_no_monitor(self):
         for text, role in ((WRONG, "A"), (FILM, "Cinema")):

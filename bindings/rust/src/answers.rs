@@ -76,6 +76,18 @@ pub fn check(text: &str) -> Result<Report, Refusal> {
     report(ask(&["check"], text))
 }
 
+/// Checks as [`check`] does, with a search within this bound: no machine may put off more acts than this. The bound of [`check`] is 16.
+///
+/// ```
+/// let text = "roles A, B protocol B->A:x(). B->A:x(). A->B:y(). end
+/// machine A: B!y(). B?x(). B?x(). end";
+/// assert!(rumpsteak::check_within(text, 2).is_ok());
+/// assert!(rumpsteak::check_within(text, 1).is_err());
+/// ```
+pub fn check_within(text: &str, bound: u8) -> Result<Report, Refusal> {
+    report(ask(&["check", "--bound", &bound.to_string()], text))
+}
+
 /// Checks as [`check`] does, and says why: where a machine breaks which rule, by line and column, or how far it is ahead.
 ///
 /// ```
@@ -88,6 +100,29 @@ pub fn check(text: &str) -> Result<Report, Refusal> {
 /// ```
 pub fn explain(text: &str) -> Result<Report, Refusal> {
     report(ask(&["explain"], text))
+}
+
+/// Explains as [`explain`] does, with a search within this bound, as [`check_within`] has it.
+pub fn explain_within(text: &str, bound: u8) -> Result<Report, Refusal> {
+    report(ask(&["explain", "--bound", &bound.to_string()], text))
+}
+
+/// The document with a derivation of each role, by which it is accepted: [`Session::open`](crate::Session::open) and
+/// [`Monitor::open`](crate::Monitor::open) test these derivations, and search nothing. The refusal has the text of [`explain`].
+///
+/// ```
+/// let certified = rumpsteak::certify("roles A, B protocol B->A:x(). A->B:y(). end machine A: B!y(). B?x(). end")?;
+/// assert!(certified.contains("derivation A"));
+/// rumpsteak::Session::open(&certified)?;
+/// # Ok::<(), rumpsteak::Refusal>(())
+/// ```
+pub fn certify(text: &str) -> Result<String, Refusal> {
+    let answer = ask(&["check", "--derivations"], text);
+    if answer.status == raw::FINE {
+        Ok(answer.text)
+    } else {
+        Err(explain(text).err().unwrap_or_else(|| Refusal::of(answer)))
+    }
 }
 
 /// Moves sends of the role ahead of its receives, as often as is asked: the document with the machine that results, and with a
@@ -160,6 +195,51 @@ pub enum RefusalKind {
     Other(u32),
 }
 
+impl RefusalKind {
+    /// The status, as [`Answer`] has it.
+    pub fn status(self) -> u32 {
+        match self {
+            RefusalKind::Refused => 1,
+            RefusalKind::Usage => 2,
+            RefusalKind::Malformed => 3,
+            RefusalKind::Unprojectable => 4,
+            RefusalKind::TooLarge => 5,
+            RefusalKind::NoMemory => raw::NO_MEMORY,
+            RefusalKind::Other(status) => status,
+        }
+    }
+}
+
+/// What [`status_text`] says of the status.
+impl fmt::Display for RefusalKind {
+    fn fmt(&self, f: &mut fmt::Formatter<'_>) -> fmt::Result {
+        f.write_str(&text_of_status(self.status()))
+    }
+}
+
+/// What a status of the library says; None if no status has this number.
+///
+/// ```
+/// assert_eq!(rumpsteak::status_text(19).as_deref(), Some("the queue is full"));
+/// assert_eq!(rumpsteak::status_text(7), None);
+/// ```
+pub fn status_text(status: u32) -> Option<String> {
+    let (mut out, mut written) = (vec![0; 100], 0);
+    loop {
+        // SAFETY: `out` has room for its length, and `written` is a place of ours.
+        match unsafe { raw::rumpsteak_status_text(status, out.as_mut_ptr(), out.len(), &mut written) } {
+            raw::FINE => return Some(String::from_utf8_lossy(&out[..written]).into_owned()),
+            raw::TOO_SMALL => out.resize(written, 0),
+            _ => return None,
+        }
+    }
+}
+
+/// What the status says, or its number.
+pub(crate) fn text_of_status(status: u32) -> String {
+    status_text(status).unwrap_or_else(|| format!("status {status}"))
+}
+
 /// Why a text is refused: what the program prints, and for which role.
 #[derive(Clone, Debug, PartialEq, Eq)]
 pub struct Refusal {
@@ -178,19 +258,12 @@ impl Refusal {
             raw::NO_MEMORY => RefusalKind::NoMemory,
             other => RefusalKind::Other(other),
         };
-        let text = if kind == RefusalKind::NoMemory { "memory ran out\n".to_owned() } else { answer.text };
+        let text = if answer.text.is_empty() { text_of_status(answer.status) + "\n" } else { answer.text };
         Refusal { kind, text }
     }
 
-    /// The refusal of a text that isn't opened, in the words of `explain` if they can be had.
-    pub(crate) fn of_opening(status: u32, mut refusal: TextHandle, text: &str) -> Refusal {
-        if status == raw::NO_MEMORY {
-            return Refusal::of(Answer { status, text: String::new() });
-        }
-        let answer = ask(&["explain"], text);
-        if answer.status == status {
-            return Refusal::of(answer);
-        }
+    /// The refusal of a text that isn't opened, with what the call left.
+    pub(crate) fn of_opening(status: u32, mut refusal: TextHandle) -> Refusal {
         Refusal::of(Answer { status, text: refusal.text() })
     }
 

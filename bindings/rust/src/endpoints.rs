@@ -1,4 +1,5 @@
 //! Endpoints: a role of a session, that sends and receives.
+use crate::answers::text_of_status;
 use crate::names::{AsLabel, Label, NameTable, Names, Role};
 use crate::raw::{self, Handle};
 use crate::states::{state, State};
@@ -30,9 +31,37 @@ pub struct Endpoint {
 unsafe impl Send for Endpoint {}
 
 /// A message that was received: its label, by name and number, and its value.
+///
+/// It borrows the endpoint for the label's name. [`Message::into_owned`] lets the endpoint go, so that the message can be kept while
+/// the endpoint goes on.
 #[derive(Clone, Debug, PartialEq, Eq)]
 pub struct Message<'a> {
     pub name: &'a str,
+    pub label: Label,
+    pub value: Value,
+}
+
+impl Message<'_> {
+    /// The same message, with a name of its own.
+    ///
+    /// ```
+    /// let mut session = rumpsteak::Session::open("roles A, B protocol A->B:first(nat). A->B:second(nat). end")?;
+    /// let (mut a, mut b) = (session.endpoint("A")?, session.endpoint("B")?);
+    /// a.send("first", 1u64)?;
+    /// a.send("second", 2u64)?;
+    /// let messages = [b.receive()?.into_owned(), b.receive()?.into_owned()];
+    /// assert_eq!(messages.map(|message| message.name), ["first", "second"]);
+    /// # Ok::<(), Box<dyn std::error::Error>>(())
+    /// ```
+    pub fn into_owned(self) -> OwnedMessage {
+        OwnedMessage { name: self.name.to_owned(), label: self.label, value: self.value }
+    }
+}
+
+/// A [`Message`] that borrows nothing.
+#[derive(Clone, Debug, PartialEq, Eq)]
+pub struct OwnedMessage {
+    pub name: String,
     pub label: Label,
     pub value: Value,
 }
@@ -120,7 +149,8 @@ impl Endpoint {
 
     /// Receives a message. Until one comes it looks again, a hundred times at once and then each time after it let other threads run.
     ///
-    /// The message borrows the endpoint for its name. To send its value on, take that out first: `let value = end.receive()?.value;`.
+    /// The message borrows the endpoint for its name. To send its value on, take that out first: `let value = end.receive()?.value;`. To keep
+    /// the message, take [`Message::into_owned`].
     #[inline]
     pub fn receive(&mut self) -> Result<Message<'_>, ActError> {
         let mut pause = Pause::new();
@@ -321,7 +351,7 @@ impl fmt::Display for ActError {
         match self {
             ActError::NotNow { role, act, state } => write!(f, "{role} can't {act} now: its state is {state}"),
             ActError::Gone { peer } => write!(f, "nothing comes any more: the endpoint of {peer} was dropped"),
-            ActError::NoMemory => f.write_str("memory ran out"),
+            ActError::NoMemory => f.write_str(&text_of_status(raw::NO_MEMORY)),
         }
     }
 }
@@ -340,7 +370,7 @@ pub enum TrySendError {
 impl fmt::Display for TrySendError {
     fn fmt(&self, f: &mut fmt::Formatter<'_>) -> fmt::Result {
         match self {
-            TrySendError::Full(_) => f.write_str("the queue is full"),
+            TrySendError::Full(_) => f.write_str(&text_of_status(raw::FULL)),
             TrySendError::Act(error) => error.fmt(f),
         }
     }

@@ -1,5 +1,5 @@
 //! Monitors, for programs that have queues of their own.
-use crate::answers::{Refusal, TextHandle};
+use crate::answers::{text_of_status, Refusal, TextHandle};
 use crate::names::{AsLabel, AsRole, Label, NameTable, Names, Role};
 use crate::raw::{self, Handle};
 use crate::states::{state, State};
@@ -43,7 +43,8 @@ unsafe impl Send for Monitor {}
 type Judge = unsafe extern "C" fn(*mut Handle, u32, u32, u32, u64) -> u32;
 
 impl Monitor {
-    /// Checks the text as [`check`](crate::check) does, and opens the monitor of this role, at the start of its machine.
+    /// Checks the text as [`check`](crate::check) does, or by its own derivations as [`Session::open`](crate::Session::open) does, and opens
+    /// the monitor of this role, at the start of its machine.
     pub fn open(text: &str, role: &str) -> Result<Monitor, Refusal> {
         let names = Arc::new(Names { roles: Vec::new(), labels: Vec::new() });
         let mut monitor = Monitor { raw: Handle::closed(), names, role: role.to_owned(), room: 0 };
@@ -60,7 +61,7 @@ impl Monitor {
                 Ok(monitor)
             }
             raw::UNKNOWN => Err(Refusal::of_role(role)),
-            status => Err(Refusal::of_opening(status, refusal, text)),
+            status => Err(Refusal::of_opening(status, refusal)),
         }
     }
 
@@ -194,6 +195,22 @@ pub enum Reason {
     NoSuchLabel,
     /// The state has an arm with the label, and the value isn't of its sort.
     AnotherSort,
+}
+
+/// The reason as a sentence, without a full stop.
+impl fmt::Display for Reason {
+    fn fmt(&self, f: &mut fmt::Formatter<'_>) -> fmt::Result {
+        let status = match self {
+            Reason::UnknownName => return f.write_str("the text has no such role or label"),
+            Reason::HasEnded => raw::HAS_ENDED,
+            Reason::AnotherPeer => raw::ANOTHER_PEER,
+            Reason::StateReceives => raw::STATE_RECEIVES,
+            Reason::StateSends => raw::STATE_SENDS,
+            Reason::NoSuchLabel => raw::NO_SUCH_LABEL,
+            Reason::AnotherSort => raw::ANOTHER_SORT,
+        };
+        f.write_str(&text_of_status(status))
+    }
 }
 
 /// An act that the role's machine doesn't have in its state.

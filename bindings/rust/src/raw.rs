@@ -60,6 +60,7 @@ pub type ArmOf = unsafe extern "C" fn(*mut Handle, u32, *mut u32, *mut u32) -> u
 
 extern "C" {
     pub fn rumpsteak_version() -> u32;
+    pub fn rumpsteak_status_text(status: u32, out: *mut u8, out_len: usize, written: *mut usize) -> u32;
 
     pub fn rumpsteak_ask(words: *const u8, words_len: usize, text: *const u8, text_len: usize, answer: *mut Handle) -> u32;
     pub fn rumpsteak_text(text: *mut Handle, out: *mut u8, out_len: usize, written: *mut usize) -> u32;

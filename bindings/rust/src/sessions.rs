@@ -1,5 +1,5 @@
 //! Sessions that run in this process.
-use crate::answers::{Refusal, TextHandle};
+use crate::answers::{text_of_status, Refusal, TextHandle};
 use crate::endpoints::Endpoint;
 use crate::names::{AsRole, Label, NameTable, Names, Role};
 use crate::raw::{self, Handle};
@@ -60,7 +60,11 @@ impl Session {
     /// Checks the text as [`check`](crate::check) does, and begins its session. Each queue holds as many messages as the session's
     /// room (1,024 at most), so that no role waits for ever because a queue is full.
     ///
-    /// The refusal has the text of [`explain`](crate::explain).
+    /// If the text has a derivation of each role, as [`certify`](crate::certify) makes them, these are tested instead and nothing is
+    /// searched: so a program that starts tests what was searched when it was built.
+    ///
+    /// The refusal has the text of [`explain`](crate::explain), or what `ask(&["verify"], text)` answers if one of the text's own
+    /// derivations is at fault.
     pub fn open(text: &str) -> Result<Session, Refusal> {
         Session::with_capacity(text, 0)
     }
@@ -73,7 +77,7 @@ impl Session {
         // SAFETY: the pointers are those of a slice, and the handles are ours alone.
         let status = unsafe { raw::rumpsteak_open(text.as_ptr(), text.len(), capacity, &mut session.raw, &mut refusal.raw) };
         if status != raw::FINE {
-            return Err(Refusal::of_opening(status, refusal, text));
+            return Err(Refusal::of_opening(status, refusal));
         }
         session.names = Names::of(&mut session.raw, raw::rumpsteak_role_name, raw::rumpsteak_label_name);
         // SAFETY: the handle is open and ours alone.
@@ -149,11 +153,11 @@ pub enum EndpointError {
 
 impl fmt::Display for EndpointError {
     fn fmt(&self, f: &mut fmt::Formatter<'_>) -> fmt::Result {
-        f.write_str(match self {
-            EndpointError::UnknownRole => "the session has no such role",
-            EndpointError::HandedOut => "the role's endpoint was handed out before",
-            EndpointError::NoMemory => "memory ran out",
-        })
+        match self {
+            EndpointError::UnknownRole => f.write_str("the session has no such role"),
+            EndpointError::HandedOut => f.write_str(&text_of_status(raw::HANDED_OUT)),
+            EndpointError::NoMemory => f.write_str(&text_of_status(raw::NO_MEMORY)),
+        }
     }
 }
 

@@ -1,5 +1,5 @@
 //! What monitors let through, and why they refuse.
-use rumpsteak::{Monitor, Reason, RefusalKind, Value};
+use rumpsteak::{ask, explain, explain_within, Monitor, Reason, RefusalKind, Value};
 
 const FILM: &str = "roles Camera, Screen, Audience
 protocol rec X. Screen->Camera:ready(). Camera->Screen{frame(nat). Screen->Audience:shown(). X, over(). Screen->Audience:over(). end}";
@@ -37,6 +37,35 @@ fn a_refusal_gives_the_first_reason_and_changes_nothing() {
     assert_eq!(screen.received("Camera", "frame", &Value::Nat(u64::MAX)).unwrap_err().reason(), Reason::AnotherSort);
     screen.received("Camera", "frame", &Value::Int(1)).unwrap();
     assert_eq!(screen.acts(), 2);
+}
+
+#[test]
+fn a_reason_is_a_sentence() {
+    assert_eq!(Reason::HasEnded.to_string(), "the machine has ended");
+    assert_eq!(Reason::UnknownName.to_string(), "the text has no such role or label");
+    assert_eq!(RefusalKind::Refused.to_string(), "some role's machine is refused");
+    assert_eq!(RefusalKind::Other(99).to_string(), "status 99");
+}
+
+/// `A` sends before it receives 17 messages, one more than a search puts off.
+fn ahead_by_seventeen() -> String {
+    let (talks, acts) = ("B->A:v(). ".repeat(17), "B?v(). ".repeat(17));
+    format!("roles A, B protocol {talks}A->B:x(). end machine A: B!x(). {acts}end")
+}
+
+#[test]
+fn a_text_with_derivations_is_opened_by_them() {
+    let text = ahead_by_seventeen();
+    let refusal = Monitor::open(&text, "A").unwrap_err();
+    assert_eq!(refusal, explain(&text).unwrap_err());
+    assert!(explain_within(&text, 17).is_ok());
+    let certified = ask(&["check", "--bound", "17", "--derivations"], &text).text;
+    let mut monitor = Monitor::open(&certified, "A").unwrap();
+    monitor.sent("B", "x", &Value::Unit).unwrap();
+    let wrong = certified.replacen("bound 17", "bound 16", 1);
+    let refusal = Monitor::open(&wrong, "A").unwrap_err();
+    assert_eq!((refusal.kind(), refusal.role()), (RefusalKind::Refused, Some("A")));
+    assert_eq!(refusal.text(), ask(&["verify"], &wrong).text);
 }
 
 #[test]

@@ -1,3 +1,4 @@
+pub mod Explained
 pub mod Keeping
 pub mod Roles
 pub mod Setting

@@ -1,5 +1,5 @@
 -- A place that is set to what stands there.
-use Rattle.std.proofs.Common.{◌≡◌, ℕ, zero, suc, List, [], ◌∷◌, Some, slice_get, slice_set, refl, sym, ap}
+use Rattle.std.proofs.Common.{◌≡◌, ℕ, zero, suc, List, [], ◌∷◌, Some, slice_get, slice_set, sym, ap}
 
 module _ {A : Type 0} where
   some_is : (x y : A) → Some x ≡ Some y → x ≡ y

@@ -2,4 +2,5 @@ pub mod Endpoints
 pub mod Handles
 pub mod Monitors
 pub mod Opens
+pub mod Refusals
 pub mod Sessions

@@ -5,7 +5,7 @@ use Rattle.rs_model.specs.declared.limits.TheConstants.{DEFAULT_BOUND}
 use Rattle.rs_model.specs.declared.machines.State.{State}
 use Rattle.rs_model.specs.declared.machines.State.TheVariants.{Done}
 use Rattle.rs_monitor.specs.Monitors.{new_monitor}
-use Rattle.rs_open.specs.Opening.{IsOpenedText}
+use Rattle.rs_open.specs.Opening.{IsCertifiedText}
 use Rattle.rs_text.specs.Names.{place_of}
 use Rattle.rs_numbered.specs.declared.statuses.CallStatus.{CallStatus}
 use Rattle.rs_numbered.specs.declared.statuses.CallStatus.TheVariants.{Fine, NoMemory, Unknown}
@@ -15,7 +15,7 @@ use Rattle.rs_held.specs.declared.text_handles.KeptText.{KeptText}
 
 -- the monitor is that of the role with this name in the accepted session of the text, and has let no act through yet
 pub record IsWatched (text name : List ℕ) (held : HeldMonitor) : Type 0 where
-  pub opened : IsOpenedText DEFAULT_BOUND text held.opened
+  pub opened : IsCertifiedText DEFAULT_BOUND text held.opened
   pub role : ℕ
   pub named : place_of name held.opened.names.roles ≡ Some role
   pub machine : slice_get held.opened.session.machines role ≡ Some held.monitor.machine
@@ -26,7 +26,7 @@ pub record IsWatched (text name : List ℕ) (held : HeldMonitor) : Type 0 where
 abbrev pub WatchTells : List ℕ → List ℕ → Option HeldMonitor → Option HeldMonitor → Option KeptText → Option KeptText → CallStatus → Type 0
 WatchTells text name old new refusal_old refusal Fine = (held : HeldMonitor) × (new ≡ Some held) × IsWatched text name held × (refusal ≡ refusal_old)
 WatchTells text name old new refusal_old refusal Unknown =
-    (opened : AcceptedDocument) × IsOpenedText DEFAULT_BOUND text opened × (place_of name opened.names.roles ≡ None) × (new ≡ old) × (refusal ≡ refusal_old)
+    (opened : AcceptedDocument) × IsCertifiedText DEFAULT_BOUND text opened × (place_of name opened.names.roles ≡ None) × (new ≡ old) × (refusal ≡ refusal_old)
 WatchTells text name old new refusal_old refusal NoMemory = (new ≡ old) × (refusal ≡ refusal_old)
 WatchTells text name old new refusal_old refusal status = (new ≡ old) × IsRefusal text refusal status
 

@@ -5,10 +5,11 @@ use Rattle.rs_answers.specs.declared.verdicts.Verdict.TheVariants as verdict
 use Rattle.rs_endpoints.specs.Endpoints.{AreBegun, Endpoint_data}
 use Rattle.rs_model.specs.declared.limits.TheConstants.{DEFAULT_BOUND, MOST_CAPACITY}
 use Rattle.rs_model.specs.declared.values.Value.TheVariants.{Unit as NoValue}
-use Rattle.rs_open.specs.Opening.{IsOpenedText, IsRefusedText}
+use Rattle.rs_open.specs.Opening.{IsCertifiedText}
 use Rattle.rs_safety.specs.Room.{room_of}
 use Rattle.rs_numbered.specs.declared.statuses.CallStatus.{CallStatus}
 use Rattle.rs_numbered.specs.declared.statuses.CallStatus.TheVariants.{Fine, Refused, Malformed, Unprojectable, TooLarge, NoMemory, Unknown, HandedOut}
+use Rattle.rs_held.specs.Refusals.{IsExplained}
 use Rattle.rs_held.specs.declared.endpoint_handles.HeldEndpoint.{HeldEndpoint}
 use Rattle.rs_held.specs.declared.session_handles.BegunSession.{BegunSession}
 use Rattle.rs_held.specs.declared.text_handles.KeptText.{KeptText}
@@ -20,7 +21,7 @@ capacity_for asked room = if nat_le 1 asked && nat_le asked MOST_CAPACITY then a
 
 -- the session is the accepted one of the text, and none of its roles has done anything yet, over rings of that capacity
 pub record IsBegun (text : List ℕ) (asked : ℕ) (begun : BegunSession) : Type 0 where
-  pub opened : IsOpenedText DEFAULT_BOUND text begun.opened
+  pub opened : IsCertifiedText DEFAULT_BOUND text begun.opened
   pub endpoints : AreBegun begun.opened.session.machines (capacity_for asked (room_of begun.opened.session.derivations)) begun.endpoints.items
 
 -- the status that tells a refusal
@@ -30,10 +31,10 @@ status_of verdict.Unprojectable = Unprojectable
 status_of verdict.TooLarge = TooLarge
 status_of _ = Refused
 
--- the text is refused, and what `check` answers to it is kept; the status tells why
+-- the text is refused, and what is answered to it is kept, with the reason; the status tells why
 abbrev pub IsRefusal : List ℕ → Option KeptText → CallStatus → Type 0
 IsRefusal text refusal status =
-    (kept : KeptText) × (why : Verdict) × (refusal ≡ Some kept) × IsRefusedText DEFAULT_BOUND text (record { text = kept.bytes.items; verdict = why }) × (status ≡ status_of why)
+    (kept : KeptText) × (why : Verdict) × (refusal ≡ Some kept) × IsExplained DEFAULT_BOUND text (record { text = kept.bytes.items; verdict = why }) × (status ≡ status_of why)
 
 -- Fine: the session of the text is begun, and no refusal is kept. NoMemory: nothing has changed. Else the text is refused, which is
 -- kept, and the session's handle is as it was

@@ -4,8 +4,10 @@
 
 mod endpoint_handles;
 pub mod endpoints;
+pub mod laws;
 mod monitor_handles;
 pub mod monitors;
+mod openings;
 mod session_handles;
 pub mod sessions;
 mod text_handles;

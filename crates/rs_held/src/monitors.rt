@@ -12,13 +12,14 @@ ghost use Rattle.rs_numbered.specs.declared.statuses.CallStatus.TheVariants.{Fin
 ghost use Rattle.rs_safety.specs.Room.{room_of};
 ghost use Rattle.rs_text.specs.Names.{place_of};
 
+use crate::openings::opened;
 use crate::sessions::status_of;
 use crate::texts::kept;
 use crate::{HeldMonitor, MonitorHandle, TextHandle};
 use rs_model::{NoMemory, Role, State};
 use rs_monitor::Monitor;
 use rs_numbered::{CallStatus, arm_at, name_at, number_of, standing};
-use rs_open::{OpenRefused, OpenSession, open};
+use rs_open::{OpenRefused, OpenSession};
 use rs_text::find_role;
 use rs_watch::monitor_of;
 use std::alloc::Global;
@@ -44,8 +45,9 @@ fn watched(alloc: Global, opened: OpenSession, role: Role) -> Result<Box<HeldMon
     Ok(Box::new(alloc, HeldMonitor { opened, monitor })?)
 }
 
-/// Accepts the text as `check` does, and opens the monitor of the role with this name. Where the text is refused `refusal` is what
-/// `check` answers.
+/// Accepts the text by its own derivations where it has one of each role, as `verify` does, and else by a search, as `check` does;
+/// and opens the monitor of the role with this name. Where the text is refused `refusal` is what `explain` answers, or where one of
+/// its own derivations is at fault what `verify` does.
 pub fn open_text(
     alloc: Global,
     text: &[u8],
@@ -55,7 +57,7 @@ pub fn open_text(
 ) -> CallStatus
     ensures { WatchTells text.now name.now monitor.old.value monitor.new.value refusal.old.value refusal.new.value result }
 {
-    match open(alloc, text) {
+    match opened(alloc, text) {
         Ok(opened) => match role_named(&opened, name) {
             Some(role) => match watched(alloc, opened, role) {
                 Ok(held) => {

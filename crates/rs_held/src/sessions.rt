@@ -9,13 +9,14 @@ ghost use Rattle.rs_numbered.specs.Names.{NameTells, NumberTells};
 ghost use Rattle.rs_numbered.specs.declared.statuses.CallStatus.TheVariants.{Fine};
 ghost use Rattle.rs_safety.specs.Room.{room_of};
 
+use crate::openings::opened;
 use crate::texts::kept;
 use crate::{BegunSession, EndpointHandle, HeldEndpoint, SessionHandle, TextHandle};
 use rs_answers::Verdict;
 use rs_endpoints::{Endpoint, begin};
 use rs_model::{Capacity, NoMemory, Value};
 use rs_numbered::{CallStatus, name_at, number_of};
-use rs_open::{OpenRefused, OpenSession, open};
+use rs_open::{OpenRefused, OpenSession};
 use std::alloc::{AllocFailed, Global};
 
 /// The capacity that is asked for, or where no ring has it the session's room, or the greatest that a ring has.
@@ -50,8 +51,9 @@ pub(crate) fn status_of(verdict: Verdict) -> CallStatus
     }
 }
 
-/// Accepts the text as `check` does, and begins its session over rings of so many messages, 1 to 1,024, or else of as many as its
-/// room, 1,024 at most. Where the text is refused `refusal` is what `check` answers.
+/// Accepts the text by its own derivations where it has one of each role, as `verify` does, and else by a search, as `check` does;
+/// and begins its session over rings of so many messages, 1 to 1,024, or else of as many as its room, 1,024 at most. Where the text
+/// is refused `refusal` is what `explain` answers, or where one of its own derivations is at fault what `verify` does.
 pub fn open_text(
     alloc: Global,
     text: &[u8],
@@ -61,7 +63,7 @@ pub fn open_text(
 ) -> CallStatus
     ensures { OpenTells text.now capacity session.old.value session.new.value refusal.old.value refusal.new.value result }
 {
-    match open(alloc, text) {
+    match opened(alloc, text) {
         Ok(opened) => match begun(alloc, opened, capacity) {
             Ok(begun) => {
                 session.put(begun);

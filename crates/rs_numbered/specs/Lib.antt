@@ -4,4 +4,5 @@ pub mod Messages
 pub mod Monitors
 pub mod Names
 pub mod States
+pub mod StatusTexts
 pub mod Statuses

@@ -9,6 +9,7 @@ mod messages;
 mod monitors;
 mod names;
 mod states;
+mod status_texts;
 mod statuses;
 
 pub use copies::hand_out;
@@ -17,4 +18,5 @@ pub use messages::{MessageView, view_of};
 pub use monitors::{may_send, received, sent};
 pub use names::{name_at, number_of};
 pub use states::{arm_at, standing};
+pub use status_texts::status_text;
 pub use statuses::CallStatus;

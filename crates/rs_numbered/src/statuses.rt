@@ -40,7 +40,7 @@ pub enum CallStatus {
     Empty,
     /// The role's state has no such act.
     NotNow,
-    /// There is no such role, label, arm or kind.
+    /// There is no such role, label, arm, kind or status.
     Unknown,
     /// The role's endpoint was handed out before.
     HandedOut,
@@ -91,6 +91,74 @@ impl CallStatus {
             CallStatus::NoSuchLabel => 35,
             CallStatus::AnotherSort => 36,
             CallStatus::HasEnded => 37,
+        }
+    }
+
+    /// The status with this number; None if no status has it.
+    pub fn numbered(number: u32) -> Option<CallStatus>
+        ensures { result ≡ spec.status_numbered number }
+    {
+        match number {
+            0 => Some(CallStatus::Fine),
+            1 => Some(CallStatus::Refused),
+            2 => Some(CallStatus::Usage),
+            3 => Some(CallStatus::Malformed),
+            4 => Some(CallStatus::Unprojectable),
+            5 => Some(CallStatus::TooLarge),
+            8 => Some(CallStatus::NoMemory),
+            9 => Some(CallStatus::Stopped),
+            10 => Some(CallStatus::RingsFull),
+            11 => Some(CallStatus::RoomTooSmall),
+            16 => Some(CallStatus::NeedsWorkers),
+            17 => Some(CallStatus::TooSmall),
+            18 => Some(CallStatus::Closed),
+            19 => Some(CallStatus::Full),
+            20 => Some(CallStatus::Empty),
+            21 => Some(CallStatus::NotNow),
+            22 => Some(CallStatus::Unknown),
+            23 => Some(CallStatus::HandedOut),
+            24 => Some(CallStatus::Gone),
+            32 => Some(CallStatus::AnotherPeer),
+            33 => Some(CallStatus::StateReceives),
+            34 => Some(CallStatus::StateSends),
+            35 => Some(CallStatus::NoSuchLabel),
+            36 => Some(CallStatus::AnotherSort),
+            37 => Some(CallStatus::HasEnded),
+            _ => None,
+        }
+    }
+
+    /// What the status says, in English, without a full stop.
+    pub fn text(self) -> &'static str
+        ensures { result.now ≡ spec.text_of self }
+    {
+        match self {
+            CallStatus::Fine => "the call did what it was asked",
+            CallStatus::Refused => "some role's machine is refused",
+            CallStatus::Usage => "the words are none of the program's",
+            CallStatus::Malformed => "the text is at fault",
+            CallStatus::Unprojectable => "the protocol has no projection onto some role",
+            CallStatus::TooLarge => "a quantity passes its limit",
+            CallStatus::NoMemory => "memory ran out",
+            CallStatus::Stopped => "a role was stopped at the limit of its acts",
+            CallStatus::RingsFull => "no role could move, since queues were full",
+            CallStatus::RoomTooSmall => "the queues are smaller than several workers need",
+            CallStatus::NeedsWorkers =>
+                "the words ask for several workers, of which the library has none",
+            CallStatus::TooSmall => "what was to be written is too long for its place",
+            CallStatus::Closed => "nothing is open behind the handle",
+            CallStatus::Full => "the queue is full",
+            CallStatus::Empty => "nothing has come yet",
+            CallStatus::NotNow => "the role's state has no such act",
+            CallStatus::Unknown => "there is no such role, label, arm, kind or status",
+            CallStatus::HandedOut => "the role's endpoint was handed out before",
+            CallStatus::Gone => "nothing comes any more, since the sender's endpoint was given up",
+            CallStatus::AnotherPeer => "the state acts with another role",
+            CallStatus::StateReceives => "the state receives",
+            CallStatus::StateSends => "the state sends",
+            CallStatus::NoSuchLabel => "no arm of the state has the label",
+            CallStatus::AnotherSort => "the value isn't of the arm's sort",
+            CallStatus::HasEnded => "the machine has ended",
         }
     }
 

@@ -6,5 +6,6 @@ mod answers;
 mod endpoints;
 mod monitors;
 mod sessions;
+mod statuses;
 mod texts;
 mod versions;

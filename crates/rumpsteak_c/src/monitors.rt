@@ -14,8 +14,9 @@ ghost use Rattle.rs_numbered.specs.Statuses.{Answers};
 use rs_held::{MonitorHandle, TextHandle, monitors};
 use std::alloc::Global;
 
-/// Accepts the text as `check` does, and opens the monitor of the role with this name. Where the text is refused `refusal` is what
-/// `check` answers.
+/// Accepts the text by its own derivations where it has one of each role, as `verify` does, and else by a search, as `check` does;
+/// and opens the monitor of the role with this name. Where the text is refused `refusal` is what `explain` answers, or where one of
+/// its own derivations is at fault what `verify` does.
 #[unsafe(no_mangle)]
 pub extern "C" fn rumpsteak_monitor_open(
     alloc: Global,

@@ -11,8 +11,9 @@ ghost use Rattle.rs_numbered.specs.Statuses.{Answers};
 use rs_held::{EndpointHandle, SessionHandle, TextHandle, sessions};
 use std::alloc::Global;
 
-/// Accepts the text as `check` does, and begins its session over rings of so many messages, 1 to 1,024, or else of as many as its
-/// room, 1,024 at most. Where the text is refused `refusal` is what `check` answers.
+/// Accepts the text by its own derivations where it has one of each role, as `verify` does, and else by a search, as `check` does;
+/// and begins its session over rings of so many messages, 1 to 1,024, or else of as many as its room, 1,024 at most. Where the text
+/// is refused `refusal` is what `explain` answers, or where one of its own derivations is at fault what `verify` does.
 #[unsafe(no_mangle)]
 pub extern "C" fn rumpsteak_open(
     alloc: Global,

@@ -1,4 +1,4 @@
-use Rattle.std.proofs.Common.{rules, ◌≡◌, subst, sym}
+use Rattle.std.proofs.Common.{rules, subst, sym}
 use Rattle.rs_numbered.specs.declared.statuses.CallStatus.{CallStatus}
 use Rattle.rs_held.specs.Monitors.{WatchTells}
 use Rattle.rs_held.proofs.Telling.{is_refusal, refuses_to_watch}

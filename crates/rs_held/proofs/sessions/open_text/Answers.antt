@@ -1,9 +1,9 @@
-use Rattle.std.proofs.Common.{rules, ◌≡◌, subst, sym}
+use Rattle.std.proofs.Common.{rules, subst, sym}
 use Rattle.rs_answers.specs.declared.accepting.AcceptedDocument.{AcceptedDocument}
 use Rattle.rs_endpoints.specs.Endpoints.{AreBegun}
 use Rattle.rs_model.specs.declared.limits.TheConstants.{DEFAULT_BOUND}
 use Rattle.rs_numbered.specs.declared.statuses.CallStatus.{CallStatus}
-use Rattle.rs_open.specs.Opening.{IsOpenedText}
+use Rattle.rs_open.specs.Opening.{IsCertifiedText}
 use Rattle.rs_safety.specs.Room.{room_of}
 use Rattle.rs_held.specs.Sessions.{OpenTells, capacity_for}
 use Rattle.rs_held.proofs.Telling.{is_refusal, refuses_to_open}
@@ -14,7 +14,7 @@ returns-in-Ok-begun c = (
   c.in-Ok-begun.begun.value,
   c.put.ensures,
   record {
-    opened = subst (λ (d : AcceptedDocument). IsOpenedText DEFAULT_BOUND c.args.text.now d) (sym c.in-Ok-begun.ensures.same) c.in-Ok.ensures.opened;
+    opened = subst (λ (d : AcceptedDocument). IsCertifiedText DEFAULT_BOUND c.args.text.now d) (sym c.in-Ok-begun.ensures.same) c.in-Ok.ensures.opened;
     endpoints = subst (λ (d : AcceptedDocument). AreBegun d.session.machines (capacity_for c.args.capacity (room_of d.session.derivations)) c.in-Ok-begun.begun.value.endpoints.items) (sym c.in-Ok-begun.ensures.same) c.in-Ok-begun.ensures.begun;
   },
   search rules,

@@ -1,0 +1,24 @@
+//! Laws about the definitions: each function does nothing, and its contract is the law.
+
+ghost use Rattle.std.specs.Prelude.{◌≤◌, ℕ, List, false, length, true};
+ghost use Rattle.rs_answers.specs.Data.{Answer_data};
+ghost use Rattle.rs_answers.specs.Verifying.{Verifies};
+ghost use Rattle.rs_answers.specs.declared.accepting.AcceptedDocument.{AcceptedDocument};
+ghost use Rattle.rs_documents.specs.Data.{Document_data};
+ghost use Rattle.rs_documents.specs.Documents.{SpellsDocument};
+ghost use Rattle.rs_held.specs.Refusals.{IsExplained, Tests};
+ghost use Rattle.rs_model.specs.declared.limits.TheConstants.{MOST_BYTES};
+ghost use Rattle.rs_open.specs.Opening.{IsCertifiedText};
+ghost use Rattle.rs_reasons.specs.Explains.{Explains};
+
+/// No text is both opened and refused.
+pub fn explained_texts_are_not_opened()
+    ensures { (bound : ℕ) (bytes : List ℕ) (opened : AcceptedDocument) (answer : Answer_data) → IsCertifiedText bound bytes opened → IsExplained bound bytes answer → ⊥ }
+{}
+
+/// What is answered to a refused text that spells a document, and isn't too long, is what the program answers to the document: to
+/// `verify` if the document's own derivations decide, and otherwise to `explain`.
+pub fn refused_texts_have_the_answer_of_a_word()
+    ensures verified { (bound : ℕ) (bytes : List ℕ) (d : Document_data) (answer : Answer_data) → length bytes ≤ MOST_BYTES → SpellsDocument bytes d → Tests d true → IsExplained bound bytes answer → Verifies d answer }
+    ensures explained { (bound : ℕ) (bytes : List ℕ) (d : Document_data) (answer : Answer_data) → length bytes ≤ MOST_BYTES → SpellsDocument bytes d → Tests d false → IsExplained bound bytes answer → Explains bound bytes d answer }
+{}
