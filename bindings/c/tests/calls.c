@@ -111,7 +111,7 @@ static void answers(void) {
 static void names(void) {
     rumpsteak_session session = {0};
     rumpsteak_text_handle refusal = {0};
-    uint8_t out[64];
+    uint8_t out[1024];
     size_t length;
     uint32_t number;
     uint64_t room = 0;
