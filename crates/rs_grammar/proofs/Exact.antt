@@ -1,11 +1,11 @@
 -- What is read, and what has a first fault: for the tokens of a text.
-use Rattle.std.proofs.Common.{◌≡◌, ℕ, ◌≤◌, List, [], ◌∷◌, ◌++◌, length, Bool, true, false, ◌&&◌, if◌then◌else◌, Option, Some, None, Result, Ok, Err, refl, sym, ap, ◌∙◌, subst, ◌⊎◌, inl, inr, append-nil}
+use Rattle.std.proofs.Common.{◌≡◌, ℕ, ◌≤◌, List, [], ◌∷◌, ◌++◌, length, Bool, true, false, ◌&&◌, if◌then◌else◌, Option, Some, None, Result, Ok, Err, IfOk, IfErr, refl, sym, ap, ◌∙◌, subst, ◌⊎◌, inl, inr, append-nil}
 use Rattle.rs_grammar.specs.declared.symbols.Symbol.{Symbol}
 use Rattle.rs_grammar.specs.Building.{Building, next_among, on_ok, built}
 use Rattle.rs_grammar.specs.Ends.{no_step}
 use Rattle.rs_grammar.specs.Grammar.{Grammar, whole}
 use Rattle.rs_grammar.specs.Places.{Takes, Leads, can_end}
-use Rattle.rs_grammar.specs.Readings.{event, EndsAt, IsReadAs, fault_rule, Makes}
+use Rattle.rs_grammar.specs.Readings.{event, EndsAt, IsFirstFault, IsReadAs, fault_rule, Makes}
 use Rattle.rs_grammar.specs.Steps.{Reader, Step, step, is_left, settled, is_done, placed, go_on, on_step, automaton}
 use Rattle.rs_grammar.specs.Tests.{is_readable}
 use Rattle.rs_grammar.specs.Trees.{Event, Trees, SpellsAs, events_of, signs_in}
@@ -18,7 +18,9 @@ use Rattle.rs_text.specs.declared.faults.TextKind.{TextKind}
 use Rattle.rs_text.specs.FirstFaults.{FirstFaultBy, IsWhole}
 use Rattle.rs_text.specs.Lexemes.{Lexeme, signs_of}
 use Rattle.rs_text.specs.Lexing.{Lexed}
-use Rattle.rs_text.specs.Readings.{Reading, feed_sign, next_lexeme_of, read_all, last_of}
+use Rattle.rs_text.specs.declared.reading.Stop.{Stop}
+use Rattle.rs_text.specs.declared.reading.Stop.TheVariants as stops
+use Rattle.rs_text.specs.Readings.{Reading, ReadsBy, StopsBy, feed_sign, next_lexeme_of, read_all, last_of}
 use Rattle.rs_text.specs.Signs.{Sign, broken}
 use Rattle.rs_text.specs.Tokens.{AreTokens}
 use Rattle.rs_text.proofs.Judging as judging
@@ -196,3 +198,26 @@ read_no_fault g take s v bytes at until k offset r a f =
 
 pub tokens_have_one_tree : (g : Grammar) (signs : List Sign) (one other : Trees) → is_readable g ≡ true → SpellsAs g whole signs one → SpellsAs g whole signs other → one ≡ other
 tokens_have_one_tree g signs one other r a b = let q = readable g r in one_tree g q.decided whole signs one other (whole_place g q).fits a b
+
+-- ---- what a call of the loop says
+
+pub loop_read : {S : Type 0} (g : Grammar) (take : Building S) (s : S) (r d : Reader S) (v : S) (bytes : List ℕ) (at : ℕ) (result : Result ℕ Stop) → is_readable g ≡ true → at ≤ length bytes → r ≡ start_of s → v ≡ d.value
+    → IfOk result (λ until. ReadsBy (automaton g take) r bytes at (Ok (record { reader = d; until = until }))) → IfOk result (λ until. IsReadAs g take s bytes at v until)
+loop_read g take s r d v bytes at (Ok until) c within first same h =
+    let t = tokens bytes at within in
+    subst (λ z. IsReadAs g take s bytes at z until) (sym same)
+    (sound g (readable g c) take s bytes at t.0 (record { reader = d; until = until }) t.1 (subst (λ (z : Reader _). read_all (automaton g take) (Ok z) t.0 ≡ Ok (record { reader = d; until = until })) first (h t.0 t.1)))
+loop_read g take s r d v bytes at (Err stop) c within first same h = tt
+
+fault_told : {S : Type 0} (g : Grammar) (q : Readable g) (take : Building S) (s : S) (bytes : List ℕ) (at : ℕ) (ls : List Lexeme) (f : TextFault) → Lexed bytes at ls → read_all (automaton g take) (Ok (start_of s)) ls ≡ Err f
+    → FirstFault g take s bytes at f.kind f.at
+fault_told g q take s bytes at ls f lexed e =
+    first_of (fault_rule g take s) (λ xs r. Makes g take s xs r.value) bytes at ls f (last_of (automaton g take) (start_of s) (Ok (start_of s)) ls) lexed (found (judges g q take s) (start_of s) bytes at ls f (begins g q take s) lexed e)
+
+pub loop_stops : {S : Type 0} (g : Grammar) (take : Building S) (s : S) (r : Reader S) (bytes : List ℕ) (at : ℕ) (result : Result ℕ Stop) → is_readable g ≡ true → at ≤ length bytes → r ≡ start_of s
+    → IfErr result (λ stop. StopsBy (automaton g take) stop r bytes at) → IfErr result (λ stop. IsFirstFault g take s bytes at stop)
+loop_stops g take s r bytes at (Ok until) c within first h = tt
+loop_stops g take s r bytes at (Err stops.Memory) c within first h = tt
+loop_stops g take s r bytes at (Err (stops.Fault f)) c within first h =
+    let t = tokens bytes at within in
+    fault_told g (readable g c) take s bytes at t.0 f t.1 (subst (λ (z : Reader _). read_all (automaton g take) (Ok z) t.0 ≡ Err f) first (h t.0 t.1))

@@ -7,9 +7,11 @@ use Rattle.rs_grammar.specs.Places.{Takes, Leads, can_end, wanted_at}
 use Rattle.rs_grammar.specs.Trees.{Event, Trees, SpellsAs, Spells, Begins, events_of, signs_in}
 use Rattle.rs_text.specs.declared.faults.TextKind.{TextKind}
 use Rattle.rs_text.specs.declared.faults.TextKind.TheVariants as kind
+use Rattle.rs_text.specs.declared.reading.Stop.{Stop}
+use Rattle.rs_text.specs.declared.reading.Stop.TheVariants as stops
 use Rattle.rs_text.specs.declared.tokens.FaultKind.{FaultKind}
 use Rattle.rs_text.specs.Faults.{kind_of}
-use Rattle.rs_text.specs.FirstFaults.{FaultRule, IsWhole}
+use Rattle.rs_text.specs.FirstFaults.{FaultRule, FirstFaultBy, IsWhole}
 use Rattle.rs_text.specs.Lexemes.{Lexeme, signs_of}
 use Rattle.rs_text.specs.Signs.{Sign, broken}
 use Rattle.rs_text.specs.Tokens.{AreTokens}
@@ -80,3 +82,8 @@ fault_rule g take s = λ before t next k. FaultAt g take s before t next k
 -- the tokens before make this value
 abbrev pub Makes : {S : Type 0} → Grammar → Building S → S → (before : List Sign) → S → Type 0
 Makes g take s before value = (t : Sign) × (place : List Symbol) × Reaches g take s before t place value
+
+-- why a reading stops: memory was refused, which may happen anywhere, or this is the first fault of the text
+abbrev pub IsFirstFault : {S : Type 0} → Grammar → Building S → S → (bytes : List ℕ) → (at : ℕ) → Stop → Type 0
+IsFirstFault g take s bytes at stops.Memory = Unit {0}
+IsFirstFault g take s bytes at (stops.Fault f) = FirstFaultBy (fault_rule g take s) bytes at f.kind f.at

@@ -13,5 +13,5 @@ mod symbols;
 
 pub use builders::{Builder, Chosen};
 pub use classes::{Class, Keyword};
-pub use reader::{GrammarReader, Place};
+pub use reader::{GrammarReader, Place, read};
 pub use symbols::Symbol;

@@ -1,9 +1,10 @@
 //! The one reader of all grammars.
 
-ghost use Rattle.std.specs.Prelude.{◌≡◌, ◌≤◌, ◌++◌, ◌∷◌, [], is_some, length, IfOk, OnOk, None};
+ghost use Rattle.std.specs.Prelude.{◌≡◌, ◌≤◌, ◌++◌, ◌∷◌, [], is_some, length, IfOk, IfErr, OnOk, None};
 ghost use Rattle.rs_grammar.specs.Code.{Steps, place_of};
 ghost use Rattle.rs_grammar.specs.Grammar.{whole};
 ghost use Rattle.rs_grammar.specs.Places as places;
+ghost use Rattle.rs_grammar.specs.Readings.{IsFirstFault, IsReadAs};
 ghost use Rattle.rs_grammar.specs.Steps as spec;
 ghost use Rattle.rs_text.specs.Lexing.{next_lexeme};
 ghost use Rattle.rs_text.specs.Readings.{Feeds};
@@ -12,6 +13,7 @@ use crate::{Builder, Symbol};
 use rs_model::NoMemory;
 use rs_text::{
     Stop, Terminal, TextKind, TextToken, TokenReader, Wanted, expected, fault, next_token,
+    read_tokens,
 };
 use std::alloc::Global;
 use std::marker::Model;
@@ -248,4 +250,27 @@ impl<'a, B: Builder<'a>> TokenReader<'a> for GrammarReader<B> {
     fn is_read(&self) -> bool {
         self.place.is_done()
     }
+}
+
+/// Reads a text from the offset `at` on by the builder's grammar, and returns what was made of its tokens, with the offset of
+/// the token after them.
+///
+/// What is read is the longest sentence of the grammar that the text begins with there, and the builder is then what its
+/// actions make of it. Otherwise the first fault is told, or that memory was refused.
+pub fn read<'a, B: Builder<'a>>(
+    place: Place,
+    builder: B,
+    bytes: &'a [u8],
+    at: usize,
+) -> (B, Result<usize, Stop>)
+    requires begin { place ≡ whole }
+    requires at { at ≤ length bytes.now }
+    ensures ok { IfOk result.1 (λ until. IsReadAs B.grammar B.building builder bytes.now at result.0 until) }
+    ensures within { IfOk result.1 (λ until. until ≤ length bytes.now) }
+    ensures err { IfErr result.1 (λ stop. IsFirstFault B.grammar B.building builder bytes.now at stop) }
+{
+    let mut reader = GrammarReader::new(place, builder);
+    let result = read_tokens(&mut reader, bytes, at);
+    let GrammarReader { builder, .. } = reader;
+    (builder, result)
 }
