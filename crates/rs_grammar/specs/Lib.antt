@@ -1,0 +1,10 @@
+pub mod Classes
+pub mod Grammar
+pub mod Trees
+pub mod Places
+pub mod Building
+pub mod Tests
+pub mod Steps
+pub mod Readings
+pub mod Code
+pub mod Ends
