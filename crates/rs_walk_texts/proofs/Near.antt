@@ -4,7 +4,7 @@ use Rattle.std.proofs.lemmas.Bool.{cases_lt}
 use Rattle.std.proofs.lemmas.Bool.Decides.{eqb_tells, Decides-ltb}
 use Rattle.std.proofs.lemmas.Slice.Eq.{bytes_eq-Decides}
 use Rattle.std.specs.Str.{bytes_eq, str_eq_ignore_ascii_case}
-use Rattle.rs_walk_texts.specs.Nearness.{AreSameButForCase, HasOneMore, DifferByOne, IsNear, differ_by_one, is_near}
+use Rattle.rs_walk_texts.specs.Nearness.{AreSameButForCase, HasOneMore, SwapsTwo, DifferByOne, IsNear, are_swapped, differ_by_one, differ_here, is_near}
 
 or_tells : (a b : Bool) → (a || b) ≡ true → (a ≡ true) ⊎ (b ≡ true)
 or_tells true b h = inl refl
@@ -17,6 +17,20 @@ or_one false b h = absurd (cc (h))
 or_two : (a b : Bool) → b ≡ true → (a || b) ≡ true
 or_two true b h = refl
 or_two false b h = h
+
+both_true : (a b : Bool) → (a && b) ≡ true → (a ≡ true) × (b ≡ true)
+both_true true b h = (refl, h)
+both_true false b h = absurd (cc (h))
+
+true_both : (a b : Bool) → a ≡ true → b ≡ true → (a && b) ≡ true
+true_both true b h k = k
+true_both false b h k = absurd (cc (h))
+
+same_number : (x y : ℕ) → (x == y) ≡ true → x ≡ y
+same_number x y h = elim (eqb_tells x y) [ inl t ↦ t.1 | inr t ↦ absurd (cc (h, t.0)) ]
+
+own_number : (x : ℕ) → (x == x) ≡ true
+own_number x = elim (eqb_tells x x) [ inl t ↦ t.0 | inr t ↦ absurd (t.1 refl) ]
 
 self : (xs : List ℕ) → bytes_eq xs xs ≡ true
 self xs = (bytes_eq-Decides xs xs).1 refl
@@ -38,35 +52,61 @@ more_before b xs ys (inl r) = inl record {
 }
 more_before b xs ys (inr (inl r)) = inr (inl record {
   before = b ∷ r.before;
-  byte = r.byte;
+  first = r.first;
+  second = r.second;
   behind = r.behind;
   one_is = ap (λ (z : List ℕ). b ∷ z) r.one_is;
   other_is = ap (λ (z : List ℕ). b ∷ z) r.other_is;
 })
-more_before b xs ys (inr (inr r)) = inr (inr record {
+more_before b xs ys (inr (inr (inl r))) = inr (inr (inl record {
   before = b ∷ r.before;
   byte = r.byte;
   behind = r.behind;
   one_is = ap (λ (z : List ℕ). b ∷ z) r.one_is;
   other_is = ap (λ (z : List ℕ). b ∷ z) r.other_is;
-})
+}))
+more_before b xs ys (inr (inr (inr r))) = inr (inr (inr record {
+  before = b ∷ r.before;
+  byte = r.byte;
+  behind = r.behind;
+  one_is = ap (λ (z : List ℕ). b ∷ z) r.one_is;
+  other_is = ap (λ (z : List ℕ). b ∷ z) r.other_is;
+}))
+
+swapped_right : (x : ℕ) (xs : List ℕ) (y : ℕ) (ys : List ℕ) → are_swapped x xs y ys ≡ true → SwapsTwo (x ∷ xs) (y ∷ ys)
+swapped_right x [] y ys h = absurd (cc (h))
+swapped_right x (b ∷ xs) y [] h = absurd (cc (h))
+swapped_right x (b ∷ xs) y (c ∷ ys) h =
+    let p = both_true (b == y) ((c == x) && bytes_eq xs ys) h in
+    let q = both_true (c == x) (bytes_eq xs ys) p.1 in
+    let e : b ≡ y = same_number b y p.0 in
+    let f : c ≡ x = same_number c x q.0 in
+    let g : xs ≡ ys = (bytes_eq-Decides xs ys).0 q.1 in
+    record {
+      before = [];
+      first = x;
+      second = y;
+      behind = xs;
+      one_is = ap (λ (z : ℕ). x ∷ z ∷ xs) e;
+      other_is = ap (λ (z : ℕ). y ∷ z ∷ ys) f ∙ ap (λ (z : List ℕ). y ∷ x ∷ z) (sym g);
+    }
 
 one_more : (x : ℕ) (xs ys : List ℕ) → xs ≡ ys → HasOneMore (x ∷ xs) ys
 one_more x xs ys e = record { before = []; byte = x; behind = xs; one_is = refl; other_is = sym e }
 
 differ_right : (xs ys : List ℕ) → differ_by_one xs ys ≡ true → DifferByOne xs ys
 differ_right [] [] h = absurd (cc (h))
-differ_right [] (y ∷ ys) h = inr (inr (one_more y ys [] (none_left ys h)))
-differ_right (x ∷ xs) [] h = inr (inl (one_more x xs [] (none_left xs h)))
+differ_right [] (y ∷ ys) h = inr (inr (inr (one_more y ys [] (none_left ys h))))
+differ_right (x ∷ xs) [] h = inr (inr (inl (one_more x xs [] (none_left xs h))))
 differ_right (x ∷ xs) (y ∷ ys) h = go (x == y) refl h (λ k. differ_right xs ys k)
   where
-    go : (b : Bool) → (x == y) ≡ b → (if b then differ_by_one xs ys else bytes_eq xs ys || (bytes_eq xs (y ∷ ys) || bytes_eq (x ∷ xs) ys)) ≡ true
+    go : (b : Bool) → (x == y) ≡ b → (if b then differ_by_one xs ys else differ_here x xs y ys) ≡ true
         → (differ_by_one xs ys ≡ true → DifferByOne xs ys) → DifferByOne (x ∷ xs) (y ∷ ys)
     go true e k rest = elim (eqb_tells x y) [
       | inl t ↦ subst (λ (z : ℕ). DifferByOne (x ∷ xs) (z ∷ ys)) t.1 (more_before x xs ys (rest k))
       | inr t ↦ absurd (cc (e, t.0))
     ]
-    go false e k rest = elim (or_tells (bytes_eq xs ys) (bytes_eq xs (y ∷ ys) || bytes_eq (x ∷ xs) ys) k) [
+    go false e k rest = elim (or_tells (bytes_eq xs ys) (bytes_eq xs (y ∷ ys) || (bytes_eq (x ∷ xs) ys || are_swapped x xs y ys)) k) [
       | inl t ↦ inl record {
         before = [];
         byte = x;
@@ -75,9 +115,12 @@ differ_right (x ∷ xs) (y ∷ ys) h = go (x == y) refl h (λ k. differ_right xs
         one_is = refl;
         other_is = ap (λ (z : List ℕ). y ∷ z) (sym ((bytes_eq-Decides xs ys).0 t));
       }
-      | inr t ↦ elim (or_tells (bytes_eq xs (y ∷ ys)) (bytes_eq (x ∷ xs) ys) t) [
-        | inl u ↦ inr (inl (one_more x xs (y ∷ ys) ((bytes_eq-Decides xs (y ∷ ys)).0 u)))
-        | inr u ↦ inr (inr (one_more y ys (x ∷ xs) (sym ((bytes_eq-Decides (x ∷ xs) ys).0 u))))
+      | inr t ↦ elim (or_tells (bytes_eq xs (y ∷ ys)) (bytes_eq (x ∷ xs) ys || are_swapped x xs y ys) t) [
+        | inl u ↦ inr (inr (inl (one_more x xs (y ∷ ys) ((bytes_eq-Decides xs (y ∷ ys)).0 u))))
+        | inr u ↦ elim (or_tells (bytes_eq (x ∷ xs) ys) (are_swapped x xs y ys) u) [
+          | inl v ↦ inr (inr (inr (one_more y ys (x ∷ xs) (sym ((bytes_eq-Decides (x ∷ xs) ys).0 v)))))
+          | inr v ↦ inr (inl (swapped_right x xs y ys v))
+        ]
       ]
     ]
 
@@ -86,7 +129,7 @@ differ_right (x ∷ xs) (y ∷ ys) h = go (x == y) refl h (λ k. differ_right xs
 same_first : (x : ℕ) (xs ys : List ℕ) → differ_by_one xs ys ≡ true → differ_by_one (x ∷ xs) (x ∷ ys) ≡ true
 same_first x xs ys h = go (x == x) refl
   where
-    go : (b : Bool) → (x == x) ≡ b → (if b then differ_by_one xs ys else bytes_eq xs ys || (bytes_eq xs (x ∷ ys) || bytes_eq (x ∷ xs) ys)) ≡ true
+    go : (b : Bool) → (x == x) ≡ b → (if b then differ_by_one xs ys else differ_here x xs x ys) ≡ true
     go true e = h
     go false e = elim (eqb_tells x x) [ inl t ↦ absurd (cc (e, t.0)) | inr t ↦ absurd (t.1 refl) ]
 
@@ -94,9 +137,9 @@ replaced : (before : List ℕ) (x y : ℕ) (behind : List ℕ) → x ≢ y → d
 replaced [] x y behind ne = go (x == y) refl
   where
     go : (b : Bool) → (x == y) ≡ b
-        → (if b then differ_by_one behind behind else bytes_eq behind behind || (bytes_eq behind (y ∷ behind) || bytes_eq (x ∷ behind) behind)) ≡ true
+        → (if b then differ_by_one behind behind else differ_here x behind y behind) ≡ true
     go true e = elim (eqb_tells x y) [ inl t ↦ absurd (ne t.1) | inr t ↦ absurd (cc (e, t.0)) ]
-    go false e = or_one (bytes_eq behind behind) (bytes_eq behind (y ∷ behind) || bytes_eq (x ∷ behind) behind) (self behind)
+    go false e = or_one (bytes_eq behind behind) (bytes_eq behind (y ∷ behind) || (bytes_eq (x ∷ behind) behind || are_swapped x behind y behind)) (self behind)
 replaced (b ∷ bs) x y behind ne = same_first b (bs ++ (x ∷ behind)) (bs ++ (y ∷ behind)) (replaced bs x y behind ne)
 
 more_here : (x : ℕ) (xs : List ℕ) → differ_by_one (x ∷ xs) xs ≡ true
@@ -104,20 +147,23 @@ more_here x [] = refl
 more_here x (z ∷ zs) = go (x == z) refl (more_here z zs)
   where
     go : (b : Bool) → (x == z) ≡ b → differ_by_one (z ∷ zs) zs ≡ true
-        → (if b then differ_by_one (z ∷ zs) zs else bytes_eq (z ∷ zs) zs || (bytes_eq (z ∷ zs) (z ∷ zs) || bytes_eq (x ∷ z ∷ zs) zs)) ≡ true
+        → (if b then differ_by_one (z ∷ zs) zs else differ_here x (z ∷ zs) z zs) ≡ true
     go true e rest = rest
     go false e rest =
-        or_two (bytes_eq (z ∷ zs) zs) (bytes_eq (z ∷ zs) (z ∷ zs) || bytes_eq (x ∷ z ∷ zs) zs) (or_one (bytes_eq (z ∷ zs) (z ∷ zs)) (bytes_eq (x ∷ z ∷ zs) zs) (self (z ∷ zs)))
+        or_two (bytes_eq (z ∷ zs) zs) (bytes_eq (z ∷ zs) (z ∷ zs) || (bytes_eq (x ∷ z ∷ zs) zs || are_swapped x (z ∷ zs) z zs))
+        (or_one (bytes_eq (z ∷ zs) (z ∷ zs)) (bytes_eq (x ∷ z ∷ zs) zs || are_swapped x (z ∷ zs) z zs) (self (z ∷ zs)))
 
 less_here : (x : ℕ) (xs : List ℕ) → differ_by_one xs (x ∷ xs) ≡ true
 less_here x [] = refl
 less_here x (z ∷ zs) = go (z == x) refl (less_here z zs)
   where
     go : (b : Bool) → (z == x) ≡ b → differ_by_one zs (z ∷ zs) ≡ true
-        → (if b then differ_by_one zs (z ∷ zs) else bytes_eq zs (z ∷ zs) || (bytes_eq zs (x ∷ z ∷ zs) || bytes_eq (z ∷ zs) (z ∷ zs))) ≡ true
+        → (if b then differ_by_one zs (z ∷ zs) else differ_here z zs x (z ∷ zs)) ≡ true
     go true e rest = rest
     go false e rest =
-        or_two (bytes_eq zs (z ∷ zs)) (bytes_eq zs (x ∷ z ∷ zs) || bytes_eq (z ∷ zs) (z ∷ zs)) (or_two (bytes_eq zs (x ∷ z ∷ zs)) (bytes_eq (z ∷ zs) (z ∷ zs)) (self (z ∷ zs)))
+        or_two (bytes_eq zs (z ∷ zs)) (bytes_eq zs (x ∷ z ∷ zs) || (bytes_eq (z ∷ zs) (z ∷ zs) || are_swapped z zs x (z ∷ zs)))
+        (or_two (bytes_eq zs (x ∷ z ∷ zs)) (bytes_eq (z ∷ zs) (z ∷ zs) || are_swapped z zs x (z ∷ zs))
+        (or_one (bytes_eq (z ∷ zs) (z ∷ zs)) (are_swapped z zs x (z ∷ zs)) (self (z ∷ zs))))
 
 more : (before : List ℕ) (x : ℕ) (behind : List ℕ) → differ_by_one (before ++ (x ∷ behind)) (before ++ behind) ≡ true
 more [] x behind = more_here x behind
@@ -127,6 +173,21 @@ less : (before : List ℕ) (x : ℕ) (behind : List ℕ) → differ_by_one (befo
 less [] x behind = less_here x behind
 less (b ∷ bs) x behind = same_first b (bs ++ behind) (bs ++ (x ∷ behind)) (less bs x behind)
 
+swapped : (before : List ℕ) (x y : ℕ) (behind : List ℕ) → x ≢ y → differ_by_one (before ++ (x ∷ y ∷ behind)) (before ++ (y ∷ x ∷ behind)) ≡ true
+swapped [] x y behind ne = go (x == y) refl
+  where
+    go : (b : Bool) → (x == y) ≡ b → (if b then differ_by_one (y ∷ behind) (x ∷ behind) else differ_here x (y ∷ behind) y (x ∷ behind)) ≡ true
+    go true e = elim (eqb_tells x y) [ inl t ↦ absurd (ne t.1) | inr t ↦ absurd (cc (e, t.0)) ]
+    go false e =
+        or_two (bytes_eq (y ∷ behind) (x ∷ behind)) (bytes_eq (y ∷ behind) (y ∷ x ∷ behind) || (bytes_eq (x ∷ y ∷ behind) (x ∷ behind) || are_swapped x (y ∷ behind) y (x ∷ behind)))
+        (or_two (bytes_eq (y ∷ behind) (y ∷ x ∷ behind)) (bytes_eq (x ∷ y ∷ behind) (x ∷ behind) || are_swapped x (y ∷ behind) y (x ∷ behind))
+        (or_two (bytes_eq (x ∷ y ∷ behind) (x ∷ behind)) (are_swapped x (y ∷ behind) y (x ∷ behind))
+        (true_both (y == y) ((x == x) && bytes_eq behind behind) (own_number y) (true_both (x == x) (bytes_eq behind behind) (own_number x) (self behind)))))
+swapped (b ∷ bs) x y behind ne = same_first b (bs ++ (x ∷ y ∷ behind)) (bs ++ (y ∷ x ∷ behind)) (swapped bs x y behind ne)
+
+exchanged : (before : List ℕ) (x y : ℕ) (behind : List ℕ) → x ≡ y → before ++ (x ∷ y ∷ behind) ≡ before ++ (y ∷ x ∷ behind)
+exchanged before x y behind e = ap (λ (z : ℕ). before ++ (z ∷ y ∷ behind)) e ∙ ap (λ (z : ℕ). before ++ (y ∷ z ∷ behind)) (sym e)
+
 differ_whole : (xs ys : List ℕ) → xs ≢ ys → DifferByOne xs ys → differ_by_one xs ys ≡ true
 differ_whole xs ys ne (inl r) =
     let P : List ℕ → List ℕ → Type 0 = λ y z. differ_by_one y z ≡ true in
@@ -134,20 +195,16 @@ differ_whole xs ys ne (inl r) =
     subst₂ P (sym r.one_is) (sym r.other_is) (replaced r.before r.byte r.instead r.behind apart)
 differ_whole xs ys ne (inr (inl r)) =
     let P : List ℕ → List ℕ → Type 0 = λ y z. differ_by_one y z ≡ true in
+    let apart : r.first ≢ r.second = λ e. ne (r.one_is ∙ exchanged r.before r.first r.second r.behind e ∙ sym r.other_is) in
+    subst₂ P (sym r.one_is) (sym r.other_is) (swapped r.before r.first r.second r.behind apart)
+differ_whole xs ys ne (inr (inr (inl r))) =
+    let P : List ℕ → List ℕ → Type 0 = λ y z. differ_by_one y z ≡ true in
     subst₂ P (sym r.one_is) (sym r.other_is) (more r.before r.byte r.behind)
-differ_whole xs ys ne (inr (inr r)) =
+differ_whole xs ys ne (inr (inr (inr r))) =
     let P : List ℕ → List ℕ → Type 0 = λ y z. differ_by_one y z ≡ true in
     subst₂ P (sym r.other_is) (sym r.one_is) (less r.before r.byte r.behind)
 
 -- ---- both
-
-both_true : (a b : Bool) → (a && b) ≡ true → (a ≡ true) × (b ≡ true)
-both_true true b h = (refl, h)
-both_true false b h = absurd (cc (h))
-
-true_both : (a b : Bool) → a ≡ true → b ≡ true → (a && b) ≡ true
-true_both true b h k = k
-true_both false b h k = absurd (cc (h))
 
 are_short : (n m : ℕ) → (nat_lt n 3 && nat_lt m 3) ≡ true → ((3 ≤ n) ⊎ (3 ≤ m)) → ⊥
 are_short n m h (inl k) = let t = (Decides-ltb n 3).0 (both_true (nat_lt n 3) (nat_lt m 3) h).0 in omega (arith, t, k)

@@ -1,7 +1,7 @@
 -- Public: labels of the machine that may be misspelt ones of the protocol.
-use Rattle.std.specs.Prelude.{ℕ, List, [], ◌++◌, codes, map, slice_get, Bool, ◌==◌, ◌&&◌, if◌then◌else◌, Option, Some, None}
-use Rattle.std.specs.List.{find, flat_map}
-use Rattle.rs_derive.specs.Moves.{Spot}
+use Rattle.std.specs.Prelude.{ℕ, List, [], ◌++◌, codes, map, slice_get, Bool, false, not, ◌==◌, ◌&&◌, if◌then◌else◌, is_some, Option, Some, None}
+use Rattle.std.specs.List.{find, flat_map, list_any}
+use Rattle.rs_derive.specs.Moves.{Spot, arm_of}
 use Rattle.rs_derive.specs.Rules.{arms_of}
 use Rattle.rs_explain.specs.declared.explaining.Ending.{Ending}
 use Rattle.rs_explain.specs.declared.explaining.Ending.TheVariants.{Blocked}
@@ -15,7 +15,7 @@ use Rattle.rs_model.specs.declared.graph.Role.{Role}
 use Rattle.rs_model.specs.declared.machines.Act.{Act}
 use Rattle.rs_model.specs.declared.machines.Act.TheVariants as act
 use Rattle.rs_model.specs.declared.machines.State.{State}
-use Rattle.rs_model.specs.declared.machines.State.TheVariants.{Puts}
+use Rattle.rs_model.specs.declared.machines.State.TheVariants.{Puts, Takes}
 use Rattle.rs_text.specs.NamePlaces.{name_at}
 use Rattle.rs_walk_texts.specs.Data.{WalkSource_data}
 use Rattle.rs_walk_texts.specs.Nearness.{is_near}
@@ -29,6 +29,26 @@ label_pair own theirs = record { own = own; theirs = theirs }
 -- the names of both are near each other
 abbrev pub are_alike : Names_data → LabelPair → Bool
 are_alike names pair = is_near (name_at names.labels pair.own.0) (name_at names.labels pair.theirs.0)
+
+-- the node is a talk from the sender to the receiver that has the label
+abbrev pub sends_label : Role → Role → Label → Node → Bool
+sends_label sender receiver label Finished = false
+sends_label sender receiver label (Talk s r arms) = (s.0 == sender.0) && ((r.0 == receiver.0) && is_some (arm_of arms label))
+
+-- the protocol sends the label from the sender to the receiver
+abbrev pub is_known : List Node → Role → Role → Label → Bool
+is_known nodes sender receiver label = list_any (sends_label sender receiver label) nodes
+
+-- it sends the label between the role and the peer, the way that the role's state goes
+abbrev pub is_known_there : List Node → Role → Option State → Label → Bool
+is_known_there nodes role (Some (Puts peer arms)) label = is_known nodes role peer label
+is_known_there nodes role (Some (Takes peer arms)) label = is_known nodes peer role label
+is_known_there nodes role _ label = false
+
+-- the machine's label may be a misspelt one: the protocol doesn't send it that way, and the names of both are near each other
+abbrev pub is_slip : WalkSource_data → Spot → LabelPair → Bool
+is_slip source p pair =
+    not (is_known_there source.protocol.nodes source.machine.role (state_at source p) pair.own) && are_alike source.names pair
 
 -- the label beside that of each arm of a node, where it is a talk from the sender to the receiver
 abbrev pub pairs_with : Role → Role → Label → Node → List LabelPair
@@ -66,9 +86,9 @@ pairs_at source p (Blocked (told.SendBeforeSend place)) = pairs_owed (arms_of (s
 pairs_at source p (Blocked (told.ReceiveBeforeReceive place)) = pairs_owed (arms_of (state_at source p)) (slice_get p.pending place)
 pairs_at source p _ = []
 
--- the first of them that are alike
+-- the first of them of which the machine's label may be misspelt
 abbrev pub nearest : WalkSource_data → Spot → Ending → Option LabelPair
-nearest source p ending = find (are_alike source.names) (pairs_at source p ending)
+nearest source p ending = find (is_slip source p) (pairs_at source p ending)
 
 -- `nearest: own for theirs`, a line, where there is such a pair
 abbrev pub nearest_text : Names_data → Option LabelPair → List ℕ

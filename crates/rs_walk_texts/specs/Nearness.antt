@@ -24,21 +24,40 @@ pub record HasOneMore (one other : List ℕ) : Type 0 where
   pub one_is : one ≡ before ++ byte ∷ behind
   pub other_is : other ≡ before ++ behind
 
--- one byte is replaced, or one is more or less
+-- two neighbouring bytes of the first name change places in the second
+pub record SwapsTwo (one other : List ℕ) : Type 0 where
+  pub before : List ℕ
+  pub first : ℕ
+  pub second : ℕ
+  pub behind : List ℕ
+  pub one_is : one ≡ before ++ first ∷ second ∷ behind
+  pub other_is : other ≡ before ++ second ∷ first ∷ behind
+
+-- one byte is replaced, two neighbours change places, or one byte is more or less
 abbrev pub DifferByOne : List ℕ → List ℕ → Type 0
-DifferByOne one other = ReplacesOne one other ⊎ (HasOneMore one other ⊎ HasOneMore other one)
+DifferByOne one other = ReplacesOne one other ⊎ (SwapsTwo one other ⊎ (HasOneMore one other ⊎ HasOneMore other one))
 
 -- the names differ, and are the same but for the case of their letters or, where one of them has three bytes at least, differ
--- by one byte
+-- by one byte or by two neighbours that change places
 abbrev pub IsNear : List ℕ → List ℕ → Type 0
 IsNear one other = (one ≢ other) × (AreSameButForCase one other ⊎ (((3 ≤ length one) ⊎ (3 ≤ length other)) × DifferByOne one other))
 
--- whether the rests from the first difference on differ by one byte; not where there is no difference
+-- whether each name begins with the byte that comes second in the other, where x and y come first, and goes on the same behind it
+abbrev pub are_swapped : ℕ → List ℕ → ℕ → List ℕ → Bool
+are_swapped x [] y ys = false
+are_swapped x (b ∷ xs) y [] = false
+are_swapped x (b ∷ xs) y (c ∷ ys) = (b == y) && ((c == x) && bytes_eq xs ys)
+
+-- whether names differ by one that begin with the bytes x and y, which differ
+abbrev pub differ_here : ℕ → List ℕ → ℕ → List ℕ → Bool
+differ_here x xs y ys = bytes_eq xs ys || (bytes_eq xs (y ∷ ys) || (bytes_eq (x ∷ xs) ys || are_swapped x xs y ys))
+
+-- whether the rests from the first difference on differ by one; not where there is no difference
 abbrev pub differ_by_one : List ℕ → List ℕ → Bool
 differ_by_one [] [] = false
 differ_by_one [] (y ∷ ys) = length ys == 0
 differ_by_one (x ∷ xs) [] = length xs == 0
-differ_by_one (x ∷ xs) (y ∷ ys) = if x == y then differ_by_one xs ys else bytes_eq xs ys || (bytes_eq xs (y ∷ ys) || bytes_eq (x ∷ xs) ys)
+differ_by_one (x ∷ xs) (y ∷ ys) = if x == y then differ_by_one xs ys else differ_here x xs y ys
 
 -- whether the names are near each other
 abbrev pub is_near : List ℕ → List ℕ → Bool

@@ -10,7 +10,7 @@ ghost use Rattle.rs_walk_texts.specs.Walks.{state_at};
 use crate::acts::push_label;
 use crate::nearness::is_near;
 use crate::sources::{SpotRef, WalkSource};
-use rs_derive::arms_at;
+use rs_derive::{arm_of, arms_at};
 use rs_explain::{Ending, Obstacle};
 use rs_model::{Act, Arm, Label, Names, NoMemory, Node, Role, State};
 use rs_text::Text;
@@ -39,54 +39,122 @@ fn are_alike(names: &Names, pair: LabelPair) -> bool
     is_near(name_of(names, pair.own), name_of(names, pair.theirs))
 }
 
-// The first of the arms whose label is alike, as one of theirs.
-fn nearest_of_theirs(names: &Names, own: Label, arms: &[Arm]) -> Option<LabelPair>
-    ensures { result ≡ find (spec.are_alike names.now) (map (λ a. spec.label_pair own a.label) arms.now) }
+// Whether the node is a talk from the sender to the receiver that has the label.
+fn sends_label(sender: Role, receiver: Role, label: Label, node: &Node) -> bool
+    ensures { result ≡ spec.sends_label sender receiver label node.now }
+{
+    match node {
+        Node::Finished => false,
+        Node::Talk {
+            sender: s,
+            receiver: r,
+            arms,
+        } => s.0 == sender.0 && r.0 == receiver.0 && arm_of(arms.as_slice(), label).is_some(),
+    }
+}
+
+// Whether the protocol sends the label from the sender to the receiver.
+fn is_known(nodes: &[Node], sender: Role, receiver: Role, label: Label) -> bool
+    ensures { result ≡ spec.is_known nodes.now sender receiver label }
+{
+    for node in nodes {
+        if sends_label(sender, receiver, label, node) {
+            return true;
+        }
+    }
+    false
+}
+
+// Whether it sends the label between the role and the peer, the way that the role's state goes.
+fn is_known_beside(nodes: &[Node], role: Role, state: &State, label: Label) -> bool
+    ensures { result ≡ spec.is_known_there nodes.now role (Some state.now) label }
+{
+    match state {
+        State::Done => false,
+        State::Puts { peer, .. } => is_known(nodes, role, *peer, label),
+        State::Takes { peer, .. } => is_known(nodes, *peer, role, label),
+    }
+}
+
+// The same of the machine's state at the spot.
+fn is_known_there(source: &WalkSource, spot: &SpotRef, label: Label) -> bool
+    ensures { result ≡ spec.is_known_there source.now.protocol.nodes source.now.machine.role (state_at source.now spot.now) label }
+{
+    let protocol = source.protocol;
+    let machine = source.machine;
+    match machine.states.get(spot.state as usize) {
+        Some(state) => is_known_beside(&protocol.nodes, machine.role, state, label),
+        None => false,
+    }
+}
+
+// Whether the machine's label may be a misspelt one: the protocol doesn't send it that way, and the names are near each other.
+fn is_slip(source: &WalkSource, spot: &SpotRef, pair: LabelPair) -> bool
+    ensures { result ≡ spec.is_slip source.now spot.now pair }
+{
+    !is_known_there(source, spot, pair.own) && are_alike(source.names, pair)
+}
+
+// The first of the arms of which our label may be misspelt, as one of theirs.
+fn nearest_of_theirs(
+    source: &WalkSource,
+    spot: &SpotRef,
+    own: Label,
+    arms: &[Arm],
+) -> Option<LabelPair>
+    ensures { result ≡ find (spec.is_slip source.now spot.now) (map (λ a. spec.label_pair own a.label) arms.now) }
 {
     for arm in arms {
         let pair = LabelPair {
             own,
             theirs: arm.label,
         };
-        if are_alike(names, pair) {
+        if is_slip(source, spot, pair) {
             return Some(pair);
         }
     }
     None
 }
 
-// The first that is alike of what stands at a node, where it is a talk from the sender to the receiver.
+// The first that may be misspelt of what stands at a node, where it is a talk from the sender to the receiver.
 fn nearest_at(
-    names: &Names,
+    source: &WalkSource,
+    spot: &SpotRef,
     node: &Node,
     sender: Role,
     receiver: Role,
     own: Label,
 ) -> Option<LabelPair>
-    ensures { result ≡ find (spec.are_alike names.now) (spec.pairs_with sender receiver own node.now) }
+    ensures { result ≡ find (spec.is_slip source.now spot.now) (spec.pairs_with sender receiver own node.now) }
 {
     match node {
         Node::Talk {
             sender: s,
             receiver: r,
             arms,
-        } if s.0 == sender.0 && r.0 == receiver.0 => nearest_of_theirs(names, own, arms.as_slice()),
+        } if s.0 == sender.0 && r.0 == receiver.0 => nearest_of_theirs(
+            source,
+            spot,
+            own,
+            arms.as_slice(),
+        ),
         _ => None,
     }
 }
 
-// The first that is alike of all that the sender sends to the receiver.
+// The first that may be misspelt of all that the sender sends to the receiver.
 fn nearest_between(
-    names: &Names,
+    source: &WalkSource,
+    spot: &SpotRef,
     nodes: &[Node],
     sender: Role,
     receiver: Role,
     own: Label,
 ) -> Option<LabelPair>
-    ensures { result ≡ find (spec.are_alike names.now) (spec.pairs_between nodes.now sender receiver own) }
+    ensures { result ≡ find (spec.is_slip source.now spot.now) (spec.pairs_between nodes.now sender receiver own) }
 {
     for node in nodes {
-        let found = nearest_at(names, node, sender, receiver, own);
+        let found = nearest_at(source, spot, node, sender, receiver, own);
         if found.is_some() {
             return found;
         }
@@ -94,24 +162,29 @@ fn nearest_between(
     None
 }
 
-// The first that is alike of all that the protocol sends to the peer in place of that arm.
-fn nearest_to(source: &WalkSource, peer: Role, arm: Option<Arm>) -> Option<LabelPair>
-    ensures { result ≡ find (spec.are_alike source.now.names) (spec.pairs_to source.now peer arm) }
+// The first that may be misspelt of all that the protocol sends to the peer in place of that arm.
+fn nearest_to(
+    source: &WalkSource,
+    spot: &SpotRef,
+    peer: Role,
+    arm: Option<Arm>,
+) -> Option<LabelPair>
+    ensures { result ≡ find (spec.is_slip source.now spot.now) (spec.pairs_to source.now peer arm) }
 {
     let own = arm?.label;
     let protocol = source.protocol;
     let machine = source.machine;
-    nearest_between(source.names, &protocol.nodes, machine.role, peer, own)
+    nearest_between(source, spot, &protocol.nodes, machine.role, peer, own)
 }
 
-// The first that is alike where the machine sends by its arm at the place.
+// The first that may be misspelt where the machine sends by its arm at the place.
 fn nearest_sent(source: &WalkSource, spot: &SpotRef, place: usize) -> Option<LabelPair>
-    ensures { result ≡ find (spec.are_alike source.now.names) (spec.pairs_sent source.now (state_at source.now spot.now) place) }
+    ensures { result ≡ find (spec.is_slip source.now spot.now) (spec.pairs_sent source.now (state_at source.now spot.now) place) }
 {
     let machine = source.machine;
     match machine.states.get(spot.state as usize) {
         Some(State::Puts { peer, arms }) => {
-            nearest_to(source, *peer, arms.as_slice().get(place).copied())
+            nearest_to(source, spot, *peer, arms.as_slice().get(place).copied())
         }
         _ => None,
     }
@@ -126,23 +199,33 @@ pub(crate) fn label_of(act: Act) -> Label
     }
 }
 
-// The first of the arms whose label is alike that of the act that is owed.
-fn nearest_owed(names: &Names, arms: &[Arm], act: Option<Act>) -> Option<LabelPair>
-    ensures { result ≡ find (spec.are_alike names.now) (spec.pairs_owed arms.now act) }
+// The first of the arms whose label may be that of the act that is owed, misspelt.
+fn nearest_owed(
+    source: &WalkSource,
+    spot: &SpotRef,
+    arms: &[Arm],
+    act: Option<Act>,
+) -> Option<LabelPair>
+    ensures { result ≡ find (spec.is_slip source.now spot.now) (spec.pairs_owed arms.now act) }
 {
     let theirs = label_of(act?);
-    nearest_of_own(names, arms, theirs)
+    nearest_of_own(source, spot, arms, theirs)
 }
 
-fn nearest_of_own(names: &Names, arms: &[Arm], theirs: Label) -> Option<LabelPair>
-    ensures { result ≡ find (spec.are_alike names.now) (map (λ b. spec.label_pair b.label theirs) arms.now) }
+fn nearest_of_own(
+    source: &WalkSource,
+    spot: &SpotRef,
+    arms: &[Arm],
+    theirs: Label,
+) -> Option<LabelPair>
+    ensures { result ≡ find (spec.is_slip source.now spot.now) (map (λ b. spec.label_pair b.label theirs) arms.now) }
 {
     for arm in arms {
         let pair = LabelPair {
             own: arm.label,
             theirs,
         };
-        if are_alike(names, pair) {
+        if is_slip(source, spot, pair) {
             return Some(pair);
         }
     }
@@ -160,7 +243,7 @@ pub(crate) fn own_arms<'a>(source: &WalkSource<'a>, spot: &SpotRef) -> &'a [Arm]
     }
 }
 
-// The first pair of labels that look alike, of those that may explain why a walk ends at the spot.
+// The first pair of labels of which ours may be misspelt, of those that may explain why a walk ends at the spot.
 fn nearest(source: &WalkSource, spot: &SpotRef, ending: Ending) -> Option<LabelPair>
     ensures { result ≡ spec.nearest source.now spot.now ending }
 {
@@ -170,7 +253,7 @@ fn nearest(source: &WalkSource, spot: &SpotRef, ending: Ending) -> Option<LabelP
             Obstacle::SendBeforeSend { place } | Obstacle::ReceiveBeforeReceive { place },
         ) => {
             let act = spot.pending.as_slice().get(place).copied();
-            nearest_owed(source.names, own_arms(source, spot), act)
+            nearest_owed(source, spot, own_arms(source, spot), act)
         }
         _ => None,
     }

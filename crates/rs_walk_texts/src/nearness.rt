@@ -4,7 +4,7 @@ ghost use Rattle.std.specs.Str.{bytes_eq};
 ghost use Rattle.rs_walk_texts.specs.Nearness as spec;
 
 /// Whether the names differ, and are the same but for the case of their letters or, where one of them has three bytes at
-/// least, differ by one byte.
+/// least, differ by one byte or by two neighbouring bytes that change places, as `qurey` and `query`.
 pub fn is_near(one: &[u8], other: &[u8]) -> bool
     ensures test { result ≡ spec.is_near one.now other.now }
     ensures told { IsTrue result ↔ spec.IsNear one.now other.now }
@@ -34,7 +34,19 @@ fn are_same(one: &[u8], other: &[u8]) -> bool
     one == other
 }
 
-// Whether the rests from the first difference on differ by one byte.
+// Whether each name begins with the byte that comes second in the other, and goes on the same behind it.
+fn are_swapped(first: u8, ours: &[u8], second: u8, theirs: &[u8]) -> bool
+    ensures { result ≡ spec.are_swapped first ours.now second theirs.now }
+{
+    match (ours, theirs) {
+        ([here, ours @ ..], [there, theirs @ ..]) => {
+            *here == second && *there == first && are_same(ours, theirs)
+        }
+        _ => false,
+    }
+}
+
+// Whether the rests from the first difference on differ by one.
 fn differ_by_one(one: &[u8], other: &[u8]) -> bool
     ensures { result ≡ spec.differ_by_one one.now other.now }
 {
@@ -46,7 +58,10 @@ fn differ_by_one(one: &[u8], other: &[u8]) -> bool
             if first == second {
                 return differ_by_one(ours, theirs);
             }
-            are_same(ours, theirs) || are_same(ours, other) || are_same(one, theirs)
+            are_same(ours, theirs)
+                || are_same(ours, other)
+                || are_same(one, theirs)
+                || are_swapped(*first, ours, *second, theirs)
         }
     }
 }

@@ -1,9 +1,9 @@
 use Rattle.std.proofs.Common.{◌≡◌, drop}
 use Rattle.std.specs.List.{find}
-use Rattle.rs_walk_texts.specs.Alike.{are_alike, pairs_between}
+use Rattle.rs_walk_texts.specs.Alike.{is_slip, pairs_between}
 use Rattle.rs_walk_texts.proofs.alike.nearest_between.Given as goal
 
 abbrev pub invariant-loop-node : goal.invariant-loop-node
 invariant-loop-node l =
-    find (are_alike l.names) (pairs_between (drop l.node-index l.nodes) l.sender l.receiver l.own)
-    ≡ find (are_alike l.names) (pairs_between l.nodes l.sender l.receiver l.own)
+    find (is_slip l.source l.spot) (pairs_between (drop l.node-index l.nodes) l.sender l.receiver l.own)
+    ≡ find (is_slip l.source l.spot) (pairs_between l.nodes l.sender l.receiver l.own)

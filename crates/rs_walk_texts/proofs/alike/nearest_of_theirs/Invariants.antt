@@ -1,9 +1,9 @@
 use Rattle.std.proofs.Common.{◌≡◌, drop, map}
 use Rattle.std.specs.List.{find}
-use Rattle.rs_walk_texts.specs.Alike.{are_alike, label_pair}
+use Rattle.rs_walk_texts.specs.Alike.{is_slip, label_pair}
 use Rattle.rs_walk_texts.proofs.alike.nearest_of_theirs.Given as goal
 
 abbrev pub invariant-loop-arm : goal.invariant-loop-arm
 invariant-loop-arm l =
-    find (are_alike l.names) (map (λ a. label_pair l.own a.label) (drop l.arm-index l.arms))
-    ≡ find (are_alike l.names) (map (λ a. label_pair l.own a.label) l.arms)
+    find (is_slip l.source l.spot) (map (λ a. label_pair l.own a.label) (drop l.arm-index l.arms))
+    ≡ find (is_slip l.source l.spot) (map (λ a. label_pair l.own a.label) l.arms)
