@@ -7,6 +7,7 @@ pub mod Forced
 pub mod Firsts
 pub mod Flags
 pub mod Forgetful
+pub mod Growing
 pub mod Keeping
 pub mod Lowering
 pub mod Nearest

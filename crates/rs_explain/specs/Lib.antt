@@ -3,6 +3,7 @@ pub mod OnWay
 pub mod Distances
 pub mod ObstacleAt
 pub mod Forcing
+pub mod Growth
 pub mod Walks
 pub mod Explanations
 pub mod Forgetting

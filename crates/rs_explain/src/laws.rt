@@ -7,6 +7,7 @@ ghost use Rattle.rs_explain.specs.Explanations.{AGreaterBoundHelps, Explanation_
 ghost use Rattle.rs_explain.specs.Forgetting.{Forgetting_data, IsForgetting};
 ghost use Rattle.rs_explain.specs.Obstacles.{HasNoMove, IsObstacle};
 ghost use Rattle.rs_explain.specs.Forcing.{is_forced};
+ghost use Rattle.rs_explain.specs.Growth.{grows_for_ever};
 ghost use Rattle.rs_explain.specs.Walks.{DiesAfter, DiesWithin, IsDeadEnd, IsDyingStep, IsDyingWalk, IsFirstCutWalk, IsForced, IsWalk, LeadsBy, WalkStep_data, end_of};
 ghost use Rattle.rs_explain.specs.declared.explaining.Ending.TheVariants.{Blocked, Cut};
 ghost use Rattle.rs_explain.specs.declared.obstacles.Obstacle.{Obstacle};
@@ -107,6 +108,13 @@ pub fn explanations_certify()
 /// What `explanations_certify` says of forced walks holds of it.
 pub fn forced_walks_have_no_other_way()
     ensures { (sub above : Machine_data) (bound : ℕ) (p : Spot) (steps : List WalkStep_data) → IsWalk sub above bound p steps → is_forced sub above p steps ≡ true → IsForced sub above p steps }
+{}
+
+/// A forced walk that ends with a round by which the machine owes more, and of which it needs one act alone, can be repeated
+/// whatever is owed: each time more is. So there is no derivation of whatever bound.
+pub fn no_bound_is_enough_for_a_round_that_grows()
+    ensures { (sub above : Machine_data) (bound : ℕ) (steps : List WalkStep_data) (d : Derivation_data) → IsWalk sub above bound (start_spot sub above) steps
+        → is_forced sub above (start_spot sub above) steps ≡ true → grows_for_ever sub (start_spot sub above) steps ≡ true → IsDerivation d sub above → ⊥ }
 {}
 
 /// A machine that has ended, while its projection waits for a message, has an explanation: it ends too early, at the start.

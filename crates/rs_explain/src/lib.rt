@@ -6,6 +6,7 @@ mod deaths;
 mod distances;
 mod explaining;
 mod forcing;
+mod growth;
 mod kept;
 pub mod laws;
 mod lost;
@@ -15,5 +16,6 @@ mod walking;
 
 pub use explaining::{Ending, Explanation, WalkStep, explain, explain_cut};
 pub use forcing::is_forced;
+pub use growth::{Rounds, grows_for_ever, rounds_of};
 pub use obstacles::Obstacle;
 pub use rounds::{Forgetting, explain_forgets};

@@ -1,5 +1,5 @@
 -- Where it is told that no bound helps, no derivation remembers what it owes.
-use Rattle.std.proofs.Common.{◌≡◌, ◌≢◌, ◌++◌, ◌∷◌, [], ◌∙◌, ℕ, List, Bool, true, false, codes, refl, sym, ap, append_assoc, arith}
+use Rattle.std.proofs.Common.{◌≡◌, ◌≢◌, ◌⊎◌, ◌||◌, inl, inr, ◌++◌, ◌∷◌, [], ◌∙◌, ℕ, List, Bool, true, false, codes, refl, sym, ap, append_assoc, arith}
 use Rattle.std.specs.Fmt.{decimal}
 use Rattle.std.proofs.lemmas.Bool.{and_parts, false≢true}
 use Rattle.rs_derive.specs.Data.{Derivation_data}
@@ -8,8 +8,10 @@ use Rattle.rs_explain.proofs.Blocking.{no_move}
 use Rattle.rs_explain.proofs.Dying.{dying_leads}
 use Rattle.rs_explain.proofs.Existing.{certified}
 use Rattle.rs_explain.proofs.Forced.{forced}
+use Rattle.rs_explain.proofs.Growing.{endless}
 use Rattle.rs_explain.specs.Explanations.{EndsBy, Explanation_data, IsExplanation}
 use Rattle.rs_explain.specs.Forcing.{is_forced}
+use Rattle.rs_explain.specs.Growth.{grows_for_ever}
 use Rattle.rs_explain.specs.Walks.{WalkStep_data, end_of}
 use Rattle.rs_explain.specs.declared.explaining.Ending.{Ending}
 use Rattle.rs_explain.specs.declared.explaining.Ending.TheVariants.{Blocked, Cut}
@@ -24,7 +26,7 @@ use Rattle.rs_search.specs.declared.faults.SearchFault.{SearchFault}
 use Rattle.rs_search.specs.declared.faults.SearchFault.TheVariants as search
 use Rattle.rs_text.specs.NamePlaces.{name_at}
 use Rattle.rs_walk_texts.specs.Data.{WalkSource_data}
-use Rattle.rs_reasons.specs.Underivable.{GreatestForgets, GreatestHelps, GreatestRefuses, NoneHelps, TellsNotFound, TellsUnderivable, hopeless_line, is_blocked, is_forgetting, is_hopeless, refusing_line, way_text, with_bound_line}
+use Rattle.rs_reasons.specs.Underivable.{GreatestForgets, GreatestHelps, GreatestRefuses, NoneHelps, TellsNotFound, TellsUnderivable, hopeless_line, is_blocked, is_forgetting, is_hopeless, leads_nowhere, refusing_line, way_text, with_bound_line}
 
 -- the last letters of a text
 
@@ -81,12 +83,20 @@ blocked source bound steps (Blocked o) d ends b h f v =
     (no_move source.machine source.projection.machine (end_of (start_spot source.machine source.projection.machine) steps) o ends) v
 blocked source bound steps Cut d ends b h f v = absurd (false≢true b)
 
+either : (a b : Bool) → (a || b) ≡ true → (a ≡ true) ⊎ (b ≡ true)
+either true b e = inl refl
+either false b e = inr e
+
 hopeless : (source : WalkSource_data) (bound : ℕ) (cut : Bool) (e : Explanation_data) (d : Derivation_data) → IsNotFound source.machine source.projection.machine bound cut
     → IsExplanation source.machine source.projection.machine bound e → is_hopeless source cut e ≡ true → IsDerivation d source.machine source.projection.machine → ⊥
 hopeless source bound false e d nf h k v = none_at_all source.machine source.projection.machine bound d nf v
 hopeless source bound true e d nf h k v =
-    let p = and_parts (is_blocked e.ending) (is_forced source.machine source.projection.machine (start_spot source.machine source.projection.machine) e.steps) k in
-    blocked source bound e.steps e.ending d h.ending p.0 h p.1 v
+    let start = start_spot source.machine source.projection.machine in
+    let p = and_parts (leads_nowhere source e) (is_forced source.machine source.projection.machine start e.steps) k in
+    elim (either (is_blocked e.ending) (grows_for_ever source.machine start e.steps) p.0) [
+      | inl b ↦ blocked source bound e.steps e.ending d h.ending b h p.1 v
+      | inr g ↦ endless source.machine source.projection.machine bound e.steps d (dying_leads source.machine source.projection.machine bound start e.steps h.walk) p.1 g v
+    ]
 
 forgetful : (source : WalkSource_data) (bound node : ℕ) (d : Derivation_data) → IsProper source.machine → IsProper source.projection.machine
     → IsForgets source.machine source.projection.machine bound node → IsDerivation d source.machine source.projection.machine → Remembers d source.machine source.projection.machine → ⊥

@@ -5,6 +5,7 @@ use Rattle.rs_derive.specs.Data.{Derivation_data}
 use Rattle.rs_explain.specs.Explanations.{Explanation_data, IsExplanation}
 use Rattle.rs_explain.specs.Forcing.{is_forced}
 use Rattle.rs_explain.specs.Forgetting.{Forgetting_data, IsForgetting}
+use Rattle.rs_explain.specs.Growth.{grows_for_ever}
 use Rattle.rs_explain.specs.Walks.{IsFirstCutWalk, WalkStep_data, end_of}
 use Rattle.rs_explain.specs.declared.explaining.Ending.{Ending}
 use Rattle.rs_explain.specs.declared.explaining.Ending.TheVariants.{Blocked, Cut}
@@ -22,7 +23,8 @@ use Rattle.rs_walk_texts.specs.Data.{WalkSource_data}
 use Rattle.rs_walk_texts.specs.Dues.{act_dues}
 use Rattle.rs_walk_texts.specs.Heads.{act_text, owed_line}
 use Rattle.rs_walk_texts.specs.Stops.{stop_text}
-use Rattle.rs_walk_texts.specs.Walks.{steps_text, walk_text}
+use Rattle.rs_walk_texts.specs.Rounds.{walk_text}
+use Rattle.rs_walk_texts.specs.Walks.{steps_text}
 
 -- the steps of a walk from the start, and why it ends
 abbrev pub way_text : WalkSource_data → ℕ → List WalkStep_data → Ending → List ℕ
@@ -34,9 +36,13 @@ abbrev pub is_blocked : Ending → Bool
 is_blocked (Blocked o) = true
 is_blocked Cut = false
 
--- no greater bound helps: no candidate meets a cut, or at an obstacle ends a way that no other move leaves
+-- a way on which nothing is chosen doesn't lead on: an obstacle stands at its end, or it ends with a round by which ever more is owed
+abbrev pub leads_nowhere : WalkSource_data → Explanation_data → Bool
+leads_nowhere source e = is_blocked e.ending || grows_for_ever source.machine (start_spot source.machine source.projection.machine) e.steps
+
+-- no greater bound helps: no candidate meets a cut, or the way doesn't lead on, and no other move leaves it
 abbrev pub is_hopeless : WalkSource_data → Bool → Explanation_data → Bool
-is_hopeless source cut e = not cut || (is_blocked e.ending && is_forced source.machine source.projection.machine (start_spot source.machine source.projection.machine) e.steps)
+is_hopeless source cut e = not cut || (leads_nowhere source e && is_forced source.machine source.projection.machine (start_spot source.machine source.projection.machine) e.steps)
 
 -- the last line, where no greater bound helps
 abbrev pub hopeless_line : List ℕ

@@ -13,7 +13,8 @@ ghost use Rattle.rs_reasons.specs.Underivable as spec;
 
 use rs_derive::Derivation;
 use rs_explain::{
-    Ending, Explanation, Forgetting, WalkStep, explain, explain_cut, explain_forgets, is_forced,
+    Ending, Explanation, Forgetting, WalkStep, explain, explain_cut, explain_forgets,
+    grows_for_ever, is_forced,
 };
 use rs_model::{Act, MOST_BOUND, Names, NoMemory};
 use rs_prefix::Pending;
@@ -135,6 +136,28 @@ fn push_refusing(text: &mut Text, source: &WalkSource, fault: SearchFault) -> Re
     }
 }
 
+fn is_blocked(ending: Ending) -> bool
+    ensures { result ≡ spec.is_blocked ending }
+{
+    match ending {
+        Ending::Blocked(_) => true,
+        Ending::Cut => false,
+    }
+}
+
+// Whether the way doesn't lead on, if nothing is chosen on it.
+fn leads_nowhere(source: &WalkSource, explanation: &Explanation) -> bool
+    ensures { result ≡ spec.leads_nowhere source.now explanation.now }
+{
+    let projection = source.projection;
+    is_blocked(explanation.ending)
+        || grows_for_ever(
+            source.machine,
+            &projection.machine,
+            explanation.steps.as_slice(),
+        )
+}
+
 // Whether no greater bound helps.
 fn is_hopeless(alloc: Global, source: &WalkSource, cut: bool, explanation: &Explanation) -> bool
     ensures { result ≡ spec.is_hopeless source.now cut explanation.now }
@@ -142,18 +165,14 @@ fn is_hopeless(alloc: Global, source: &WalkSource, cut: bool, explanation: &Expl
     if !cut {
         return true;
     }
-    match explanation.ending {
-        Ending::Blocked(_) => {
-            let projection = source.projection;
-            is_forced(
-                alloc,
-                source.machine,
-                &projection.machine,
-                explanation.steps.as_slice(),
-            )
-        }
-        Ending::Cut => false,
-    }
+    let projection = source.projection;
+    leads_nowhere(source, explanation)
+        && is_forced(
+            alloc,
+            source.machine,
+            &projection.machine,
+            explanation.steps.as_slice(),
+        )
 }
 
 // What is told where no greater bound helps.
@@ -289,7 +308,7 @@ fn greatest_refuses_text(
     }
 }
 
-// What is told where a greater bound may help.
+// What is told where a greater bound may help. What the search within the greatest bound gives isn't sought again.
 fn with_greatest_text(
     alloc: Global,
     source: &WalkSource,
@@ -305,6 +324,10 @@ fn with_greatest_text(
     requires hopeful { spec.is_hopeless source.now cut explanation.now ≡ false }
     ensures { IfOk result (spec.TellsNotFound source.now bound cut) }
 {
+    if usize::from(bound) == MOST_BOUND {
+        let fault = SearchFault::NotFound { cut };
+        return greatest_refuses_text(alloc, source, bound, cut, explanation, fault);
+    }
     let projection = source.projection;
     match search(alloc, source.machine, &projection.machine, MOST_BOUND as u8) {
         Ok(derivation) => {

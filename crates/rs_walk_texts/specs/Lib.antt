@@ -7,3 +7,4 @@ pub mod Alike
 pub mod Elsewhere
 pub mod Dues
 pub mod Stops
+pub mod Rounds

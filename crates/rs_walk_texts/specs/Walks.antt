@@ -9,7 +9,6 @@ use Rattle.rs_model.specs.Data.{Names_data}
 use Rattle.rs_model.specs.declared.graph.Arm.{Arm}
 use Rattle.rs_model.specs.declared.machines.Act.{Act}
 use Rattle.rs_model.specs.declared.machines.State.{State}
-use Rattle.rs_search.specs.Candidates.{start_spot}
 use Rattle.rs_text.specs.NamePlaces.{name_at}
 use Rattle.rs_walk_texts.specs.Data.{WalkSource_data}
 use Rattle.rs_walk_texts.specs.Heads.{act_by, at_text, maybe_act_text}
@@ -82,9 +81,3 @@ step_text source p s = codes "- " ++ deed_text source p s.place (rule_of source 
 abbrev pub steps_text : WalkSource_data → Spot → List WalkStep_data → List ℕ
 steps_text source p [] = []
 steps_text source p (s ∷ later) = step_text source p s ++ steps_text source s.spot later
-
--- the line that leads to the steps, and the steps of a walk from the start
-abbrev pub walk_text : WalkSource_data → List WalkStep_data → List ℕ
-walk_text source steps =
-    name_at source.names.roles source.machine.role.0 ++ codes ", act by act:\n"
-    ++ steps_text source (start_spot source.machine source.projection.machine) steps

@@ -12,9 +12,7 @@ use crate::sources::{SpotRef, WalkSource};
 use rs_derive::{Rule, arms_at, rule_at};
 use rs_explain::WalkStep;
 use rs_model::{Act, Arm, Names, NoMemory, State};
-use rs_prefix::Pending;
 use rs_text::Text;
-use std::alloc::Global;
 
 // The rule that applies at the spot.
 fn rule_of(source: &WalkSource, spot: &SpotRef) -> Option<Rule>
@@ -210,27 +208,4 @@ pub fn spot_behind(step: &WalkStep) -> SpotRef<'_>
         pending: &step.pending,
         above: step.above,
     }
-}
-
-/// Writes a walk from the start: a line that leads to the steps, and a line for each step. Refused memory is the only
-/// error.
-pub fn push_walk(
-    alloc: Global,
-    text: &mut Text,
-    source: &WalkSource,
-    steps: &[WalkStep],
-) -> Result<(), NoMemory>
-    ensures { OnOk result (text.new ≡ text.old ++ spec.walk_text source.now steps.now) }
-{
-    let machine = source.machine;
-    let projection = source.projection;
-    push_role(text, source.names, machine.role)?;
-    text.push(b", act by act:\n")?;
-    let pending = Pending::new(alloc);
-    let start = SpotRef {
-        state: machine.start,
-        pending: &pending,
-        above: projection.machine.start,
-    };
-    push_steps(text, source, &start, steps)
 }
