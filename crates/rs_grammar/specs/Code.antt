@@ -1,4 +1,4 @@
--- Steps: what the code says of its steps.
+-- Public: what the code says of its steps.
 use Rattle.std.specs.Prelude.{ℕ, ◌≡◌, List, reverse, Option, Some, None, Result}
 use Rattle.rs_grammar.specs.declared.builders.Chosen.{Chosen}
 use Rattle.rs_grammar.specs.declared.symbols.Symbol.{Symbol}

@@ -1,4 +1,4 @@
--- Steps: how the reader goes on, token by token.
+-- Public: how the reader goes on, token by token.
 use Rattle.std.specs.Prelude.{ℕ, ◌++◌, List, [], ◌∷◌, Bool, true, false, ◌&&◌, if◌then◌else◌, Option, Some, None, Result, Ok, Err}
 use Rattle.rs_grammar.specs.declared.symbols.Symbol.{Symbol}
 use Rattle.rs_grammar.specs.declared.symbols.Symbol.TheVariants.{Terminal, Part}

@@ -4,7 +4,7 @@ ghost use Rattle.std.specs.Str.{bytes_eq};
 ghost use Rattle.rs_walk_texts.specs.Nearness as spec;
 
 /// Whether the names differ, and are the same but for the case of their letters or, where one of them has three bytes at
-/// least, differ by one byte or by two neighbouring bytes that change places, as `qurey` and `query`.
+/// least, differ by one byte or by two neighbouring bytes that change places, as "qurey" and "query".
 pub fn is_near(one: &[u8], other: &[u8]) -> bool
     ensures test { result ≡ spec.is_near one.now other.now }
     ensures told { IsTrue result ↔ spec.IsNear one.now other.now }
