@@ -1,12 +1,12 @@
 -- What is read, and what has a first fault: for the tokens of a text.
 use Rattle.std.proofs.Common.{◌≡◌, ℕ, ◌≤◌, List, [], ◌∷◌, ◌++◌, length, Bool, true, false, ◌&&◌, if◌then◌else◌, Option, Some, None, Result, Ok, Err, IfOk, IfErr, refl, sym, ap, ◌∙◌, subst, ◌⊎◌, inl, inr, append-nil}
 use Rattle.rs_grammar.specs.declared.symbols.Symbol.{Symbol}
-use Rattle.rs_grammar.specs.Building.{Building, next_among, on_ok, built}
+use Rattle.rs_grammar.specs.Building.{Building, next_among, built}
 use Rattle.rs_grammar.specs.Ends.{no_step}
 use Rattle.rs_grammar.specs.Grammar.{Grammar, whole}
 use Rattle.rs_grammar.specs.Places.{Takes, Leads, can_end}
 use Rattle.rs_grammar.specs.Readings.{event, EndsAt, IsFirstFault, IsReadAs, fault_rule, Makes}
-use Rattle.rs_grammar.specs.Steps.{Reader, Step, step, is_left, settled, is_done, placed, go_on, on_step, automaton}
+use Rattle.rs_grammar.specs.Steps.{Reader, Step, step, is_left, settled, is_done, automaton}
 use Rattle.rs_grammar.specs.Tests.{is_readable}
 use Rattle.rs_grammar.specs.Trees.{Event, Trees, SpellsAs, events_of, signs_in}
 use Rattle.rs_grammar.proofs.Deciding.{to, step_takes, takes_step}
@@ -22,7 +22,6 @@ use Rattle.rs_text.specs.declared.reading.Stop.{Stop}
 use Rattle.rs_text.specs.declared.reading.Stop.TheVariants as stops
 use Rattle.rs_text.specs.Readings.{Reading, ReadsBy, StopsBy, feed_sign, next_lexeme_of, read_all, last_of}
 use Rattle.rs_text.specs.Signs.{Sign, broken}
-use Rattle.rs_text.specs.Tokens.{AreTokens}
 use Rattle.rs_text.proofs.Judging as judging
 use Rattle.rs_text.proofs.Judging.{Halt, halt, found, first_of}
 use Rattle.rs_text.proofs.Keeping.{tokens}

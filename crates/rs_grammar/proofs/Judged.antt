@@ -12,7 +12,7 @@ use Rattle.rs_grammar.specs.Readings.{event, Reaches, IsUnexpected, IsRefused, I
 use Rattle.rs_grammar.specs.Steps.{Reader, Step, step, is_left, settled, is_done, placed, go_on, on_step, automaton}
 use Rattle.rs_grammar.specs.Tests.{all_end, begins_well, ends, is_readable}
 use Rattle.rs_grammar.specs.Trees.{Event, events_of, signs_in, Spells, Begins}
-use Rattle.rs_grammar.proofs.Deciding.{Decided, Fits, decided, to, takes_step, step_takes, takes_fits, one_step}
+use Rattle.rs_grammar.proofs.Deciding.{Decided, Fits, decided, takes_step, step_takes, takes_fits, one_step}
 use Rattle.rs_grammar.proofs.Ending.{Endable, completed, takes_endable}
 use Rattle.rs_grammar.proofs.Spelling.{Derives, cons_same, derived, spelt}
 use Rattle.rs_text.specs.declared.faults.TextFault.{TextFault}
@@ -20,11 +20,11 @@ use Rattle.rs_text.specs.declared.faults.TextKind.{TextKind}
 use Rattle.rs_text.specs.declared.faults.TextKind.TheVariants as kind
 use Rattle.rs_text.specs.declared.tokens.FaultKind.{FaultKind}
 use Rattle.rs_text.specs.Faults.{kind_of}
-use Rattle.rs_text.specs.FirstFaults.{IsWhole, IsClear}
+use Rattle.rs_text.specs.FirstFaults.{IsWhole}
 use Rattle.rs_text.specs.Lexemes.{Lexeme}
-use Rattle.rs_text.specs.Readings.{Automaton, feed_sign, fault, expected}
+use Rattle.rs_text.specs.Readings.{feed_sign, fault, expected}
 use Rattle.rs_text.specs.Signs.{Sign, broken}
-use Rattle.rs_text.proofs.Judging.{Here, IsNamed, Judges, Verdict, Wholeness, a_faulty, a_whole, wholeness}
+use Rattle.rs_text.proofs.Judging.{Judges, Verdict, Wholeness, a_faulty, a_whole, wholeness}
 
 -- ---- places
 

@@ -1,5 +1,5 @@
 -- Public: which tokens belong to a class.
-use Rattle.std.specs.Prelude.{ℕ, List, [], ◌∷◌, ◌++◌, map, codes, is_some, Option, Some, None, Bool, true, false}
+use Rattle.std.specs.Prelude.{ℕ, List, [], ◌∷◌, map, codes, is_some, Option, Some, None, Bool, true, false}
 use Rattle.rs_grammar.specs.declared.classes.Class.{Class}
 use Rattle.rs_grammar.specs.declared.classes.Class.TheVariants as class
 use Rattle.rs_grammar.specs.declared.classes.Keyword.{Keyword}

@@ -1,8 +1,7 @@
 -- Public: what the code says of its steps.
-use Rattle.std.specs.Prelude.{ℕ, ◌≡◌, List, reverse, Option, Some, None, Result}
+use Rattle.std.specs.Prelude.{ℕ, ◌≡◌, List, reverse, Option, Some, None}
 use Rattle.rs_grammar.specs.declared.builders.Chosen.{Chosen}
 use Rattle.rs_grammar.specs.declared.symbols.Symbol.{Symbol}
-use Rattle.rs_grammar.specs.Building.{Building}
 use Rattle.rs_grammar.specs.Grammar.{Grammar, Way}
 use Rattle.rs_grammar.specs.Steps.{Step, step}
 use Rattle.rs_text.specs.Signs.{Sign}

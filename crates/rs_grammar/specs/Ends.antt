@@ -1,5 +1,5 @@
 -- Steps: no reader takes the end of the text.
-use Rattle.std.proofs.Common.{◌≡◌, ℕ, List, [], ◌∷◌, ◌++◌, Bool, true, false, if◌then◌else◌, Option, Some, None, Result, Ok, Err, refl, sym, ap, ◌∙◌, subst}
+use Rattle.std.proofs.Common.{◌≡◌, ℕ, List, [], ◌∷◌, Bool, true, false, Option, Some, None, Ok, refl}
 use Rattle.rs_grammar.specs.declared.classes.Class.{Class}
 use Rattle.rs_grammar.specs.declared.classes.Class.TheVariants as class
 use Rattle.rs_grammar.specs.declared.symbols.Symbol.{Symbol}
@@ -8,8 +8,6 @@ use Rattle.rs_grammar.specs.Building.{Building}
 use Rattle.rs_grammar.specs.Classes.{accepts}
 use Rattle.rs_grammar.specs.Grammar.{Grammar, Way, part_at}
 use Rattle.rs_grammar.specs.Steps.{Reader, Step, way_by, step_by, step, on_step, automaton}
-use Rattle.rs_text.specs.declared.faults.TextFault.{TextFault}
-use Rattle.rs_text.specs.Lexemes.{Lexeme}
 use Rattle.rs_text.specs.Readings.{StopsAtEnd}
 use Rattle.rs_text.specs.Signs.{Sign, finish}
 

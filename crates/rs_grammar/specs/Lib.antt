@@ -8,3 +8,4 @@ pub mod Steps
 pub mod Readings
 pub mod Code
 pub mod Ends
+pub mod RolesLine

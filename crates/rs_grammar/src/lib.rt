@@ -10,6 +10,8 @@ mod classes;
 pub mod laws;
 mod reader;
 mod symbols;
+#[cfg(test)]
+mod tests;
 
 pub use builders::{Builder, Chosen};
 pub use classes::{Class, Keyword};

@@ -1,5 +1,4 @@
 use Rattle.std.proofs.Common.{◌≡◌, ◌∙◌, ap, rules}
-use Rattle.rs_grammar.specs.Steps.{Reader}
 use Rattle.rs_grammar.proofs.Exact.{loop_read, loop_stops, start_of}
 use Rattle.rs_grammar.proofs.reader.read.Goals as goal
 
