@@ -1,4 +1,4 @@
--- Public: an example of a grammar, "roles" ROLE { "," ROLE } "protocol", whose value is the number of its roles.
+-- Steps: an example of a grammar, "roles" ROLE { "," ROLE } "protocol", whose value is the number of its roles.
 use Rattle.std.specs.Prelude.{ℕ, ◌+◌, [], ◌∷◌, nat_le, ◌==◌, if◌then◌else◌, false, Some, Ok, Err}
 use Rattle.rs_grammar.specs.declared.classes.Class.TheVariants as class
 use Rattle.rs_grammar.specs.declared.classes.Keyword.TheVariants as keyword
