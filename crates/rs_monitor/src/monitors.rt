@@ -16,15 +16,17 @@ use std::marker::Model;
 pub struct Monitor {
     machine: Machine,
     at: u32,
-    acts: u64,
+    // How many more acts can be counted: it costs less to count down to 0 than up to a limit.
+    uncounted: u64,
 }
 
 impl Model for Monitor {
+    ghost use Rattle.std.specs.Prelude.{◌^◌, ◌-◌};
     ghost use Rattle.rs_monitor.specs.Monitors.{Monitor_data};
 
     ghost Value = { Monitor_data };
 
-    ghost view = { λ m. record { machine = m.machine; at = m.at; acts = m.acts } };
+    ghost view = { λ m. record { machine = m.machine; at = m.at; acts = 2 ^ 64 - 1 - m.uncounted } };
 }
 
 impl Monitor {
@@ -36,7 +38,7 @@ impl Monitor {
         Monitor {
             machine,
             at,
-            acts: 0,
+            uncounted: u64::MAX,
         }
     }
 
@@ -66,7 +68,7 @@ impl Monitor {
     pub fn acts(&self) -> u64
         ensures { result ≡ self.now.acts }
     {
-        self.acts
+        u64::MAX - self.uncounted
     }
 
     /// Whether the machine has ended: its state neither sends nor receives.
@@ -117,6 +119,6 @@ impl Monitor {
         ensures { self.new ≡ after_act self.old next }
     {
         self.at = next;
-        self.acts = self.acts.saturating_add(1);
+        self.uncounted = self.uncounted.saturating_sub(1);
     }
 }
