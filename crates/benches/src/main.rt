@@ -1,8 +1,8 @@
 //! Sessions over rings, on one thread and on several, and sessions by several workers, whose actors do a stated amount of work
 //! at each act: how many parcels came in order and how far the workers came; with the word `rings` how many parcels came in a
 //! second, and with the word `workers` how many acts were made. With the word `opening`, `stages` or `endpoints` it plays a
-//! session of no acts, by stages or by endpoints. With the word `watched` or `widely_watched` it makes sends through a monitor of a
-//! machine of one label or of four, and with `unwatched` none. Without a word it ends with 1 where one of some further sessions
+//! session of no acts, by stages or by endpoints. With the word `watched1` to `watched4` it makes sends through a monitor of a
+//! machine of so many labels, and with `unwatched` it goes through the same loop without one. Without a word it ends with 1 where one of some further sessions
 //! doesn't go as it should.
 #![tactic(auto)]
 
@@ -61,6 +61,8 @@ enum Asked {
     Acts(Way, u32),
     /// So many sends through a monitor of a machine of so many labels.
     Watched(u16, u32),
+    /// The loop of so many sends alone.
+    Unwatched(u32),
 }
 
 /// What the first word behind the program's name asks for.
@@ -83,12 +85,18 @@ fn what_is_asked<R: Env + Alloc<A = Global>>(rt: &R) -> io::Result<Asked> {
                 return Ok(Asked::Acts(Way::Endpoints, NUMBERS));
             }
             if word.as_str() == "unwatched" {
-                return Ok(Asked::Watched(1, 0));
+                return Ok(Asked::Unwatched(NUMBERS));
             }
-            if word.as_str() == "watched" {
+            if word.as_str() == "watched1" {
                 return Ok(Asked::Watched(1, NUMBERS));
             }
-            if word.as_str() == "widely_watched" {
+            if word.as_str() == "watched2" {
+                return Ok(Asked::Watched(2, NUMBERS));
+            }
+            if word.as_str() == "watched3" {
+                return Ok(Asked::Watched(3, NUMBERS));
+            }
+            if word.as_str() == "watched4" {
                 return Ok(Asked::Watched(4, NUMBERS));
             }
         }
@@ -208,6 +216,10 @@ fn run<R: Threads + Wait + Sync + Clock + Print + Env + Alloc<A = Global>>(
         }
         Asked::Watched(labels, count) => {
             tell_watched(rt, labels, count)?;
+            Ok(true)
+        }
+        Asked::Unwatched(count) => {
+            println!(rt; "no monitor: the sum is {}", monitor_acts::summed(4, count))?;
             Ok(true)
         }
         Asked::Trials => {

@@ -26,19 +26,29 @@ fn sender(alloc: Global, labels: u16) -> Result<Machine, NoMemory> {
     })
 }
 
-/// How many of so many sends the monitor of that machine lets through. The labels take turns.
-pub fn let_through(alloc: Global, labels: u16, count: u32) -> Result<u32, NoMemory> {
+/// How many of so many sends the monitor of that machine lets through, up to the first that it refuses. The labels take turns.
+pub fn let_through(alloc: Global, labels: u16, count: u32) -> Result<u64, NoMemory> {
     let mut monitor = Monitor::new(sender(alloc, labels)?);
-    let mut through = 0u32;
     let mut label = 0;
     for number in 0..count {
         let value = Value::Natural(u64::from(number));
-        if monitor.sent(PEER, Label(label), &value).is_ok() {
-            through = through.wrapping_add(1);
+        if monitor.sent(PEER, Label(label), &value).is_err() {
+            return Ok(monitor.acts());
         }
         label = next_label(label, labels);
     }
-    Ok(through)
+    Ok(monitor.acts())
+}
+
+/// The loop of `let_through` alone: a sum of the numbers and the labels that would have been sent.
+pub fn summed(labels: u16, count: u32) -> u64 {
+    let mut sum = 0u64;
+    let mut label = 0;
+    for number in 0..count {
+        sum = sum.wrapping_add(u64::from(number ^ u32::from(label)));
+        label = next_label(label, labels);
+    }
+    sum
 }
 
 /// The label whose turn it is after this one.
