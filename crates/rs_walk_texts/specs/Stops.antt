@@ -135,7 +135,7 @@ send_first_text source p = waits_text source p ++ codes ", and by the protocol "
 -- what stands in the machine's way
 abbrev pub obstacle_text : WalkSource_data → Spot → Obstacle → List ℕ
 obstacle_text source p told.EndWhileOwing = codes "the machine ends, and still owes " ++ acts_text source.names p.pending
-obstacle_text source p told.EndTooEarly = codes "the machine ends, and the protocol goes on"
+obstacle_text source p told.EndTooEarly = codes "the machine ends, and the protocol goes on with " ++ above_head source p
 obstacle_text source p told.ActPastEnd = past_end_text source p
 obstacle_text source p (told.ChoiceWhileOwing place) = choice_text source p place
 obstacle_text source p (told.SendBeforeSend place) = send_while_owing source p place ++ codes " first"

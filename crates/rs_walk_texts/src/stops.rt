@@ -356,6 +356,14 @@ fn push_end_while_owing(
     push_all_owed(text, source, spot)
 }
 
+// The machine has ended, and its role goes on by the protocol.
+fn push_end_too_early(text: &mut Text, source: &WalkSource, spot: &SpotRef) -> Result<(), NoMemory>
+    ensures { OnOk result (text.new ≡ text.old ++ spec.obstacle_text source.now spot.now told.EndTooEarly) }
+{
+    text.push(b"the machine ends, and the protocol goes on with ")?;
+    push_above_head(text, source, spot)
+}
+
 // The machine chooses, and owes the act at the place.
 fn push_choice_while_owing(
     text: &mut Text,
@@ -422,7 +430,7 @@ fn push_obstacle(
 {
     match obstacle {
         Obstacle::EndWhileOwing => push_end_while_owing(text, source, spot),
-        Obstacle::EndTooEarly => text.push(b"the machine ends, and the protocol goes on"),
+        Obstacle::EndTooEarly => push_end_too_early(text, source, spot),
         Obstacle::ActPastEnd => push_past_end(text, source, spot),
         Obstacle::ChoiceWhileOwing { place } => push_choice_while_owing(text, source, spot, place),
         Obstacle::SendBeforeSend { place } => push_send_before_send(text, source, spot, place),
