@@ -1,5 +1,5 @@
 -- What was answered is what is due.
-use Rattle.std.proofs.Common.{◌≡◌, ◌⊎◌, ◌<◌, ℕ, List, length, Option, Some, None, Result, Ok, Err, get_or, slice_get, refl, sym, ap, ◌∙◌, inl, inr, arith}
+use Rattle.std.proofs.Common.{◌≡◌, ◌⊎◌, ◌<◌, ◌≤◌, ◌^◌, ℕ, List, length, Option, Some, None, Result, Ok, Err, get_or, slice_get, refl, sym, ap, ◌∙◌, inl, inr, arith}
 use Rattle.std.proofs.lemmas.Option.{slice_get_read}
 use Rattle.std.specs.Prelude.{IfOk, OnOk}
 use Rattle.rs_model.specs.Data.{Machine_data}
@@ -21,6 +21,7 @@ use Rattle.rs_answers.specs.Refusals.{of_projecting, refusal_answer}
 use Rattle.rs_answers.specs.Sessions.{Refuses}
 use Rattle.rs_answers.specs.declared.refusals.Refusal.{Refusal}
 use Rattle.rs_answers.specs.declared.refusals.Refusal.TheVariants as refusal
+use Rattle.rs_draw.specs.PutsOff.{DrawsOwn}
 use Rattle.rs_draw.specs.Draws.{DrawsProjection, DrawsRole, HasMachine, HasNoMachine, HasNoProjection, HasNoRole, IsIllFormed, IsProjected, drawn_machine}
 
 pub ill_formed : (d : Document_data) (place : ℕ) (f : WfFault) (r : Result Answer_data NoMemory) → first_fault d.protocol ≡ Some f → IfOk r (λ a. a ≡ wf_answer d.names f) → IfOk r (DrawsProjection d place)
@@ -49,7 +50,7 @@ role_unknown role d (Err e) none is = tt
 role_unknown role d (Ok a) none is = HasNoRole none is
 
 pub own_drawn : (role : List ℕ) (d : Document_data) (place : ℕ) (machine : Machine_data) (r : Result Answer_data NoMemory) → place_of role d.names.roles ≡ Some place
-    → slice_get d.machines place ≡ Some (Some machine) → IfOk r (λ a. a ≡ drawn_machine d.names machine) → IfOk r (DrawsRole role d)
+    → slice_get d.machines place ≡ Some (Some machine) → IfOk r (DrawsOwn d place machine) → IfOk r (DrawsRole role d)
 own_drawn role d place machine (Err e) known there is = tt
 own_drawn role d place machine (Ok a) known there is = HasMachine place machine known there is
 
@@ -71,3 +72,6 @@ pub held : (d : Document_data) (place : ℕ) (machines : List (Option Machine_da
     → found ≡ own → slice_get d.machines place ≡ Some own
 held d place machines found own low same e is =
     slice_get_read d.machines (length d.machines) place found refl low (e ∙ ap (λ (z : List (Option Machine_data)). get_or z place found) same) ∙ ap Some is
+
+pub few_states : (d : Document_data) (place : ℕ) (machine : Machine_data) → DocumentIsReady d → slice_get d.machines place ≡ Some (Some machine) → length machine.states < 2 ^ 32
+few_states d place machine ready there = let short : length machine.states ≤ 1024 = ready.short place machine there in omega (arith, short)

@@ -1,2 +1,3 @@
+pub mod Accepting
 pub mod Answered
 pub mod OneDrawing

@@ -15,6 +15,7 @@ use Rattle.rs_answers.specs.Sessions.{HasProjections, IsUnprojectable}
 use Rattle.rs_answers.specs.declared.verdicts.Verdict.TheVariants.{Fine}
 use Rattle.rs_pictures.specs.Machines.{machine_picture}
 use Rattle.rs_pictures.specs.Sequences.{IsPictureOf}
+use Rattle.rs_draw.specs.PutsOff.{DrawsOwn}
 
 -- `draw`: the picture of the protocol, whether it is well formed or not
 pub record DrawsProtocol (d : Document_data) (answer : Answer_data) : Type 0 where
@@ -41,7 +42,7 @@ pub data DrawsRole (role : List ℕ) (d : Document_data) (answer : Answer_data) 
   -- the document has no such role
   HasNoRole : place_of role d.names.roles ≡ None → answer ≡ unknown_role → DrawsRole role d answer
   -- the role has a machine in the document, which is drawn, whether it is well formed or not
-  HasMachine : (place : ℕ) (machine : Machine_data) → place_of role d.names.roles ≡ Some place → slice_get d.machines place ≡ Some (Some machine) → answer ≡ drawn_machine d.names machine
+  HasMachine : (place : ℕ) (machine : Machine_data) → place_of role d.names.roles ≡ Some place → slice_get d.machines place ≡ Some (Some machine) → DrawsOwn d place machine answer
       → DrawsRole role d answer
   -- it has none, and its projection is drawn
   HasNoMachine : (place : ℕ) → place_of role d.names.roles ≡ Some place → slice_get d.machines place ≡ Some None → DrawsProjection d place answer → DrawsRole role d answer

@@ -1,1 +1,2 @@
+pub mod PutsOff
 pub mod Draws

@@ -4,12 +4,13 @@ ghost use Rattle.std.specs.Prelude.{◌≡◌, ◌<◌, IfOk, None, Some, length
 ghost use Rattle.rs_documents.specs.Canonical.{CanBeShown};
 ghost use Rattle.rs_documents.specs.Ready.{DocumentIsReady};
 ghost use Rattle.rs_answers.specs.Improves as improves;
-ghost use Rattle.rs_draw.specs.Draws.{Draws, DrawsProjection, DrawsProtocol, DrawsRole, drawn_machine};
+ghost use Rattle.rs_draw.specs.Draws.{Draws, DrawsProjection, DrawsProtocol, DrawsRole};
 
+use crate::own::{draw_own, drawn_machine};
 use rs_answers::{Answer, Refusal, Verdict, line_of_answer, projections_of, refusal_answer};
 use rs_documents::Document;
-use rs_model::{Machine, Name, Names, NoMemory};
-use rs_pictures::{machine_picture, sequence_picture};
+use rs_model::{Name, NoMemory};
+use rs_pictures::sequence_picture;
 use rs_text::find;
 use rs_wellformed::well_formed;
 use std::alloc::Global;
@@ -44,15 +45,6 @@ fn unknown_role(alloc: Global) -> Result<Answer, NoMemory>
     line_of_answer(alloc, b"unknown role", &[], Verdict::Malformed)
 }
 
-fn drawn_machine(alloc: Global, names: &Names, machine: &Machine) -> Result<Answer, NoMemory>
-    ensures { IfOk result (λ a. a ≡ drawn_machine names.now machine.now) }
-{
-    Ok(Answer {
-        text: machine_picture(alloc, names, machine)?,
-        verdict: Verdict::Fine,
-    })
-}
-
 /// The projection of the role with the place; or why the protocol has no projections.
 fn draw_projection(alloc: Global, document: &Document, place: usize) -> Result<Answer, NoMemory>
     requires ready { DocumentIsReady document.now }
@@ -82,7 +74,7 @@ fn draw_role(alloc: Global, document: &Document, role: &Name) -> Result<Answer, 
         return unknown_role(alloc);
     };
     match &document.machines[place] {
-        Some(machine) => drawn_machine(alloc, names, machine),
+        Some(machine) => draw_own(alloc, document, place, machine),
         None => draw_projection(alloc, document, place),
     }
 }

@@ -2,5 +2,7 @@
 #![tactic(auto)]
 
 mod drawing;
+pub mod laws;
+mod own;
 
 pub use drawing::draw;

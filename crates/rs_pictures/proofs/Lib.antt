@@ -3,3 +3,4 @@ pub mod Drawn
 pub mod OnePicture
 pub mod Arrows
 pub mod States
+pub mod PutOff

@@ -36,3 +36,16 @@ arrows_from names n (s ∷ later) = state_arrows names n s ++ arrows_from names 
 -- the picture of a machine: an arrow to its start, and the arrows of its states
 abbrev pub machine_picture : Names_data → Machine_data → List ℕ
 machine_picture names m = codes "stateDiagram-v2\n    [*] --> " ++ state_name m.start ++ codes "\n" ++ arrows_from names 0 m.states
+
+-- what is written beside state n: how many acts the machine puts off there
+abbrev pub state_puts_off : (n acts : ℕ) → List ℕ
+state_puts_off n acts = codes "    " ++ state_name n ++ codes ": " ++ state_name n ++ codes " puts off " ++ decimal acts ++ codes "\n"
+
+-- what is written beside states, of which the first one has the number n; the function gives the number of acts for each
+abbrev pub states_put_off : (acts : ℕ → ℕ) → ℕ → List State → List ℕ
+states_put_off acts n [] = []
+states_put_off acts n (s ∷ later) = state_puts_off n (acts n) ++ states_put_off acts (suc n) later
+
+-- the picture of a machine, and beside each state how many acts the machine puts off there
+abbrev pub machine_picture_with : Names_data → (acts : ℕ → ℕ) → Machine_data → List ℕ
+machine_picture_with names acts m = machine_picture names m ++ states_put_off acts 0 m.states

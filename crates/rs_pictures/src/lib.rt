@@ -6,5 +6,5 @@ mod lines;
 mod machines;
 mod sequences;
 
-pub use machines::machine_picture;
+pub use machines::{machine_picture, push_puts_off};
 pub use sequences::sequence_picture;

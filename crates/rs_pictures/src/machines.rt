@@ -24,6 +24,19 @@ pub fn machine_picture(alloc: Global, names: &Names, machine: &Machine) -> Resul
     Ok(text)
 }
 
+/// Appends what is written beside a state, by its number: how many acts the machine puts off there.
+pub fn push_puts_off(text: &mut Text, number: u64, acts: u64) -> Result<(), NoMemory>
+    ensures { OnOk result (text.new ≡ text.old ++ spec.state_puts_off number acts) }
+{
+    text.push(b"    ")?;
+    push_state_name(text, number)?;
+    text.push(b": ")?;
+    push_state_name(text, number)?;
+    text.push(b" puts off ")?;
+    text.push_number(acts)?;
+    text.push(b"\n")
+}
+
 fn push_state_name(text: &mut Text, number: u64) -> Result<(), NoMemory>
     ensures { OnOk result (text.new ≡ text.old ++ spec.state_name number) }
 {
