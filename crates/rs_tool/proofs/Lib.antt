@@ -2,6 +2,7 @@ pub mod Pieces
 pub mod Answering
 pub mod MadeReady
 pub mod Headline
+pub mod Hopeless
 pub mod ItsSession
 pub mod Unique
 pub mod EnoughRoom

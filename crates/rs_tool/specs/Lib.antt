@@ -5,6 +5,7 @@ pub mod Data
 pub mod DemoCompleteness
 pub mod DemoHeadline
 pub mod Headline
+pub mod Hopeless
 pub mod ImproveHeadline
 pub mod Never
 pub mod Pipelines

@@ -11,6 +11,7 @@ ghost use Rattle.rs_tool.specs.Data.{call_of, input_of, output_of};
 ghost use Rattle.rs_tool.specs.DemoCompleteness.{IsCompleteDemo};
 ghost use Rattle.rs_tool.specs.DemoHeadline.{HasSafeDemo};
 ghost use Rattle.rs_tool.specs.Headline.{SpellsSafeMachines};
+ghost use Rattle.rs_tool.specs.Hopeless.{SpellsHopelessMachine, WritesNoBoundHelps};
 ghost use Rattle.rs_tool.specs.ImproveHeadline.{WritesSafeMachines};
 ghost use Rattle.rs_tool.specs.Preparing.{AnswersAlone, AnswersTo, Delivers};
 ghost use Rattle.rs_tool.specs.RunHeadline.{IsOfRun};
@@ -137,6 +138,9 @@ pub fn command_serial<S: Source, K: Sink>(
         → IfSome (S.left source.old) (λ bytes. reply.status ≡ Status.Fine → SpellsSafeMachines bytes)) }
     ensures explained { IfAnswered result (λ reply. (bound : ℕ) → SpellsExplain (bytes_of_words words.now) bound
         → IfSome (S.left source.old) (λ bytes. reply.status ≡ Status.Fine → SpellsSafeMachines bytes)) }
+    ensures hopeless { let output = output_of K.written K.faults K.last sink.old sink.new in
+        IfAnswered result (λ reply. (bound : ℕ) → SpellsExplain (bytes_of_words words.now) bound
+        → IfSome (S.left source.old) (λ bytes. reply.status ≡ Status.Refused → WritesNoBoundHelps output → SpellsHopelessMachine bound bytes)) }
     ensures verified { IfAnswered result (λ reply. SpellsVerify (bytes_of_words words.now)
         → IfSome (S.left source.old) (λ bytes. reply.status ≡ Status.Fine → SpellsSafeMachines bytes)) }
     ensures migrated { IfAnswered result (λ reply. SpellsMigrate (bytes_of_words words.now)
@@ -207,6 +211,9 @@ pub fn command<R: Threads + Wait + Sync, S: Source, K: Sink, G: Gate + Sync>(
         → IfSome (S.left source.old) (λ bytes. result.status ≡ Status.Fine → SpellsSafeMachines bytes) }
     ensures explained { (bound : ℕ) → SpellsExplain (bytes_of_words words.now) bound
         → IfSome (S.left source.old) (λ bytes. result.status ≡ Status.Fine → SpellsSafeMachines bytes) }
+    ensures hopeless { let output = output_of K.written K.faults K.last sink.old sink.new in
+        (bound : ℕ) → SpellsExplain (bytes_of_words words.now) bound
+        → IfSome (S.left source.old) (λ bytes. result.status ≡ Status.Refused → WritesNoBoundHelps output → SpellsHopelessMachine bound bytes) }
     ensures verified { SpellsVerify (bytes_of_words words.now)
         → IfSome (S.left source.old) (λ bytes. result.status ≡ Status.Fine → SpellsSafeMachines bytes) }
     ensures migrated { SpellsMigrate (bytes_of_words words.now)

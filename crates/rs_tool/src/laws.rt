@@ -13,15 +13,16 @@ ghost use Rattle.rs_safety.specs.Room.{room_of};
 ghost use Rattle.rs_tool.specs.Answers.{Answers};
 ghost use Rattle.rs_answers.specs.Data.{Answer_data};
 ghost use Rattle.rs_tool.specs.Headline.{SpellsSafeMachines};
+ghost use Rattle.rs_tool.specs.Hopeless.{SaysNoBoundHelps, SpellsHopelessMachine};
 ghost use Rattle.rs_answers.specs.Derivations.{AreCanonical};
 ghost use Rattle.rs_answers.specs.Machines.{machines_of};
 ghost use Rattle.rs_runs.specs.Runs.{Runs, capacity_of};
 ghost use Rattle.rs_answers.specs.Sessions.{HasMachines};
 ghost use Rattle.rs_model.specs.declared.runs.RunOptions.{RunOptions};
-ghost use Rattle.rs_answers.specs.declared.verdicts.Verdict.TheVariants.{Fine, Full, Stopped};
+ghost use Rattle.rs_answers.specs.declared.verdicts.Verdict.TheVariants.{Fine, Full, Refused, Stopped};
 ghost use Rattle.rs_tool.specs.RunHeadline.{IsOfRun};
 ghost use Rattle.rs_tool.specs.Statuses.{status_of};
-ghost use Rattle.rs_tool.specs.Tasks.{AskForWorkers, SpellsImprove, SpellsMigrate, SpellsRun};
+ghost use Rattle.rs_tool.specs.Tasks.{AskForWorkers, SpellsExplain, SpellsImprove, SpellsMigrate, SpellsRun};
 
 /// There is an answer to all words and bytes.
 pub fn all_have_an_answer()
@@ -61,6 +62,13 @@ pub fn answers_tell_of_safe_machines()
     ensures run { (words : List (List ℕ)) (options : RunOptions) (bytes : List ℕ) (a : Answer_data) → SpellsRun words options → Answers words bytes a → IsOfRun (status_of a.verdict)
         → SpellsSafeMachines bytes }
     ensures improved { (words : List (List ℕ)) (bytes : List ℕ) (a : Answer_data) → SpellsImprove words → Answers words bytes a → a.verdict ≡ Fine → SpellsSafeMachines a.text }
+{}
+
+/// If `explain` refuses a document and the last line of its answer is `no bound helps`, then within no bound does the machine that
+/// it refuses have a derivation from its projection that remembers what it owes.
+pub fn no_bound_helps_where_explain_says_so()
+    ensures { (words : List (List ℕ)) (bound : ℕ) (bytes : List ℕ) (a : Answer_data) → SpellsExplain words bound → Answers words bytes a → a.verdict ≡ Refused → SaysNoBoundHelps a.text
+        → SpellsHopelessMachine bound bytes }
 {}
 
 /// A run whose queues hold as many messages as the room of the session says is never full.

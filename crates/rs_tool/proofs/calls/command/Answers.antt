@@ -3,6 +3,7 @@ use Rattle.rs_tool.proofs.DemoComplete.{complete_demo}
 use Rattle.rs_tool.proofs.DemoHeadline.{demos_are_safe_and_never_full}
 use Rattle.rs_tool.proofs.ItsSession.{has_its_session}
 use Rattle.rs_tool.proofs.Headline.{explained_is_fine, fine_is_safe, improved_is_safe, migrated_is_safe, pipeline_is_safe, runs_are_safe, verified_is_safe}
+use Rattle.rs_tool.proofs.Hopeless.{hopeless_is_told}
 use Rattle.rs_tool.proofs.calls.command.Goals as goal
 
 pub returns-clause-ends : goal.returns-clause-ends
@@ -13,6 +14,9 @@ returns-clause-headline g c = fine_is_safe _ _ c.carry_out.ensures
 
 pub returns-clause-explained : goal.returns-clause-explained
 returns-clause-explained g c = explained_is_fine _ _ c.carry_out.ensures
+
+pub returns-clause-hopeless : goal.returns-clause-hopeless
+returns-clause-hopeless g c = hopeless_is_told _ _ c.carry_out.ensures
 
 pub returns-clause-verified : goal.returns-clause-verified
 returns-clause-verified g c = verified_is_safe _ _ c.carry_out.ensures

@@ -4,6 +4,7 @@ use Rattle.rs_tool.proofs.DemoComplete.{complete_demo}
 use Rattle.rs_tool.proofs.DemoHeadline.{demos_are_safe_and_never_full}
 use Rattle.rs_tool.proofs.ItsSession.{has_its_session}
 use Rattle.rs_tool.proofs.Headline.{explained_is_fine, fine_is_safe, improved_is_safe, migrated_is_safe, pipeline_is_safe, runs_are_safe, verified_is_safe}
+use Rattle.rs_tool.proofs.Hopeless.{hopeless_is_told}
 use Rattle.rs_tool.proofs.calls.command_serial.Goals as goal
 
 pub returns-in-Some-clause-ends : goal.returns-in-Some-clause-ends
@@ -23,6 +24,12 @@ returns-in-Some-clause-explained g c =
     let alone = rw c.in-Some.is at c.answer_alone.ensures in
     let ends = ends_delivered _ _ _ _ _ alone.0 c.deliver.ensures in
     explained_is_fine _ _ ends
+
+pub returns-in-Some-clause-hopeless : goal.returns-in-Some-clause-hopeless
+returns-in-Some-clause-hopeless g c =
+    let alone = rw c.in-Some.is at c.answer_alone.ensures in
+    let ends = ends_delivered _ _ _ _ _ alone.0 c.deliver.ensures in
+    hopeless_is_told _ _ ends
 
 pub returns-in-Some-clause-verified : goal.returns-in-Some-clause-verified
 returns-in-Some-clause-verified g c =
