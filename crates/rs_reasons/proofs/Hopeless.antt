@@ -26,7 +26,7 @@ use Rattle.rs_search.specs.declared.faults.SearchFault.{SearchFault}
 use Rattle.rs_search.specs.declared.faults.SearchFault.TheVariants as search
 use Rattle.rs_text.specs.NamePlaces.{name_at}
 use Rattle.rs_walk_texts.specs.Data.{WalkSource_data}
-use Rattle.rs_reasons.specs.Underivable.{GreatestForgets, GreatestHelps, GreatestRefuses, NoneHelps, TellsNotFound, TellsUnderivable, hopeless_line, is_blocked, is_forgetting, is_hopeless, leads_nowhere, refusing_line, way_text, with_bound_line}
+use Rattle.rs_reasons.specs.Underivable.{Accepts, Finds, GreatestForgets, GreatestHelps, GreatestRefuses, IsNoLess, IsTooLarge, NoneHelps, Refuses, TellsNotFound, TellsSearch, TellsTooLarge, TellsUnderivable, helped_line, hopeless_line, is_blocked, is_forgetting, is_hopeless, leads_nowhere, lesser_bounds, refused_line, refusing_line, way_text, with_bound_line}
 
 -- the last letters of a text
 
@@ -114,21 +114,43 @@ refused source (search.Forgets node) d lines before way n f r e h v = false≢tr
 refused source search.TooLarge d lines before way n f r e h v = not_bound lines before way MOST_BOUND (codes "there are too many candidat") 115 h e
 refused source search.NoMemory d lines before way n f r e h v = n refl
 
-not_found : (source : WalkSource_data) (bound : ℕ) (cut : Bool) (lines before : List ℕ) (d : Derivation_data) → IsProper source.machine → IsProper source.projection.machine
-    → IsNotFound source.machine source.projection.machine bound cut → TellsNotFound source bound cut lines → lines ≡ before ++ hopeless_line
+-- the lines that are told stand behind others
+not_found : (source : WalkSource_data) (bound : ℕ) (cut : Bool) (whole front lines before : List ℕ) (d : Derivation_data) → IsProper source.machine → IsProper source.projection.machine
+    → IsNotFound source.machine source.projection.machine bound cut → TellsNotFound source bound cut lines → whole ≡ front ++ lines → whole ≡ before ++ hopeless_line
     → IsDerivation d source.machine source.projection.machine → Remembers d source.machine source.projection.machine → ⊥
-not_found source bound cut lines before d ws wa nf (NoneHelps e x k eq) h v rem = hopeless source bound cut e d nf x k v
-not_found source bound cut lines before d ws wa nf (GreatestRefuses e x k fault n f r eq) h v rem = refused source fault d lines before (way_text source bound e.steps e.ending) n f r eq h v
-not_found source bound cut lines before d ws wa nf (GreatestForgets e x k node g f i eq) h v rem = forgetful source MOST_BOUND node d ws wa g v rem
-not_found source bound cut lines before d ws wa nf (GreatestHelps e x k g c steps w eq) h v rem =
-    not_bound lines before (way_text source bound steps Cut) (longest g) (name_at source.names.roles source.machine.role.0 ++ codes " is accept") 100 h
-    (eq ∙ ap (λ (z : List ℕ). way_text source bound steps Cut ++ with_bound_line (longest g) z)
+not_found source bound cut whole front lines before d ws wa nf (NoneHelps e x k eq) w h v rem = hopeless source bound cut e d nf x k v
+not_found source bound cut whole front lines before d ws wa nf (GreatestRefuses e x k fault n f r eq) w h v rem =
+    refused source fault d whole before (front ++ way_text source bound e.steps e.ending) n f r
+    (w ∙ ap (λ (z : List ℕ). front ++ z) eq ∙ sym (append_assoc front (way_text source bound e.steps e.ending) (refusing_line source fault))) h v
+not_found source bound cut whole front lines before d ws wa nf (GreatestForgets e x k node g f i eq) w h v rem = forgetful source MOST_BOUND node d ws wa g v rem
+not_found source bound cut whole front lines before d ws wa nf (GreatestHelps e x k g c steps u eq) w h v rem =
+    let way = front ++ way_text source bound steps Cut in
+    not_bound whole before way (longest g) (name_at source.names.roles source.machine.role.0 ++ codes " is accept") 100 h
+    (w ∙ ap (λ (z : List ℕ). front ++ z) eq ∙ sym (append_assoc front (way_text source bound steps Cut) (helped_line source g))
+    ∙ ap (λ (z : List ℕ). way ++ with_bound_line (longest g) z)
     (sym (append_assoc (name_at source.names.roles source.machine.role.0) (codes " is accept") (101 ∷ 100 ∷ []))))
+
+searched : (source : WalkSource_data) (bound : ℕ) (lines before : List ℕ) (d : Derivation_data) → IsProper source.machine → IsProper source.projection.machine → TellsSearch source bound lines
+    → lines ≡ before ++ hopeless_line → IsDerivation d source.machine source.projection.machine → Remembers d source.machine source.projection.machine → ⊥
+searched source bound lines before d ws wa (Accepts g c e) h v rem =
+    not_bound lines before [] bound (name_at source.names.roles source.machine.role.0 ++ codes " is accept") 100 h
+    (e ∙ ap (λ (z : List ℕ). with_bound_line bound z) (sym (append_assoc (name_at source.names.roles source.machine.role.0) (codes " is accept") (101 ∷ 100 ∷ []))))
+searched source bound lines before d ws wa (Refuses (search.NotFound cut) r reason t e) h v rem = not_found source bound cut lines (refused_line source bound) reason before d ws wa r t e h v rem
+searched source bound lines before d ws wa (Refuses (search.Forgets node) r reason t e) h v rem = forgetful source bound node d ws wa r v rem
+searched source bound lines before d ws wa (Refuses search.TooLarge r reason t e) h v rem = t
+searched source bound lines before d ws wa (Refuses search.NoMemory r reason t e) h v rem = t
+
+too_large : (source : WalkSource_data) (bound : ℕ) (bounds lines before : List ℕ) (d : Derivation_data) → IsProper source.machine → IsProper source.projection.machine
+    → TellsTooLarge source bound bounds lines → lines ≡ before ++ hopeless_line → IsDerivation d source.machine source.projection.machine → Remembers d source.machine source.projection.machine → ⊥
+too_large source bound [] lines before d ws wa t h v rem = none_told before (sym t ∙ h)
+too_large source bound (b ∷ later) lines before d ws wa (IsNoLess l t) h v rem = too_large source bound later lines before d ws wa t h v rem
+too_large source bound (b ∷ later) lines before d ws wa (IsTooLarge l m t) h v rem = too_large source bound later lines before d ws wa t h v rem
+too_large source bound (b ∷ later) lines before d ws wa (Finds l s) h v rem = searched source b lines before d ws wa s h v rem
 
 pub no_bound_helps : (source : WalkSource_data) (bound : ℕ) (fault : SearchFault) (lines before : List ℕ) (d : Derivation_data) → IsProper source.machine → IsProper source.projection.machine
     → SearchRefuses source.machine source.projection.machine bound fault → TellsUnderivable source bound fault lines → lines ≡ before ++ hopeless_line
     → IsDerivation d source.machine source.projection.machine → Remembers d source.machine source.projection.machine → ⊥
-no_bound_helps source bound (search.NotFound cut) lines before d ws wa r t h v rem = not_found source bound cut lines before d ws wa r t h v rem
+no_bound_helps source bound (search.NotFound cut) lines before d ws wa r t h v rem = not_found source bound cut lines [] lines before d ws wa r t refl h v rem
 no_bound_helps source bound (search.Forgets node) lines before d ws wa r t h v rem = forgetful source bound node d ws wa r v rem
-no_bound_helps source bound search.TooLarge lines before d ws wa r t h v rem = none_told before (sym t ∙ h)
+no_bound_helps source bound search.TooLarge lines before d ws wa r t h v rem = too_large source bound lesser_bounds lines before d ws wa t h v rem
 no_bound_helps source bound search.NoMemory lines before d ws wa r t h v rem = none_told before (sym t ∙ h)

@@ -1,6 +1,7 @@
 pub mod Hopeless
 pub mod Joins
 pub mod LeastBound
+pub mod LesserBounds
 pub mod Marking
 pub mod OneExplanation
 pub mod OneUnderivable

@@ -1,20 +1,21 @@
 -- One is told of a machine of which no derivation is found.
-use Rattle.std.proofs.Common.{◌≡◌, ◌≢◌, ◌++◌, ◌∙◌, ℕ, List, Bool, true, false, sym, ap, subst}
+use Rattle.std.proofs.Common.{◌≡◌, ◌≢◌, ◌++◌, ◌∙◌, ℕ, List, [], ◌∷◌, Bool, true, false, Some, sym, ap, subst, arith}
 use Rattle.rs_explain.proofs.Existing.{one_cut_walk, one_explanation}
 use Rattle.rs_explain.proofs.Forgetful.{one_forgetting}
 use Rattle.rs_explain.specs.Explanations.{Explanation_data, IsExplanation}
 use Rattle.rs_explain.specs.Forgetting.{Forgetting_data, IsForgetting}
 use Rattle.rs_explain.specs.Walks.{WalkStep_data}
 use Rattle.rs_explain.specs.declared.explaining.Ending.TheVariants.{Cut}
-use Rattle.rs_model.specs.declared.limits.TheConstants.{MOST_BOUND}
+use Rattle.rs_model.specs.declared.limits.TheConstants.{MOST_BOUND, MOST_CANDIDATES}
 use Rattle.rs_search.proofs.Determined.{not_both_ways}
 use Rattle.rs_search.proofs.Determined as searched
 use Rattle.rs_derive.specs.Data.{Derivation_data}
+use Rattle.rs_search.specs.Candidates.{AreMoreThan}
 use Rattle.rs_search.specs.Canonical.{IsCanonical, IsForgets, SearchRefuses}
 use Rattle.rs_search.specs.declared.faults.SearchFault.{SearchFault}
 use Rattle.rs_search.specs.declared.faults.SearchFault.TheVariants as search
 use Rattle.rs_walk_texts.specs.Data.{WalkSource_data}
-use Rattle.rs_reasons.specs.Underivable.{GreatestForgets, GreatestHelps, GreatestRefuses, NoneHelps, TellsForgets, TellsNotFound, TellsUnderivable, helped_line, hopeless_line, is_forgetting, is_hopeless, refusing_line, round_text, way_text}
+use Rattle.rs_reasons.specs.Underivable.{Accepts, Finds, GreatestForgets, GreatestHelps, GreatestRefuses, IsNoLess, IsTooLarge, NoneHelps, Refuses, TellsForgets, TellsNotFound, TellsReason, TellsSearch, TellsTooLarge, TellsUnderivable, helped_line, hopeless_line, is_forgetting, is_hopeless, lesser_bounds, refused_line, refusing_line, round_text, way_text}
 
 -- one explanation is hopeless or isn't
 both : (source : WalkSource_data) (bound : ℕ) (cut : Bool) (e f : Explanation_data) → IsExplanation source.machine source.projection.machine bound e
@@ -81,9 +82,51 @@ one_forgets source bound node lines others h k =
     h.text
     ∙ ap (λ (z : Forgetting_data). round_text source z ++ hopeless_line) (one_forgetting source.machine source.projection.machine bound node h.forgetting k.forgetting h.is_forgetting k.is_forgetting) ∙ sym k.text
 
+-- one is told of too many candidates
+
+-- what is told of a search isn't told where there are too many candidates, nor where memory is refused
+not_large : (source : WalkSource_data) (bound : ℕ) (lines : List ℕ) → TellsSearch source bound lines → AreMoreThan source.machine source.projection.machine bound MOST_CANDIDATES → ⊥
+not_large source bound lines (Accepts d c e) m = c.bounded m
+not_large source bound lines (Refuses (search.NotFound cut) r reason t e) m = r.bounded m
+not_large source bound lines (Refuses (search.Forgets node) r reason t e) m = r.bounded m
+not_large source bound lines (Refuses search.TooLarge r reason t e) m = t
+not_large source bound lines (Refuses search.NoMemory r reason t e) m = t
+
+not_memory : (source : WalkSource_data) (bound : ℕ) (fault : SearchFault) (reason : List ℕ) → TellsReason source bound fault (Some reason) → fault ≡ search.NoMemory → ⊥
+not_memory source bound fault reason t e = subst (λ (z : SearchFault). TellsReason source bound z (Some reason)) e t
+
+one_reason : (source : WalkSource_data) (bound : ℕ) (fault : SearchFault) (reason other : List ℕ) → TellsReason source bound fault (Some reason) → TellsReason source bound fault (Some other) → reason ≡ other
+one_reason source bound (search.NotFound cut) reason other h k = one_not_found source bound cut reason other h k
+one_reason source bound (search.Forgets node) reason other h k = one_forgets source bound node reason other h k
+one_reason source bound search.TooLarge reason other h k = absurd h
+one_reason source bound search.NoMemory reason other h k = absurd h
+
+one_search : (source : WalkSource_data) (bound : ℕ) (lines others : List ℕ) → TellsSearch source bound lines → TellsSearch source bound others → lines ≡ others
+one_search source bound lines others (Accepts d c p) (Accepts g k q) = p ∙ sym q
+one_search source bound lines others (Accepts d c p) (Refuses fault r reason t q) =
+    absurd (not_memory source bound fault reason t (not_both_ways source.machine source.projection.machine bound d fault c r))
+one_search source bound lines others (Refuses fault r reason t q) (Accepts d c p) =
+    absurd (not_memory source bound fault reason t (not_both_ways source.machine source.projection.machine bound d fault c r))
+one_search source bound lines others (Refuses fault r reason t p) (Refuses fault' r' other u q) =
+    let same : fault ≡ fault' = searched.one_refusal source.machine source.projection.machine bound fault fault' (not_memory source bound fault reason t) (not_memory source bound fault' other u) r r' in
+    p
+    ∙ ap (λ (z : List ℕ). refused_line source bound ++ z) (one_reason source bound fault' reason other (subst (λ (z : SearchFault). TellsReason source bound z (Some reason)) same t) u) ∙ sym q
+
+one_too_large : (source : WalkSource_data) (bound : ℕ) (bounds lines others : List ℕ) → TellsTooLarge source bound bounds lines → TellsTooLarge source bound bounds others → lines ≡ others
+one_too_large source bound [] lines others h k = h ∙ sym k
+one_too_large source bound (b ∷ later) lines others (IsNoLess l h) (IsNoLess m k) = one_too_large source bound later lines others h k
+one_too_large source bound (b ∷ later) lines others (IsNoLess l h) (IsTooLarge m w k) = absurd (omega arith)
+one_too_large source bound (b ∷ later) lines others (IsNoLess l h) (Finds m s) = absurd (omega arith)
+one_too_large source bound (b ∷ later) lines others (IsTooLarge m w h) (IsNoLess l k) = absurd (omega arith)
+one_too_large source bound (b ∷ later) lines others (IsTooLarge m w h) (IsTooLarge l x k) = one_too_large source bound later lines others h k
+one_too_large source bound (b ∷ later) lines others (IsTooLarge m w h) (Finds l s) = absurd (not_large source b others s w)
+one_too_large source bound (b ∷ later) lines others (Finds m s) (IsNoLess l k) = absurd (omega arith)
+one_too_large source bound (b ∷ later) lines others (Finds m s) (IsTooLarge l w k) = absurd (not_large source b lines s w)
+one_too_large source bound (b ∷ later) lines others (Finds m s) (Finds l u) = one_search source b lines others s u
+
 pub one_underivable : (source : WalkSource_data) (bound : ℕ) (fault : SearchFault) (lines others : List ℕ) → TellsUnderivable source bound fault lines → TellsUnderivable source bound fault others
     → lines ≡ others
 one_underivable source bound (search.NotFound cut) lines others h k = one_not_found source bound cut lines others h k
 one_underivable source bound (search.Forgets node) lines others h k = one_forgets source bound node lines others h k
-one_underivable source bound search.TooLarge lines others h k = h ∙ sym k
+one_underivable source bound search.TooLarge lines others h k = one_too_large source bound lesser_bounds lines others h k
 one_underivable source bound search.NoMemory lines others h k = h ∙ sym k

@@ -1,5 +1,5 @@
 -- Public: what is told of a machine of which no derivation is found.
-use Rattle.std.specs.Prelude.{◌≡◌, ◌≢◌, ℕ, List, [], ◌++◌, codes, Bool, true, false, not, ◌&&◌, ◌||◌, slice_get, Option, Some, None}
+use Rattle.std.specs.Prelude.{◌≡◌, ◌≢◌, ◌<◌, ◌≤◌, ℕ, List, [], ◌∷◌, ◌++◌, codes, Bool, true, false, not, ◌&&◌, ◌||◌, slice_get, Option, Some, None}
 use Rattle.std.specs.Fmt.{decimal}
 use Rattle.rs_derive.specs.Data.{Derivation_data}
 use Rattle.rs_explain.specs.Explanations.{Explanation_data, IsExplanation}
@@ -12,8 +12,8 @@ use Rattle.rs_explain.specs.declared.explaining.Ending.TheVariants.{Blocked, Cut
 use Rattle.rs_model.specs.Data.{Names_data}
 use Rattle.rs_model.specs.declared.machines.Act.{Act}
 use Rattle.rs_model.specs.declared.machines.Act.TheVariants as act
-use Rattle.rs_model.specs.declared.limits.TheConstants.{MOST_BOUND}
-use Rattle.rs_search.specs.Candidates.{start_spot}
+use Rattle.rs_model.specs.declared.limits.TheConstants.{MOST_BOUND, MOST_CANDIDATES}
+use Rattle.rs_search.specs.Candidates.{AreMoreThan, start_spot}
 use Rattle.rs_safety.specs.Room.{longest}
 use Rattle.rs_search.specs.Canonical.{IsCanonical, IsForgets, SearchRefuses}
 use Rattle.rs_search.specs.declared.faults.SearchFault.{SearchFault}
@@ -116,9 +116,55 @@ pub record TellsForgets (source : WalkSource_data) (bound node : ℕ) (lines : L
   pub is_forgetting : IsForgetting source.machine source.projection.machine bound node forgetting
   pub text : lines ≡ round_text source forgetting ++ hopeless_line
 
--- what is told, by the reason; of too many candidates nothing more
+-- the lesser bounds within which is searched where there are too many candidates, the greatest first
+abbrev pub lesser_bounds : List ℕ
+lesser_bounds = 8 ∷ 4 ∷ 2 ∷ 1 ∷ []
+
+-- `with --bound 8 P isn't accepted either`, a line
+abbrev pub refused_line : WalkSource_data → ℕ → List ℕ
+refused_line source bound = with_bound_line bound (name_at source.names.roles source.machine.role.0 ++ codes " isn't accepted either")
+
+-- `with --bound 8 P is accepted`, a line
+abbrev pub accepted_line : WalkSource_data → ℕ → List ℕ
+accepted_line source bound = with_bound_line bound (name_at source.names.roles source.machine.role.0 ++ codes " is accepted")
+
+-- what is told of the reason why a search finds none; nothing of too many candidates
+abbrev pub TellsReason : WalkSource_data → ℕ → SearchFault → Option (List ℕ) → Type 0
+TellsReason source bound (search.NotFound cut) (Some lines) = TellsNotFound source bound cut lines
+TellsReason source bound (search.Forgets node) (Some lines) = TellsForgets source bound node lines
+TellsReason source bound search.TooLarge None = Unit {0}
+TellsReason source bound _ _ = ⊥
+
+-- what is told of a search within the bound that there is, where it is accepted or not
+pub data TellsSearch (source : WalkSource_data) (bound : ℕ) (lines : List ℕ) : Type 0 where
+  -- it finds a derivation
+  Accepts : (d : Derivation_data) → IsCanonical source.machine source.projection.machine bound d → lines ≡ accepted_line source bound → TellsSearch source bound lines
+  -- it finds none, and the reason is told
+  Refuses : (fault : SearchFault) → SearchRefuses source.machine source.projection.machine bound fault → (reason : List ℕ)
+      → TellsReason source bound fault (Some reason) → lines ≡ refused_line source bound ++ reason → TellsSearch source bound lines
+
+-- the same, and nothing where there are too many candidates
+abbrev pub TellsWithin : WalkSource_data → ℕ → Option (List ℕ) → Type 0
+TellsWithin source bound None = AreMoreThan source.machine source.projection.machine bound MOST_CANDIDATES
+TellsWithin source bound (Some lines) = TellsSearch source bound lines
+
+-- a lesser bound, and what is told of the later ones
+pub data TellsLesser (source : WalkSource_data) (bound lesser : ℕ) (Later : List ℕ → Type 0) (lines : List ℕ) : Type 0 where
+  -- it isn't less
+  IsNoLess : bound ≤ lesser → Later lines → TellsLesser source bound lesser Later lines
+  -- there are too many candidates within it, too
+  IsTooLarge : lesser < bound → TellsWithin source lesser None → Later lines → TellsLesser source bound lesser Later lines
+  -- a search within it is told
+  Finds : lesser < bound → TellsWithin source lesser (Some lines) → TellsLesser source bound lesser Later lines
+
+-- what is told of the first of these bounds that is less and within which there aren't too many candidates
+abbrev pub TellsTooLarge : WalkSource_data → ℕ → List ℕ → List ℕ → Type 0
+TellsTooLarge source bound [] lines = lines ≡ []
+TellsTooLarge source bound (b ∷ later) lines = TellsLesser source bound b (TellsTooLarge source bound later) lines
+
+-- what is told, by the reason; of too many candidates, what a search within a lesser bound finds
 abbrev pub TellsUnderivable : WalkSource_data → ℕ → SearchFault → List ℕ → Type 0
 TellsUnderivable source bound (search.NotFound cut) lines = TellsNotFound source bound cut lines
 TellsUnderivable source bound (search.Forgets node) lines = TellsForgets source bound node lines
-TellsUnderivable source bound search.TooLarge lines = lines ≡ []
+TellsUnderivable source bound search.TooLarge lines = TellsTooLarge source bound lesser_bounds lines
 TellsUnderivable source bound search.NoMemory lines = lines ≡ []

@@ -7,6 +7,7 @@ mod at;
 mod explaining;
 mod faults;
 pub mod laws;
+mod lesser;
 mod underivable;
 mod unprojectable;
 mod uses;

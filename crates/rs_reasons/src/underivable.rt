@@ -11,6 +11,7 @@ ghost use Rattle.rs_text.specs.NamePlaces.{name_at};
 ghost use Rattle.rs_walk_texts.specs.Stops.{stop_text};
 ghost use Rattle.rs_reasons.specs.Underivable as spec;
 
+use crate::lesser::too_large_text;
 use rs_derive::Derivation;
 use rs_explain::{
     Ending, Explanation, Forgetting, WalkStep, explain, explain_cut, explain_forgets,
@@ -96,7 +97,7 @@ fn push_with_bound(text: &mut Text, bound: u8) -> Result<(), NoMemory>
 }
 
 // That the role's machine is accepted with this bound, a line.
-fn push_accepted(text: &mut Text, source: &WalkSource, bound: u8) -> Result<(), NoMemory>
+pub(crate) fn push_accepted(text: &mut Text, source: &WalkSource, bound: u8) -> Result<(), NoMemory>
     ensures { OnOk result (text.new ≡ text.old ++ spec.with_bound_line bound (name_at source.now.names.roles source.now.machine.role.0 ++ codes " is accepted")) }
 {
     push_with_bound(text, bound)?;
@@ -105,11 +106,11 @@ fn push_accepted(text: &mut Text, source: &WalkSource, bound: u8) -> Result<(), 
     text.push(b"\n")
 }
 
-// That the role's machine isn't accepted with the greatest bound either, a line.
-fn push_refused(text: &mut Text, source: &WalkSource) -> Result<(), NoMemory>
-    ensures { OnOk result (text.new ≡ text.old ++ spec.refusing_line source.now (SearchFault.NotFound true)) }
+// That the role's machine isn't accepted with that bound either, a line.
+pub(crate) fn push_refused(text: &mut Text, source: &WalkSource, bound: u8) -> Result<(), NoMemory>
+    ensures { OnOk result (text.new ≡ text.old ++ spec.refused_line source.now bound) }
 {
-    push_with_bound(text, MOST_BOUND as u8)?;
+    push_with_bound(text, bound)?;
     push_own_name(text, source)?;
     text.push(b" isn't accepted either")?;
     text.push(b"\n")
@@ -130,7 +131,7 @@ fn push_refusing(text: &mut Text, source: &WalkSource, fault: SearchFault) -> Re
 {
     match fault {
         SearchFault::NotFound { cut: false } => text.push(b"no bound helps\n"),
-        SearchFault::NotFound { cut: true } => push_refused(text, source),
+        SearchFault::NotFound { cut: true } => push_refused(text, source, MOST_BOUND as u8),
         SearchFault::TooLarge => push_too_large(text, source),
         SearchFault::Forgets { .. } | SearchFault::NoMemory => Ok(()),
     }
@@ -338,7 +339,7 @@ fn with_greatest_text(
 }
 
 // What is told where the search finds none within the bound.
-fn not_found_text(
+pub(crate) fn not_found_text(
     alloc: Global,
     source: &WalkSource,
     bound: u8,
@@ -425,7 +426,12 @@ fn round_text(alloc: Global, source: &WalkSource, forgetting: &Forgetting) -> Re
 }
 
 // What is told where the derivation that the search finds forgets an act.
-fn forgets_text(alloc: Global, source: &WalkSource, bound: u8, node: u32) -> Result<Text, NoMemory>
+pub(crate) fn forgets_text(
+    alloc: Global,
+    source: &WalkSource,
+    bound: u8,
+    node: u32,
+) -> Result<Text, NoMemory>
     requires ours { IsProper source.now.machine }
     requires theirs { IsProper source.now.projection.machine }
     requires refused { IsForgets source.now.machine source.now.projection.machine bound node }
@@ -453,7 +459,7 @@ pub fn underivable_text(
     match fault {
         SearchFault::NotFound { cut } => not_found_text(alloc, source, bound, cut),
         SearchFault::Forgets { node } => forgets_text(alloc, source, bound, node),
-        SearchFault::TooLarge => Ok(Text::new(alloc)),
+        SearchFault::TooLarge => too_large_text(alloc, source, bound),
         SearchFault::NoMemory => Err(NoMemory),
     }
 }
