@@ -9,6 +9,8 @@ from ._answers import Refused, RumpsteakError, refusal
 from ._library import CALLS, FINE, KINDS, NAT, UNKNOWN, Handle, names_of, number_at
 from ._states import Sendable, State, kind_of, state_at
 
+_NUMBERS = range(-(2**63), 2**63)
+
 _REASONS = {
     22: "unknown name",
     32: "another peer",
@@ -18,6 +20,16 @@ _REASONS = {
     36: "another sort",
     37: "has ended",
 }
+
+
+def _own_kind(value: Sendable) -> int:
+    """The kind of a value that the program's own queue carries: nothing converts it on its way, as a session does."""
+    if isinstance(value, str):
+        raise TypeError("a queue of your own carries the str itself: where bytes are wanted, encode it")
+    if value is not None and not isinstance(value, (int, bytes, bytearray, memoryview)):
+        if not isinstance(value, (list, tuple)) or not all(type(each) is int and each in _NUMBERS for each in value):
+            raise TypeError("a message has no value, or a bool, an int, bytes, or a list of ints from -2**63 to 2**63 - 1")
+    return kind_of(value)
 
 
 class Departure(RumpsteakError):
@@ -82,7 +94,8 @@ class Monitor:
         return self._judge("may_send", peer, label, value) == FINE
 
     def sent(self, peer: str, label: str, value: Sendable = None) -> None:
-        """Lets a send through: call it before the message goes into the queue."""
+        """Lets a send through: call it before the message goes into the queue. The value is what the queue will carry: bytes and no str,
+        and a list of ints alone. Of another type it raises TypeError."""
         self._must("sent", peer, label, value)
 
     def received(self, peer: str, label: str, value: Sendable = None) -> None:
@@ -104,7 +117,7 @@ class Monitor:
         CALLS["monitor_close"](byref(self._handle))
 
     def _judge(self, call: str, peer: str, label: str, value: Sendable) -> int:
-        role, number, kind = self._role_numbers.get(peer), self._label_numbers.get(label), kind_of(value)
+        role, number, kind = self._role_numbers.get(peer), self._label_numbers.get(label), _own_kind(value)
         if role is None or number is None:
             return UNKNOWN
         with self._lock:
@@ -118,4 +131,5 @@ class Monitor:
             sort, state = KINDS[kind_of(value)], self.state
             act = "%s(%s)" % (label, "" if sort == "unit" else sort)
             act = "send %s to %s" % (act, peer) if call == "sent" else "receive %s from %s" % (act, peer)
-            raise Departure(_REASONS[status], state, "%s can't %s now: its state is %s" % (self.role, act, state))
+            now = ": the text has no such role or label;" if status == UNKNOWN else " now:"
+            raise Departure(_REASONS[status], state, "%s can't %s%s its state is %s" % (self.role, act, now, state))

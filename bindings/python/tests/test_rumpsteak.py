@@ -246,6 +246,19 @@ class Monitors(unittest.TestCase):
         audience.received("Screen", "over")
         self.assertEqual(reason(audience.received, "Screen", "over"), "has ended")
 
+    def test_a_monitor_takes_the_values_that_a_queue_carries(self):
+        both = "roles A, B protocol rec X. A->B{some(bytes). X, all(list). X, none(). end}"
+        a = Monitor(both, "A")
+        for value in ("text", 1.5, {"a": 1}, ["s"], [1, 2**70], [True], object()):
+            with self.assertRaises(TypeError):
+                a.sent("B", "all", value)
+        a.sent("B", "some", b"text")
+        a.sent("B", "all", [1, -(2**63)])
+        with self.assertRaises(Departure) as caught:
+            a.sent("B", "sum", b"")
+        self.assertEqual(str(caught.exception), "A can't send sum(bytes) to B: the text has no such role or label; its state is " + str(a.state))
+        self.assertEqual(a.acts, 2)
+
     def test_a_text_with_derivations_is_opened_by_them(self):
         with self.assertRaises(Refused) as caught:
             Monitor(AHEAD, "A")

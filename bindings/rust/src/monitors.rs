@@ -115,6 +115,9 @@ impl Monitor {
 
     /// Lets a send through: call it before the message goes into the queue. After an error nothing has changed, and the program
     /// has to keep the message back.
+    ///
+    /// The value is what the queue will carry, so it must be of the sort itself: where a `nat` is wanted, a [`Value::Nat`]. (An
+    /// [`Endpoint`](crate::Endpoint) also takes a [`Value::Int`] there, and sends it as a `nat`.)
     pub fn sent(&mut self, peer: impl AsRole, label: impl AsLabel, value: &Value) -> Result<(), Departure> {
         self.judge(raw::rumpsteak_monitor_sent, "send", &peer, &label, value)
     }
@@ -131,12 +134,7 @@ impl Monitor {
             (Some(peer), Some(label)) => {
                 let natural = if let Value::Nat(number) = value { *number } else { 0 };
                 // SAFETY: the handle is open and ours alone.
-                let mut status = unsafe { call(&mut self.raw, peer, label, value.kind(), natural) };
-                if let (raw::ANOTHER_SORT, Some(natural)) = (status, value.as_natural()) {
-                    // SAFETY: as above.
-                    status = unsafe { call(&mut self.raw, peer, label, raw::NAT, natural) };
-                }
-                status
+                unsafe { call(&mut self.raw, peer, label, value.kind(), natural) }
             }
             _ => raw::UNKNOWN,
         };
@@ -160,7 +158,11 @@ impl Monitor {
         };
         let table = NameTable(&self.names);
         let way = if verb == "send" { "to" } else { "from" };
-        let act = format!("{verb} {}({}) {way} {}", label.told(&table), value.sort(), peer.told(&table));
+        let sort = match value {
+            Value::Nat(number) if *number > u64::MAX >> 1 => "2^63 or more".to_owned(),
+            value => value.sort().to_string(),
+        };
+        let act = format!("{verb} {}({sort}) {way} {}", label.told(&table), peer.told(&table));
         Departure { reason, role: self.role.clone(), act, state: self.state().to_string() }
     }
 }
@@ -236,7 +238,10 @@ impl Departure {
 
 impl fmt::Display for Departure {
     fn fmt(&self, f: &mut fmt::Formatter<'_>) -> fmt::Result {
-        write!(f, "{} can't {} now: its state is {}", self.role, self.act, self.state)
+        match self.reason {
+            Reason::UnknownName => write!(f, "{} can't {}: {}; its state is {}", self.role, self.act, self.reason, self.state),
+            _ => write!(f, "{} can't {} now: its state is {}", self.role, self.act, self.state),
+        }
     }
 }
 

@@ -35,8 +35,19 @@ fn a_refusal_gives_the_first_reason_and_changes_nothing() {
     screen.sent("Camera", "ready", &Value::Unit).unwrap();
     assert_eq!(screen.sent("Camera", "ready", &Value::Unit).unwrap_err().reason(), Reason::StateReceives);
     assert_eq!(screen.received("Camera", "frame", &Value::Nat(u64::MAX)).unwrap_err().reason(), Reason::AnotherSort);
-    screen.received("Camera", "frame", &Value::Int(1)).unwrap();
+    assert_eq!(screen.received("Camera", "frame", &Value::Int(1)).unwrap_err().reason(), Reason::AnotherSort);
+    screen.received("Camera", "frame", &Value::Nat(1)).unwrap();
     assert_eq!(screen.acts(), 2);
+}
+
+#[test]
+fn a_refusal_says_what_is_wrong() {
+    let mut screen = Monitor::open(FILM, "Screen").unwrap();
+    let unknown = screen.sent("Camera", "redy", &Value::Unit).unwrap_err();
+    assert_eq!(unknown.to_string(), "Screen can't send redy() to Camera: the text has no such role or label; its state is Camera!{ready()}");
+    screen.sent("Camera", "ready", &Value::Unit).unwrap();
+    let large = screen.received("Camera", "frame", &Value::Nat(u64::MAX)).unwrap_err();
+    assert_eq!(large.to_string(), "Screen can't receive frame(2^63 or more) from Camera now: its state is Camera?{frame(nat), over()}");
 }
 
 #[test]
