@@ -28,17 +28,17 @@ use Rattle.rs_search.proofs.Same.{not_spot, spot_is}
 use Rattle.rs_search.proofs.Staying.{stays_within}
 use Rattle.rs_search.proofs.Surviving.{derived_survives}
 use Rattle.rs_search.proofs.Verdicts.{candidate_short, dies, from_candidate, more_than, survives, to_candidate}
-use Rattle.rs_search.specs.Candidates.{AreMoreThan, IsCandidate, MeetsACut, MoveWithin, Start, start_spot}
+use Rattle.rs_search.specs.Candidates.{AreMoreThan, IsCandidate, MoveWithin, Start, start_spot}
 use Rattle.rs_search.specs.Canonical.{IsCanonical, IsNotFound}
 use Rattle.rs_search.specs.Survives.{StandTogether, Survives}
 use Rattle.rs_search.specs.Turns.{is_any, no_turn, nexts_within, owes_more, turn_of, turn_with_cut, turn_within}
 use Rattle.rs_explain.proofs.Blocking.{no_move, one_obstacle, some_obstacle}
 use Rattle.rs_explain.proofs.Dying.{dies_within, dying_dead, dying_leads, dying_lost, one_dying, some_dying}
-use Rattle.rs_explain.proofs.Firsts.{Decides, cut_dead, cut_or_not, end_candidate, first_lost, one_lost}
+use Rattle.rs_explain.proofs.Firsts.{Decides, end_candidate, first_cut_walk}
 use Rattle.rs_explain.proofs.Ways.{step}
 use Rattle.rs_explain.specs.Explanations.{AGreaterBoundHelps, EndsBy, Explanation_data, IsExplanation}
 use Rattle.rs_explain.specs.Obstacles.{HasNoMove}
-use Rattle.rs_explain.specs.Walks.{Dies, DiesWithin, IsDeadEnd, IsDyingWalk, IsFirstCutWalk, IsForced, IsLostWalk, LeadsBy, WalkStep_data, end_of}
+use Rattle.rs_explain.specs.Walks.{Dies, DiesWithin, IsCutWalk, IsDeadEnd, IsDyingWalk, IsFirstCutWalk, IsForced, IsHelped, LeadsBy, WalkStep_data, end_of}
 use Rattle.rs_explain.specs.declared.explaining.Ending.{Ending}
 use Rattle.rs_explain.specs.declared.explaining.Ending.TheVariants as ending
 use Rattle.rs_explain.specs.declared.obstacles.Obstacle.{Obstacle}
@@ -139,9 +139,9 @@ gone_die sub above bound r i n x o f =
     let g = r.gone.gone i n o in
     dies sub above bound r.found (graph sub above bound r) r.current r.order (graph_pictures sub above bound r.found r.rows r.discovery) r.gone n x f (let q = g.1 in omega arith)
 
-lost_on : (sub above : Machine_data) (bound : ℕ) (Ends : Spot → Type 0) (p : Spot) (place : ℕ) (q : Spot) (later : List WalkStep_data) → Dies sub above bound p → LeadsBy sub above bound p place q
-    → IsLostWalk sub above bound Ends q later → IsLostWalk sub above bound Ends p (step place q ∷ later)
-lost_on sub above bound Ends p place q later d e l = record { walk = (e, l.walk); dies = (d, l.dies); ends = l.ends }
+helped_on : (sub above : Machine_data) (bound greater : ℕ) (p : Spot) (place : ℕ) (q : Spot) (later : List WalkStep_data) → IsHelped sub above bound greater p → LeadsBy sub above bound p place q
+    → IsCutWalk sub above bound greater q later → IsCutWalk sub above bound greater p (step place q ∷ later)
+helped_on sub above bound greater p place q later h e l = record { walk = (e, l.walk); helped = (h, l.helped); ends = l.ends }
 
 -- a result of the move at that place, which was removed before
 pub soon : (sub above : Machine_data) (bound : ℕ) (found : List Spot) (outs : List (List (List ℕ))) (current order : List ℕ) → Pictures (moves_at sub above bound) found outs
@@ -215,13 +215,13 @@ uncut_within sub above bound p makes rs e m =
 -- from each spot that is removed, and survives within a greater bound, a walk leads to a cut
 cut_way : (sub above : Machine_data) (bound greater : ℕ) (r : Removed sub above bound) (set : List Spot) → StandTogether sub above greater set
     → (most i n : ℕ) (x : Spot) → i < most → slice_get r.order i ≡ Some n → slice_get r.found n ≡ Some x → Among set x
-    → (steps : List WalkStep_data) × IsLostWalk sub above bound (MeetsACut sub above bound) x steps
+    → (steps : List WalkStep_data) × IsCutWalk sub above bound greater x steps
 cut_way sub above bound greater r set st zero i n x lt o f h = let bad : ⊥ = omega arith in absurd bad
 cut_way sub above bound greater r set st (suc most) i n x lt o f h =
-    let d = gone_die sub above bound r i n x o f in
+    let d : IsHelped sub above bound greater x = record { dies = gone_die sub above bound r i n x o f; survives = record { set = set; stand = st; among = h } } in
     let c = to_candidate sub above bound x (r.discovery.reached n x f) in
     elim (bool_cases (turn_within sub above bound x).cut) [
-      | inl y ↦ ([], record { walk = tt; dies = d; ends = to_cut sub above bound x (candidate_short sub above bound x c) y })
+      | inl y ↦ ([], record { walk = tt; helped = d; ends = to_cut sub above bound x (candidate_short sub above bound x c) y })
       | inr k ↦ (
           let s = st.each x h in
           let m = uncut_within sub above bound x s.move.makes s.results k s.move.move in
@@ -229,24 +229,22 @@ cut_way sub above bound greater r set st (suc most) i n x lt o f h =
           let b = before sub above bound r i n p.0 x s.results o f p.1 in
           let e = b.early in
           let on = cut_way sub above bound greater r set st most b.index b.number b.spot (omega arith) b.stands b.spot_is (s.all b.spot b.among) in
-          (step b.place b.spot ∷ on.0, lost_on sub above bound (MeetsACut sub above bound) x b.place b.spot on.0 d b.leads on.1))
+          (step b.place b.spot ∷ on.0, helped_on sub above bound greater x b.place b.spot on.0 d b.leads on.1))
     ]
 
 -- where the start survives within a greater bound only, there is a first walk to a cut
-pub cut_from_start : (sub above : Machine_data) (bound : ℕ) (cut : Bool) → IsNotFound sub above bound cut → AGreaterBoundHelps sub above bound
-    → (steps : List WalkStep_data) × IsFirstCutWalk sub above bound (start_spot sub above) steps
-cut_from_start sub above bound cut nf g =
+pub cut_from_start : (sub above : Machine_data) (bound greater : ℕ) (cut : Bool) → IsNotFound sub above bound cut → AGreaterBoundHelps sub above bound greater
+    → (steps : List WalkStep_data) × IsFirstCutWalk sub above bound greater (start_spot sub above) steps
+cut_from_start sub above bound greater cut nf g =
     let r = removed sub above bound nf.bounded in
+    let w = removed sub above greater g.bounded in
     let i = start_gone sub above bound r nf.dies in
-    let l = cut_way sub above bound g.greater r g.survives.set g.survives.stand (suc i.0) i.0 0 (start_spot sub above) (omega arith) i.1 r.discovery.first g.survives.among in
-    first_lost sub above bound (MeetsACut sub above bound) (decides sub above bound r) (cut_or_not sub above bound) (cut_dead sub above bound) (start_spot sub above) Start l.0 l.1
-
-pub one_cut_walk : (sub above : Machine_data) (bound : ℕ) (a b : List WalkStep_data) → IsFirstCutWalk sub above bound (start_spot sub above) a → IsFirstCutWalk sub above bound (start_spot sub above) b → a ≡ b
-one_cut_walk sub above bound a b f g = one_lost sub above bound (MeetsACut sub above bound) (start_spot sub above) a b f g
+    let l = cut_way sub above bound greater r g.survives.set g.survives.stand (suc i.0) i.0 0 (start_spot sub above) (omega arith) i.1 r.discovery.first g.survives.among in
+    first_cut_walk sub above bound greater g.more (decides sub above bound r) (decides sub above greater w) (start_spot sub above) Start l.0 l.1
 
 -- a canonical derivation within a greater bound tells that it helps
-pub canonical_helps : (sub above : Machine_data) (bound greater : ℕ) (d : Derivation_data) → bound ≤ greater → IsCanonical sub above greater d → AGreaterBoundHelps sub above bound
-canonical_helps sub above bound greater d le c = record { greater = greater; more = le; survives = starts_survive sub above greater d c.canonical }
+pub canonical_helps : (sub above : Machine_data) (bound greater : ℕ) (d : Derivation_data) → bound ≤ greater → IsCanonical sub above greater d → AGreaterBoundHelps sub above bound greater
+canonical_helps sub above bound greater d le c = record { more = le; bounded = c.bounded; survives = starts_survive sub above greater d c.canonical }
 
 -- why a walk ends at a dead end
 

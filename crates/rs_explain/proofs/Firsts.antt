@@ -1,6 +1,7 @@
--- Walks through spots that don't survive: where there is one there is a first one, and one only.
-use Rattle.std.proofs.Common.{◌≡◌, ◌⊎◌, inl, inr, ℕ, Bool, true, false, List, [], ◌∷◌, length, map, slice_get, Option, Some, None, refl, sym, ◌∙◌, arith, if◌then◌else◌}
+-- Walks to a cut, through spots that a greater bound helps: where there is one there is a first one, and one only.
+use Rattle.std.proofs.Common.{◌≡◌, ◌⊎◌, inl, inr, ℕ, ◌≤◌, zero, suc, subst, Bool, true, false, List, [], ◌∷◌, length, map, slice_get, Option, Some, None, refl, sym, ◌∙◌, arith, if◌then◌else◌}
 use Rattle.std.proofs.lemmas.Bool.{false≢true}
+use Rattle.std.proofs.lemmas.Option.{none-some, same_Some}
 use Rattle.rs_model.specs.Data.{Machine_data}
 use Rattle.rs_derive.proofs.Mapped.{map_at}
 use Rattle.rs_derive.specs.Due.{Due, due}
@@ -9,12 +10,14 @@ use Rattle.rs_graph.proofs.Growth.{in_at}
 use Rattle.rs_graph.specs.Graphs.{moves_of}
 use Rattle.rs_graph.specs.Lists.{Among}
 use Rattle.rs_search.proofs.Choices.{bool_cases, from_cut, from_move, moves_at, to_cut, to_move}
+use Rattle.rs_search.proofs.Uncut.{candidate_up}
 use Rattle.rs_search.proofs.Verdicts.{candidate_short}
 use Rattle.rs_search.specs.Candidates.{IsCandidate, MeetsACut, MoveWithin, Onward}
 use Rattle.rs_search.specs.Survives.{Survives}
 use Rattle.rs_search.specs.Turns.{Turn_data, no_turn, nexts_within, owes_more, turn_of, turn_within}
 use Rattle.rs_explain.proofs.Ways.{AreTold, GoBy, IsWay, first_same, first_walk, one_first, seek}
-use Rattle.rs_explain.specs.Walks.{AllDie, Dies, IsDeadEnd, IsFirst, IsLostWalk, IsWalk, LeadsBy, WalkStep_data, end_of}
+use Rattle.rs_explain.specs.Helping.{IsHelpedCut}
+use Rattle.rs_explain.specs.Walks.{AreHelped, Dies, IsCutWalk, IsDeadEnd, IsFirstCutWalk, IsHelped, IsWalk, LeadsBy, WalkStep_data, end_of}
 
 -- moves and steps
 
@@ -53,9 +56,6 @@ dead_has_no_moves sub above bound p e = go (moves_at sub above bound p) (λ rs h
     go [] to = refl
     go (m ∷ ms) to = absurd (e m (to m (inl refl)))
 
-pub dead_dies : (sub above : Machine_data) (bound : ℕ) (p : Spot) → IsDeadEnd sub above bound p → Dies sub above bound p
-dead_dies sub above bound p e s = let k = s.stand.each p s.among in e k.results k.move
-
 pub candidate_on : (sub above : Machine_data) (bound : ℕ) (p : Spot) (place : ℕ) (q : Spot) → IsCandidate sub above bound p → LeadsBy sub above bound p place q → IsCandidate sub above bound q
 candidate_on sub above bound p place q c e = let m = leads_move sub above bound p place q e in Onward p m.0 q c m.1 m.2
 
@@ -86,74 +86,96 @@ cut_or_not sub above bound p c = elim (bool_cases (turn_within sub above bound p
   | inr f ↦ inr (λ k. false≢true (sym f ∙ from_cut sub above bound p k))
 ]
 
--- lost walks
+-- walks to a cut
 
--- a step from a spot that doesn't survive
-abbrev pub LostStep : Machine_data → Machine_data → ℕ → Spot → ℕ → Spot → Type 0
-LostStep sub above bound p place q = Dies sub above bound p × LeadsBy sub above bound p place q
+-- a step from a spot that the greater bound helps
+abbrev pub HelpedStep : Machine_data → Machine_data → ℕ → ℕ → Spot → ℕ → Spot → Type 0
+HelpedStep sub above bound greater p place q = IsHelped sub above bound greater p × LeadsBy sub above bound p place q
 
--- each of these ends is a dead end
-abbrev pub AreDead : Machine_data → Machine_data → ℕ → (Spot → Type 0) → Type 0
-AreDead sub above bound Ends = (p : Spot) → Ends p → IsDeadEnd sub above bound p
+pub helped_by : (sub above : Machine_data) (bound greater : ℕ) (p : Spot) (place : ℕ) (q : Spot) → HelpedStep sub above bound greater p place q → slice_get (nexts_within sub above bound p) place ≡ Some q
+helped_by sub above bound greater p place q g = g.1
 
-pub lost_by : (sub above : Machine_data) (bound : ℕ) (p : Spot) (place : ℕ) (q : Spot) → LostStep sub above bound p place q → slice_get (nexts_within sub above bound p) place ≡ Some q
-lost_by sub above bound p place q g = g.1
+helped_go : (sub above : Machine_data) (bound greater : ℕ) (p : Spot) (steps : List WalkStep_data) → IsWalk sub above bound p steps → AreHelped sub above bound greater p steps
+    → GoBy (HelpedStep sub above bound greater) p steps
+helped_go sub above bound greater p [] w h = tt
+helped_go sub above bound greater p (s ∷ later) w h = ((h.0, w.0), helped_go sub above bound greater s.spot later w.1 h.1)
 
-lost_go : (sub above : Machine_data) (bound : ℕ) (p : Spot) (steps : List WalkStep_data) → IsWalk sub above bound p steps → AllDie sub above bound p steps → GoBy (LostStep sub above bound) p steps
-lost_go sub above bound p [] w d = tt
-lost_go sub above bound p (s ∷ later) w d = ((d.0, w.0), lost_go sub above bound s.spot later w.1 d.1)
+-- each spot of such a walk is helped, also the last
+pub last_helped : (sub above : Machine_data) (bound greater : ℕ) (p : Spot) (steps : List WalkStep_data) → AreHelped sub above bound greater p steps → IsHelped sub above bound greater (end_of p steps)
+last_helped sub above bound greater p [] h = h
+last_helped sub above bound greater p (s ∷ later) h = last_helped sub above bound greater s.spot later h.1
 
-pub lost_way : (sub above : Machine_data) (bound : ℕ) (Ends : Spot → Type 0) (p : Spot) (steps : List WalkStep_data) → IsLostWalk sub above bound Ends p steps
-    → IsWay (LostStep sub above bound) Ends p steps
-lost_way sub above bound Ends p steps l = record { go = lost_go sub above bound p steps l.walk l.dies; ends = l.ends }
+pub from_cut_walk : (sub above : Machine_data) (bound greater : ℕ) (p : Spot) (steps : List WalkStep_data) → IsCutWalk sub above bound greater p steps
+    → IsWay (HelpedStep sub above bound greater) (IsHelpedCut sub above bound greater) p steps
+from_cut_walk sub above bound greater p steps l = record { go = helped_go sub above bound greater p steps l.walk l.helped; ends = (last_helped sub above bound greater p steps l.helped, l.ends) }
 
-go_walk : (sub above : Machine_data) (bound : ℕ) (p : Spot) (steps : List WalkStep_data) → GoBy (LostStep sub above bound) p steps → IsWalk sub above bound p steps
-go_walk sub above bound p [] g = tt
-go_walk sub above bound p (s ∷ later) g = (g.0.1, go_walk sub above bound s.spot later g.1)
+go_walk : (sub above : Machine_data) (bound greater : ℕ) (p : Spot) (steps : List WalkStep_data) → GoBy (HelpedStep sub above bound greater) p steps → IsWalk sub above bound p steps
+go_walk sub above bound greater p [] g = tt
+go_walk sub above bound greater p (s ∷ later) g = (g.0.1, go_walk sub above bound greater s.spot later g.1)
 
-go_dies : (sub above : Machine_data) (bound : ℕ) (p : Spot) (steps : List WalkStep_data) → GoBy (LostStep sub above bound) p steps → Dies sub above bound (end_of p steps)
-    → AllDie sub above bound p steps
-go_dies sub above bound p [] g d = d
-go_dies sub above bound p (s ∷ later) g d = (g.0.0, go_dies sub above bound s.spot later g.1 d)
+go_helped : (sub above : Machine_data) (bound greater : ℕ) (p : Spot) (steps : List WalkStep_data) → GoBy (HelpedStep sub above bound greater) p steps → IsHelped sub above bound greater (end_of p steps)
+    → AreHelped sub above bound greater p steps
+go_helped sub above bound greater p [] g h = h
+go_helped sub above bound greater p (s ∷ later) g h = (g.0.0, go_helped sub above bound greater s.spot later g.1 h)
 
-pub way_lost : (sub above : Machine_data) (bound : ℕ) (Ends : Spot → Type 0) → AreDead sub above bound Ends → (p : Spot) (steps : List WalkStep_data) → IsWay (LostStep sub above bound) Ends p steps
-    → IsLostWalk sub above bound Ends p steps
-way_lost sub above bound Ends dead p steps w = record {
-  walk = go_walk sub above bound p steps w.go;
-  dies = go_dies sub above bound p steps w.go (dead_dies sub above bound (end_of p steps) (dead (end_of p steps) w.ends));
-  ends = w.ends;
-}
+pub to_cut_walk : (sub above : Machine_data) (bound greater : ℕ) (p : Spot) (steps : List WalkStep_data) → IsWay (HelpedStep sub above bound greater) (IsHelpedCut sub above bound greater) p steps
+    → IsCutWalk sub above bound greater p steps
+to_cut_walk sub above bound greater p steps w = record { walk = go_walk sub above bound greater p steps w.go; helped = go_helped sub above bound greater p steps w.go w.ends.0; ends = w.ends.1 }
 
 -- first walks
 
 abbrev pub Decides : Machine_data → Machine_data → ℕ → Type 0
 Decides sub above bound = (p : Spot) → IsCandidate sub above bound p → Survives sub above bound p ⊎ Dies sub above bound p
 
--- it can be told whether a candidate is one of these ends
-abbrev pub TellsEnds : Machine_data → Machine_data → ℕ → (Spot → Type 0) → Type 0
-TellsEnds sub above bound Ends = (p : Spot) → IsCandidate sub above bound p → Ends p ⊎ (Ends p → ⊥)
+-- the greater bound helps a candidate, or doesn't
+helped_or_not : (sub above : Machine_data) (bound greater : ℕ) → bound ≤ greater → Decides sub above bound → Decides sub above greater → (p : Spot) → IsCandidate sub above bound p
+    → IsHelped sub above bound greater p ⊎ (IsHelped sub above bound greater p → ⊥)
+helped_or_not sub above bound greater le here wide p c = elim (here p c) [
+  | inl alive ↦ inr (λ h. h.dies alive)
+  | inr d ↦ elim (wide p (candidate_up sub above bound greater le p c)) [
+    | inl alive ↦ inl (record { dies = d; survives = alive })
+    | inr gone ↦ inr (λ h. gone h.survives)
+  ]
+]
 
-lost_told : (sub above : Machine_data) (bound : ℕ) (Ends : Spot → Type 0) → Decides sub above bound → TellsEnds sub above bound Ends
-    → AreTold (nexts_within sub above bound) (IsCandidate sub above bound) (LostStep sub above bound) Ends
-lost_told sub above bound Ends dec ended = record {
-  by = lost_by sub above bound;
+helped_told : (sub above : Machine_data) (bound greater : ℕ) → bound ≤ greater → Decides sub above bound → Decides sub above greater
+    → AreTold (nexts_within sub above bound) (IsCandidate sub above bound) (HelpedStep sub above bound greater) (IsHelpedCut sub above bound greater)
+helped_told sub above bound greater le here wide = record {
+  by = helped_by sub above bound greater;
   good = λ p place q c g. candidate_on sub above bound p place q c g.1;
-  tells = λ p place q c e. elim (dec p c) [ inl alive ↦ inr (λ g. g.0 alive) | inr d ↦ inl (d, e) ];
-  ended = ended;
+  tells = λ p place q c e. elim (helped_or_not sub above bound greater le here wide p c) [ inl h ↦ inl (h, e) | inr n ↦ inr (λ g. n g.0) ];
+  ended = λ p c. elim (helped_or_not sub above bound greater le here wide p c) [
+    | inl h ↦ elim (cut_or_not sub above bound p c) [ inl k ↦ inl (h, k) | inr n ↦ inr (λ g. n g.1) ]
+    | inr n ↦ inr (λ g. n g.0)
+  ];
 }
 
-pub first_lost : (sub above : Machine_data) (bound : ℕ) (Ends : Spot → Type 0) → Decides sub above bound → TellsEnds sub above bound Ends → AreDead sub above bound Ends
-    → (p : Spot) → IsCandidate sub above bound p → (steps : List WalkStep_data) → IsLostWalk sub above bound Ends p steps
-    → (first : List WalkStep_data) × IsFirst (IsLostWalk sub above bound Ends p) first
-first_lost sub above bound Ends dec ended dead p c steps l =
-    let told = lost_told sub above bound Ends dec ended in
-    let f = first_walk (IsWay (LostStep sub above bound) Ends p)
-    (λ count. seek (nexts_within sub above bound) (IsCandidate sub above bound) (LostStep sub above bound) Ends told count p c) steps (lost_way sub above bound Ends p steps l) in
-    (f.0, first_same (IsWay (LostStep sub above bound) Ends p) (IsLostWalk sub above bound Ends p) (way_lost sub above bound Ends dead p) (lost_way sub above bound Ends p) f.0 f.1)
+pub first_cut_walk : (sub above : Machine_data) (bound greater : ℕ) → bound ≤ greater → Decides sub above bound → Decides sub above greater
+    → (p : Spot) → IsCandidate sub above bound p → (steps : List WalkStep_data) → IsCutWalk sub above bound greater p steps
+    → (first : List WalkStep_data) × IsFirstCutWalk sub above bound greater p first
+first_cut_walk sub above bound greater le here wide p c steps l =
+    let told = helped_told sub above bound greater le here wide in
+    let f = first_walk (IsWay (HelpedStep sub above bound greater) (IsHelpedCut sub above bound greater) p)
+    (λ count. seek (nexts_within sub above bound) (IsCandidate sub above bound) (HelpedStep sub above bound greater) (IsHelpedCut sub above bound greater) told count p c)
+    steps (from_cut_walk sub above bound greater p steps l) in (
+      f.0,
+      first_same (IsWay (HelpedStep sub above bound greater) (IsHelpedCut sub above bound greater) p) (IsCutWalk sub above bound greater p)
+          (to_cut_walk sub above bound greater p) (from_cut_walk sub above bound greater p) f.0 f.1,
+    )
+
+-- each step leads to a spot that is helped
+pub steps_helped : (sub above : Machine_data) (bound greater : ℕ) (p : Spot) (steps : List WalkStep_data) → AreHelped sub above bound greater p steps → (i : ℕ) (s : WalkStep_data)
+    → slice_get steps i ≡ Some s → IsHelped sub above bound greater s.spot
+steps_helped sub above bound greater p [] h i s e = absurd (none-some s e)
+steps_helped sub above bound greater p (t ∷ later) h zero s e = subst (λ (z : WalkStep_data). IsHelped sub above bound greater z.spot) (same_Some t s e) (first_is t.spot later h.1)
+  where
+    first_is : (q : Spot) (steps : List WalkStep_data) → AreHelped sub above bound greater q steps → IsHelped sub above bound greater q
+    first_is q [] k = k
+    first_is q (u ∷ more) k = k.0
+steps_helped sub above bound greater p (t ∷ later) h (suc i) s e = steps_helped sub above bound greater t.spot later h.1 i s e
 
 -- there is one at most
-pub one_lost : (sub above : Machine_data) (bound : ℕ) (Ends : Spot → Type 0) (p : Spot) (a b : List WalkStep_data) → IsFirst (IsLostWalk sub above bound Ends p) a
-    → IsFirst (IsLostWalk sub above bound Ends p) b → a ≡ b
-one_lost sub above bound Ends p a b =
-    one_first (nexts_within sub above bound) (LostStep sub above bound) (lost_by sub above bound) p (IsLostWalk sub above bound Ends p)
-    (λ w l. (lost_way sub above bound Ends p w l).go) a b
+pub one_cut_walk : (sub above : Machine_data) (bound greater : ℕ) (p : Spot) (a b : List WalkStep_data) → IsFirstCutWalk sub above bound greater p a → IsFirstCutWalk sub above bound greater p b → a ≡ b
+one_cut_walk sub above bound greater p a b =
+    one_first (nexts_within sub above bound) (HelpedStep sub above bound greater) (helped_by sub above bound greater) p (IsCutWalk sub above bound greater p)
+    (λ w l. (from_cut_walk sub above bound greater p w l).go) a b

@@ -19,6 +19,7 @@ use Rattle.rs_search.proofs.Staying.{IsWithin, stays_within}
 use Rattle.rs_search.proofs.Verdicts.{dies, pictures, survives, to_candidate}
 use Rattle.rs_search.specs.Candidates.{IsCandidate, MeetsACut, start_spot}
 use Rattle.rs_search.specs.Found.{AreFoundCandidates}
+use Rattle.rs_search.specs.Survives.{Survives}
 use Rattle.rs_search.specs.Turns.{is_any, nexts_within}
 use Rattle.rs_search.specs.declared.found.Candidates.{Candidates}
 use Rattle.rs_explain.proofs.Blocking.{no_move}
@@ -73,6 +74,19 @@ gone_flagged sub above bound found rows anys g current order gone d ea b rem h =
 
     here : (n : ℕ) (x : Spot) → slice_get found n ≡ Some x → n < length g.outs
     here n x f = let k = at_short found n x f in let s = pic.size in omega arith
+
+-- those that aren't flagged survive
+gone_alive : (sub above : Machine_data) (bound : ℕ) (found : List Spot) (rows : List (List ℕ)) (anys : List Bool) (g : Graph_data) (current order : List ℕ) (gone : List Bool)
+    → IsDiscovery (nexts_within sub above bound) (start_spot sub above) found rows → anys ≡ map (is_any sub above bound) found → IsBuilt anys rows (length rows) g → IsRemoval g.outs current order
+    → AreFlags (λ n. at current n == removal.moves_at g.outs n) (length g.outs) gone → (n : ℕ) (x : Spot) → slice_get found n ≡ Some x → flag_at gone n ≡ false → Survives sub above bound x
+gone_alive sub above bound found rows anys g current order gone d ea b rem h n x f e = elim (cases_lt (at current n) (removal.moves_at g.outs n)) [
+  | inl lt ↦ survives sub above bound found rows g current order d pic rem n x f lt
+  | inr le ↦ (let w = rem.within n in
+      absurd (false≢true (sym e ∙ h.each n (let k = at_short found n x f in let s = pic.size in omega arith) ∙ eq-eqb (at current n) (removal.moves_at g.outs n) (omega arith))))
+]
+  where
+    pic : Pictures (moves_at sub above bound) found g.outs
+    pic = pictures sub above bound found rows anys g d ea b
 
 -- the nodes without moves are those of the dead ends
 moveless_dead : (sub above : Machine_data) (bound : ℕ) (found : List Spot) (rows : List (List ℕ)) (anys : List Bool) (g : Graph_data)
@@ -151,6 +165,8 @@ lost_is sub above bound found anys rows g current current' order gone f ea er ec
     record {
       built = b';
       dead = gone_flagged sub above bound found.table.spots found.table.rows found.anys.items g current order gone f.discovery f.noted.anys b'
+          (subst (λ (z : List ℕ). IsRemoval g.outs z order) (sym ec) rem) h;
+      alive = gone_alive sub above bound found.table.spots found.table.rows found.anys.items g current order gone f.discovery f.noted.anys b'
           (subst (λ (z : List ℕ). IsRemoval g.outs z order) (sym ec) rem) h;
     }
 

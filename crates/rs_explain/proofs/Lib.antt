@@ -15,3 +15,4 @@ pub mod Oldest
 pub mod Small
 pub mod Spreading
 pub mod Ways
+pub mod Mending

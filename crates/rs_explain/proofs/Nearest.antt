@@ -1,4 +1,4 @@
--- The graph of the candidates that don't survive charts the lost walks: steps that go nearer make the first of these.
+-- The graph of the candidates that a greater bound helps charts the walks to a cut: steps that go nearer make the first of these.
 use Rattle.std.proofs.Common.{◌≡◌, inl, inr, ℕ, ◌<◌, ◌≤◌, ◌+◌, ◌*◌, zero, suc, Bool, true, false, List, [], ◌∷◌, length, get_or, slice_get, Option, Some, refl, sym, ap, subst, ◌∙◌, arith}
 use Rattle.std.proofs.lemmas.Bool.{cases_lt}
 use Rattle.std.proofs.lemmas.List.Sums.{sum_by-cons}
@@ -27,14 +27,15 @@ use Rattle.rs_explain.proofs.Charts.{nearest, way_far}
 use Rattle.rs_explain.proofs.Dying.{dying_dead, dying_leads}
 use Rattle.rs_explain.specs.Deaths.{IsDyingWay}
 use Rattle.rs_explain.proofs.Existing.{place_named, row_from, uncut_within}
-use Rattle.rs_explain.proofs.Firsts.{AreDead, LostStep, dead_dies, end_candidate, lost_by, lost_way, way_lost}
+use Rattle.rs_explain.proofs.Firsts.{HelpedStep, end_candidate, from_cut_walk, helped_by, to_cut_walk}
 use Rattle.rs_explain.proofs.Spreading.{edges_few, flag_within}
 use Rattle.rs_explain.proofs.Ways.{IsWay, first_same}
 use Rattle.rs_explain.specs.Distances.{AreDistances, far_at, flag_at}
 use Rattle.rs_explain.specs.Explanations.{EndsBy, IsExplanation}
 use Rattle.rs_explain.specs.ObstacleAt.{obstacle_at}
-use Rattle.rs_explain.specs.OnWay.{AreCharted, AreFlagged, GoNearer, IsLostGraph, IsWholeWay, ending_at, ending_by}
-use Rattle.rs_explain.specs.Walks.{Dies, IsDeadEnd, IsFirst, IsLostWalk, LeadsBy, WalkStep_data, end_of}
+use Rattle.rs_explain.specs.Helping.{IsHelpedCut}
+use Rattle.rs_explain.specs.OnWay.{AreCharted, AreFlagged, GoNearer, IsLostGraph, ending_at, ending_by}
+use Rattle.rs_explain.specs.Walks.{IsCutWalk, IsDeadEnd, IsFirst, IsFirstCutWalk, IsHelped, LeadsBy, WalkStep_data, end_of}
 use Rattle.rs_explain.specs.declared.explaining.Ending.{Ending}
 use Rattle.rs_explain.specs.declared.obstacles.Obstacle.{Obstacle}
 
@@ -57,17 +58,17 @@ row_of : (sub above : Machine_data) (bound : ℕ) (found : List Spot) (rows : Li
     → slice_get found n ≡ Some x → (row : List ℕ) × (slice_get rows n ≡ Some row)
 row_of sub above bound found rows d n x f = at_within rows n (let k = at_short found n x f in let s = d.all in omega arith)
 
-pub charted : (sub above : Machine_data) (bound : ℕ) (Ends : Spot → Type 0) (found : List Spot) (rows : List (List ℕ)) (anys gone ends : List Bool) (g : Graph_data) (far : List (Option ℕ))
+pub charted : (sub above : Machine_data) (bound greater : ℕ) (Ends : Spot → Type 0) (found : List Spot) (rows : List (List ℕ)) (anys inside ends : List Bool) (g : Graph_data) (far : List (Option ℕ))
     → IsDiscovery (nexts_within sub above bound) (start_spot sub above) found rows → IsBuilt anys rows (length rows) g
-    → AreFlagged (Dies sub above bound) found gone → AreFlagged Ends found ends → AreDistances g.outs gone ends far
-    → AreCharted (LostStep sub above bound) Ends found (λ n. 0) rows far
-charted sub above bound Ends found rows anys gone ends g far d b fg fe dist = record {
+    → AreFlagged (IsHelped sub above bound greater) found inside → AreFlagged Ends found ends → AreDistances g.outs inside ends far
+    → AreCharted (HelpedStep sub above bound greater) Ends found (λ n. 0) rows far
+charted sub above bound greater Ends found rows anys inside ends g far d b fg fe dist = record {
   downhill = record {
     rows_size = d.all;
     size = dist.steps.size ∙ b.size ∙ d.all;
     within = λ n r m. (let k = rows_within (nexts_within sub above bound) (start_spot sub above) found rows d n r m in let a = d.all in omega arith);
     tight = λ n e h. (let t = dist.steps.tight n e h in
-        (t.1, row_from (get_or anys n false) (get_or rows n []) t.0 t.1 (subst (λ (z : List (List ℕ)). Among (get_or z t.0 []) t.1) (outs_row n (inside n (suc e) h)) t.2), t.3));
+        (t.1, row_from (get_or anys n false) (get_or rows n []) t.0 t.1 (subst (λ (z : List (List ℕ)). Among (get_or z t.0 []) t.1) (outs_row n (below n (suc e) h)) t.2), t.3));
   };
   goes = λ n i r e x y f h a fy. (
       let row = row_of sub above bound found rows d n x f in
@@ -87,8 +88,8 @@ charted sub above bound Ends found rows anys gone ends g far d b fg fe dist = re
       dist.told r n m.0 e (fg.all n x f s.0) (subst (λ (z : List (List ℕ)). Among (get_or z m.0 []) r) (sym (outs_row n (omega arith))) m.1) h);
 }
   where
-    inside : (n e : ℕ) → far_at far n ≡ Some e → n < length rows
-    inside n e h = let k = flag_within gone n (dist.steps.lie n e h) in let s = fg.size in let a = d.all in omega arith
+    below : (n e : ℕ) → far_at far n ≡ Some e → n < length rows
+    below n e h = let k = flag_within inside n (dist.steps.lie n e h) in let s = fg.size in let a = d.all in omega arith
 
     outs_row : (n : ℕ) → n < length rows → get_or g.outs n [] ≡ moves_of (get_or anys n false) (get_or rows n [])
     outs_row n lt = b.done n lt
@@ -119,24 +120,23 @@ candidate_edges sub above bound found g gone f l few =
 
 -- steps that go nearer
 
--- such steps make a whole way
-pub whole_way : (sub above : Machine_data) (bound : ℕ) (Ends : Spot → Type 0) → AreDead sub above bound Ends → (found : List Spot) (rows : List (List ℕ)) (far : List (Option ℕ))
-    → AreCharted (LostStep sub above bound) Ends found (λ n. 0) rows far → slice_get found 0 ≡ Some (start_spot sub above) → (steps : List WalkStep_data) (last : ℕ)
-    → GoNearer found (λ n. 0) rows far 0 steps last → IsWholeWay sub above bound Ends found steps last
-whole_way sub above bound Ends dead found rows far c f steps last g =
-    let k = nearest (nexts_within sub above bound) (LostStep sub above bound) Ends (lost_by sub above bound) found (λ n. 0) rows far c steps 0 last (start_spot sub above) f g in
-    record {
-      first = first_same (IsWay (LostStep sub above bound) Ends (start_spot sub above)) (IsLostWalk sub above bound Ends (start_spot sub above))
-          (way_lost sub above bound Ends dead (start_spot sub above)) (lost_way sub above bound Ends (start_spot sub above)) steps k.first;
-      stands = k.stands;
-    }
+-- such steps make the first walk to a cut
+pub nearest_cut : (sub above : Machine_data) (bound greater : ℕ) (found : List Spot) (rows : List (List ℕ)) (far : List (Option ℕ))
+    → AreCharted (HelpedStep sub above bound greater) (IsHelpedCut sub above bound greater) found (λ n. 0) rows far → slice_get found 0 ≡ Some (start_spot sub above)
+    → (steps : List WalkStep_data) (last : ℕ) → GoNearer found (λ n. 0) rows far 0 steps last → IsFirstCutWalk sub above bound greater (start_spot sub above) steps
+nearest_cut sub above bound greater found rows far c f steps last g =
+    let k = nearest (nexts_within sub above bound) (HelpedStep sub above bound greater) (IsHelpedCut sub above bound greater) (helped_by sub above bound greater) found (λ n. 0) rows far c steps 0 last
+    (start_spot sub above) f g in
+    first_same (IsWay (HelpedStep sub above bound greater) (IsHelpedCut sub above bound greater) (start_spot sub above)) (IsCutWalk sub above bound greater (start_spot sub above))
+    (to_cut_walk sub above bound greater (start_spot sub above)) (from_cut_walk sub above bound greater (start_spot sub above)) steps k.first
 
 -- the start has a distance
-pub start_far : (sub above : Machine_data) (bound : ℕ) (Ends : Spot → Type 0) (found : List Spot) (rows : List (List ℕ)) (far : List (Option ℕ))
-    → AreCharted (LostStep sub above bound) Ends found (λ n. 0) rows far → slice_get found 0 ≡ Some (start_spot sub above) → (steps : List WalkStep_data)
-    → IsFirst (IsLostWalk sub above bound Ends (start_spot sub above)) steps → (d : ℕ) × (far_at far 0 ≡ Some d)
-start_far sub above bound Ends found rows far c f steps w =
-    let k = way_far (LostStep sub above bound) Ends found (λ n. 0) rows far c steps 0 (start_spot sub above) f (lost_way sub above bound Ends (start_spot sub above) steps w.is) in (k.0, k.1)
+pub start_far : (sub above : Machine_data) (bound greater : ℕ) (found : List Spot) (rows : List (List ℕ)) (far : List (Option ℕ))
+    → AreCharted (HelpedStep sub above bound greater) (IsHelpedCut sub above bound greater) found (λ n. 0) rows far → slice_get found 0 ≡ Some (start_spot sub above) → (steps : List WalkStep_data)
+    → IsFirstCutWalk sub above bound greater (start_spot sub above) steps → (d : ℕ) × (far_at far 0 ≡ Some d)
+start_far sub above bound greater found rows far c f steps w =
+    let k = way_far (HelpedStep sub above bound greater) (IsHelpedCut sub above bound greater) found (λ n. 0) rows far c steps 0 (start_spot sub above) f
+    (from_cut_walk sub above bound greater (start_spot sub above) steps w.is) in (k.0, k.1)
 
 -- why it ends
 
@@ -196,18 +196,21 @@ few_places rows n place most row e le lt =
 
 -- the chart of what the code has in hand
 
-pub ends_within : (sub above : Machine_data) (bound : ℕ) (Ends : Spot → Type 0) → AreDead sub above bound Ends → (spots : List Spot) (gone gone' ends ends' : List Bool)
-    → AreFlagged (Dies sub above bound) spots gone → AreFlagged Ends spots ends → gone' ≡ gone → ends' ≡ ends → (n : ℕ) → flag_at ends' n ≡ true → flag_at gone' n ≡ true
-ends_within sub above bound Ends dead spots gone gone' ends ends' fg fe eg ee n h =
+pub ends_within : (sub above : Machine_data) (bound greater : ℕ) (spots : List Spot) (inside inside' ends ends' : List Bool)
+    → AreFlagged (IsHelped sub above bound greater) spots inside → AreFlagged (IsHelpedCut sub above bound greater) spots ends → inside' ≡ inside → ends' ≡ ends
+    → (n : ℕ) → flag_at ends' n ≡ true → flag_at inside' n ≡ true
+ends_within sub above bound greater spots inside inside' ends ends' fg fe eg ee n h =
     let h' : flag_at ends n ≡ true = subst (λ (z : List Bool). flag_at z n ≡ true) ee h in
     let x = at_within spots n (let k = flag_within ends n h' in let s = fe.size in omega arith) in
-    subst (λ (z : List Bool). flag_at z n ≡ true) (sym eg) (fg.all n x.0 x.1 (dead_dies sub above bound x.0 (dead x.0 (fe.yes n x.0 x.1 h'))))
+    let k = fe.yes n x.0 x.1 h' in
+    subst (λ (z : List Bool). flag_at z n ≡ true) (sym eg) (fg.all n x.0 x.1 k.0)
 
-pub chart_of : (sub above : Machine_data) (bound : ℕ) (Ends : Spot → Type 0) (found : Candidates) (g : Graph_data) (gone gone' ends ends' : List Bool) (far far' : List (Option ℕ))
-    → AreFoundCandidates sub above bound found → IsLostGraph sub above bound found g gone → AreFlagged Ends found.table.spots ends → gone' ≡ gone → ends' ≡ ends → far' ≡ far
-    → AreDistances g.outs gone' ends' far → AreCharted (LostStep sub above bound) Ends found.table.spots (λ n. 0) found.table.rows far'
-chart_of sub above bound Ends found g gone gone' ends ends' far far' f l fe eg ee ef d =
-    let d1 : AreDistances g.outs gone ends' far = subst (λ (z : List Bool). AreDistances g.outs z ends' far) eg d in
-    let d2 : AreDistances g.outs gone ends far = subst (λ (z : List Bool). AreDistances g.outs gone z far) ee d1 in
-    let d3 : AreDistances g.outs gone ends far' = subst (λ (z : List (Option ℕ)). AreDistances g.outs gone ends z) (sym ef) d2 in
-    charted sub above bound Ends found.table.spots found.table.rows found.anys.items gone ends g far' f.discovery l.built l.dead fe d3
+pub chart_of : (sub above : Machine_data) (bound greater : ℕ) (found : Candidates) (g : Graph_data) (gone inside inside' ends ends' : List Bool) (far far' : List (Option ℕ))
+    → AreFoundCandidates sub above bound found → IsLostGraph sub above bound found g gone → AreFlagged (IsHelped sub above bound greater) found.table.spots inside
+    → AreFlagged (IsHelpedCut sub above bound greater) found.table.spots ends → inside' ≡ inside → ends' ≡ ends → far' ≡ far
+    → AreDistances g.outs inside' ends' far → AreCharted (HelpedStep sub above bound greater) (IsHelpedCut sub above bound greater) found.table.spots (λ n. 0) found.table.rows far'
+chart_of sub above bound greater found g gone inside inside' ends ends' far far' f l fg fe eg ee ef d =
+    let d1 : AreDistances g.outs inside ends' far = subst (λ (z : List Bool). AreDistances g.outs z ends' far) eg d in
+    let d2 : AreDistances g.outs inside ends far = subst (λ (z : List Bool). AreDistances g.outs inside z far) ee d1 in
+    let d3 : AreDistances g.outs inside ends far' = subst (λ (z : List (Option ℕ)). AreDistances g.outs inside ends z) (sym ef) d2 in
+    charted sub above bound greater (IsHelpedCut sub above bound greater) found.table.spots found.table.rows found.anys.items inside ends g far' f.discovery l.built fg fe d3

@@ -2,7 +2,8 @@
 use Rattle.std.specs.Prelude.{ℕ, ◌≤◌, List}
 use Rattle.rs_model.specs.Data.{Machine_data}
 use Rattle.rs_derive.specs.Moves.{Spot}
-use Rattle.rs_search.specs.Candidates.{MeetsACut, start_spot}
+use Rattle.rs_model.specs.declared.limits.TheConstants.{MOST_CANDIDATES}
+use Rattle.rs_search.specs.Candidates.{AreMoreThan, MeetsACut, start_spot}
 use Rattle.rs_search.specs.Survives.{Survives}
 use Rattle.rs_explain.specs.Obstacles.{IsObstacle}
 use Rattle.rs_explain.specs.Walks.{IsDyingWalk, WalkStep_data, end_of}
@@ -24,8 +25,8 @@ pub record IsExplanation (sub above : Machine_data) (bound : ℕ) (e : Explanati
   pub walk : IsDyingWalk sub above bound (start_spot sub above) e.steps
   pub ending : EndsBy sub above bound (end_of (start_spot sub above) e.steps) e.ending
 
--- the start survives within a greater bound
-pub record AGreaterBoundHelps (sub above : Machine_data) (bound : ℕ) : Type 0 where
-  pub greater : ℕ
+-- the start survives within this bound, which is no less and within which there aren't too many candidates
+pub record AGreaterBoundHelps (sub above : Machine_data) (bound greater : ℕ) : Type 0 where
   pub more : bound ≤ greater
+  pub bounded : AreMoreThan sub above greater MOST_CANDIDATES → ⊥
   pub survives : Survives sub above greater (start_spot sub above)

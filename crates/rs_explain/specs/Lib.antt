@@ -9,3 +9,4 @@ pub mod Explanations
 pub mod Forgetting
 pub mod KeptNodes
 pub mod Deaths
+pub mod Helping

@@ -6,14 +6,14 @@ use Rattle.rs_model.specs.declared.machines.State.{State}
 use Rattle.rs_derive.specs.Moves.{Spot}
 use Rattle.rs_explain.specs.Distances.{IsNear, far_at, flag_at}
 use Rattle.rs_explain.specs.ObstacleAt.{obstacle_at}
-use Rattle.rs_explain.specs.Walks.{Dies, IsFirst, IsLostWalk, WalkStep_data, end_of}
+use Rattle.rs_explain.specs.Walks.{Dies, WalkStep_data}
 use Rattle.rs_explain.specs.declared.explaining.Ending.{Ending}
 use Rattle.rs_explain.specs.declared.explaining.Ending.TheVariants.{Blocked, Cut}
 use Rattle.rs_explain.specs.declared.obstacles.Obstacle.{Obstacle}
 use Rattle.rs_graph.specs.Built.{IsBuilt}
 use Rattle.rs_graph.specs.Graphs.{Graph_data}
 use Rattle.rs_graph.specs.Lists.{Among}
-use Rattle.rs_search.specs.Candidates.{start_spot}
+use Rattle.rs_search.specs.Survives.{Survives}
 use Rattle.rs_search.specs.declared.found.Candidates.{Candidates}
 
 -- of each spot its flag tells whether it is one of these
@@ -31,6 +31,7 @@ pub record AreFlags (f : ℕ → Bool) (count : ℕ) (flags : List Bool) : Type 
 pub record IsLostGraph (sub above : Machine_data) (bound : ℕ) (found : Candidates) (graph : Graph_data) (gone : List Bool) : Type 0 where
   pub built : IsBuilt found.anys.items found.table.rows (length found.table.rows) graph
   pub dead : AreFlagged (Dies sub above bound) found.table.spots gone
+  pub alive : (n : ℕ) (x : Spot) → slice_get found.table.spots n ≡ Some x → flag_at gone n ≡ false → Survives sub above bound x
 
 -- rows of numbers, along which distances can go down to 0
 pub record AreDownhill (count : ℕ) (rows : List (List ℕ)) (far : List (Option ℕ)) : Type 0 where
@@ -50,11 +51,6 @@ pub record AreCharted (Goes : Spot → ℕ → Spot → Type 0) (Ends : Spot →
   pub only : (n : ℕ) (x : Spot) → slice_get spots n ≡ Some x → far_at far n ≡ Some 0 → Ends x
   pub on : (n place i r d : ℕ) (x y : Spot) → slice_get spots n ≡ Some x → Goes x place y → slice_get (slice_index_or rows n []) i ≡ Some r
       → far_at far r ≡ Some d → IsNear far n (suc d)
-
--- a first walk from the start through spots that don't survive to one of these ends, and the node at its end
-pub record IsWholeWay (sub above : Machine_data) (bound : ℕ) (Ends : Spot → Type 0) (spots : List Spot) (steps : List WalkStep_data) (node : ℕ) : Type 0 where
-  pub first : IsFirst (IsLostWalk sub above bound Ends (start_spot sub above)) steps
-  pub stands : slice_get spots node ≡ Some (end_of (start_spot sub above) steps)
 
 -- the number at the place is the first of the row with that distance
 pub record IsFirstAt (far : List (Option ℕ)) (row : List ℕ) (distance place : ℕ) : Type 0 where

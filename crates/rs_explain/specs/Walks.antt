@@ -58,16 +58,21 @@ IsDyingWalk sub above bound p (s ∷ later) = IsDyingStep sub above bound (lengt
 abbrev pub Dies : Machine_data → Machine_data → ℕ → Spot → Type 0
 Dies sub above bound p = Survives sub above bound p → ⊥
 
--- no spot of the walk survives
-abbrev pub AllDie : Machine_data → Machine_data → ℕ → Spot → List WalkStep_data → Type 0
-AllDie sub above bound p [] = Dies sub above bound p
-AllDie sub above bound p (s ∷ later) = Dies sub above bound p × AllDie sub above bound s.spot later
+-- a greater bound helps the spot: it doesn't survive within the bound, and does within the greater one
+pub record IsHelped (sub above : Machine_data) (bound greater : ℕ) (p : Spot) : Type 0 where
+  pub dies : Dies sub above bound p
+  pub survives : Survives sub above greater p
 
--- a walk from p through spots that don't survive to one of these ends
-pub record IsLostWalk (sub above : Machine_data) (bound : ℕ) (Ends : Spot → Type 0) (p : Spot) (steps : List WalkStep_data) : Type 0 where
+-- the greater bound helps each spot of the walk
+abbrev pub AreHelped : Machine_data → Machine_data → ℕ → ℕ → Spot → List WalkStep_data → Type 0
+AreHelped sub above bound greater p [] = IsHelped sub above bound greater p
+AreHelped sub above bound greater p (s ∷ later) = IsHelped sub above bound greater p × AreHelped sub above bound greater s.spot later
+
+-- a walk from p through spots that the greater bound helps to one that meets a cut
+pub record IsCutWalk (sub above : Machine_data) (bound greater : ℕ) (p : Spot) (steps : List WalkStep_data) : Type 0 where
   pub walk : IsWalk sub above bound p steps
-  pub dies : AllDie sub above bound p steps
-  pub ends : Ends (end_of p steps)
+  pub helped : AreHelped sub above bound greater p steps
+  pub ends : MeetsACut sub above bound (end_of p steps)
 
 -- where the walks first differ, the first goes by a lesser place
 abbrev pub IsNoLater : List WalkStep_data → List WalkStep_data → Type 0
@@ -81,9 +86,9 @@ pub record IsFirst (Walks : List WalkStep_data → Type 0) (steps : List WalkSte
   pub shortest : (others : List WalkStep_data) → Walks others → length steps ≤ length others
   pub least : (others : List WalkStep_data) → Walks others → length others ≡ length steps → IsNoLater steps others
 
--- the first of the walks from p through spots that don't survive to one that meets a cut
-abbrev pub IsFirstCutWalk : Machine_data → Machine_data → ℕ → Spot → List WalkStep_data → Type 0
-IsFirstCutWalk sub above bound p steps = IsFirst (IsLostWalk sub above bound (MeetsACut sub above bound) p) steps
+-- the first of the walks from p through spots that the greater bound helps to one that meets a cut
+abbrev pub IsFirstCutWalk : Machine_data → Machine_data → ℕ → ℕ → Spot → List WalkStep_data → Type 0
+IsFirstCutWalk sub above bound greater p steps = IsFirst (IsCutWalk sub above bound greater p) steps
 
 -- whichever move a spot of the walk makes, of whatever bound, it leads to the next spot, too
 abbrev pub IsForced : Machine_data → Machine_data → Spot → List WalkStep_data → Type 0

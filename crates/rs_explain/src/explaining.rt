@@ -3,17 +3,18 @@ ghost use Rattle.std.specs.Prelude.{◌≡◌, ◌<◌, ◌≤◌, Bool, IfOk, l
 ghost use Rattle.rs_derive.specs.Derivations.{IsProper, spot_of};
 ghost use Rattle.rs_explain.specs.Deaths.{IsDyingWay};
 ghost use Rattle.rs_explain.specs.Explanations.{AGreaterBoundHelps, IsExplanation};
-ghost use Rattle.rs_explain.specs.OnWay.{IsWholeWay, ending_at};
+ghost use Rattle.rs_explain.specs.OnWay.{ending_at};
 ghost use Rattle.rs_explain.specs.Walks.{IsFirstCutWalk};
 ghost use Rattle.rs_model.specs.declared.limits.TheConstants.{MOST_CANDIDATES};
-ghost use Rattle.rs_search.specs.Candidates.{MeetsACut, start_spot};
+ghost use Rattle.rs_search.specs.Candidates.{start_spot};
 ghost use Rattle.rs_search.specs.Canonical.{IsNotFound};
 ghost use Rattle.rs_search.specs.Found.{AreFoundCandidates};
 
 use crate::Obstacle;
 use crate::deaths::deaths;
 use crate::distances::distances;
-use crate::lost::{cuts, lost_graph};
+use crate::helping::{helped_cuts, helped_nodes};
+use crate::lost::lost_graph;
 use crate::obstacles::obstacle_at;
 use crate::walking::{Way, walk};
 use rs_derive::DNode;
@@ -104,12 +105,13 @@ fn way_to_dead_end(
     Ok(way)
 }
 
-// The first walk to a spot that meets a cut.
+// The first walk to a spot that meets a cut, through spots that the greater bound helps.
 fn way_to_cut(
     alloc: Global,
     sub: &Machine,
     above: &Machine,
     bound: u8,
+    greater: u8,
     found: &Candidates,
 ) -> Result<Way, NoMemory>
     requires ours { IsProper sub.now }
@@ -117,12 +119,14 @@ fn way_to_cut(
     requires found { AreFoundCandidates sub.now above.now bound found.now }
     requires bounded { length found.now.table.spots ≤ MOST_CANDIDATES }
     requires refused { (cut : Bool) × IsNotFound sub.now above.now bound cut }
-    requires helps { AGreaterBoundHelps sub.now above.now bound }
-    ensures { IfOk result (λ w. IsWholeWay sub.now above.now bound (MeetsACut sub.now above.now bound) found.now.table.spots w.steps.items w.node) }
+    requires helps { AGreaterBoundHelps sub.now above.now bound greater }
+    ensures { IfOk result (λ w. IsFirstCutWalk sub.now above.now bound greater (start_spot sub.now above.now) w.steps.items) }
 {
     let lost = lost_graph(alloc, sub, above, bound, found)?;
-    let ends = cuts(alloc, sub, above, bound, found, &lost)?;
-    let far = distances(alloc, &lost.graph, lost.gone.as_slice(), ends.as_slice())?;
+    let helped = helped_nodes(alloc, sub, above, bound, greater, found, &lost)?;
+    let inside = helped.as_slice();
+    let ends = helped_cuts(alloc, sub, above, bound, greater, found, &lost, inside)?;
+    let far = distances(alloc, &lost.graph, inside, ends.as_slice())?;
     let way = walk(alloc, &found.table, far.as_slice())?;
     Ok(way)
 }
@@ -152,24 +156,25 @@ pub fn explain(
     })
 }
 
-/// Where a greater bound helps: the first walk from the start, through spots that don't survive within this bound, to one
-/// that meets a cut.
+/// Where a greater bound helps: the first walk from the start to a spot that meets a cut, through spots that don't survive
+/// within the bound and do within the greater one.
 pub fn explain_cut(
     alloc: Global,
     sub: &Machine,
     above: &Machine,
     bound: u8,
+    greater: u8,
 ) -> Result<Vec<WalkStep>, NoMemory>
     requires ours { IsProper sub.now }
     requires theirs { IsProper above.now }
     requires refused { (cut : Bool) × IsNotFound sub.now above.now bound cut }
-    requires helps { AGreaterBoundHelps sub.now above.now bound }
-    ensures { IfOk result (λ steps. IsFirstCutWalk sub.now above.now bound (start_spot sub.now above.now) steps.items) }
+    requires helps { AGreaterBoundHelps sub.now above.now bound greater }
+    ensures { IfOk result (λ steps. IsFirstCutWalk sub.now above.now bound greater (start_spot sub.now above.now) steps.items) }
 {
     let found = match candidates_of(alloc, sub, above, bound) {
         Ok(found) => found,
         Err(_) => return Err(NoMemory),
     };
-    let way = way_to_cut(alloc, sub, above, bound, &found)?;
+    let way = way_to_cut(alloc, sub, above, bound, greater, &found)?;
     Ok(way.steps)
 }

@@ -70,14 +70,17 @@ pub fn one_explanation_where_not_found()
     ensures uncut { (sub above : Machine_data) (bound : ℕ) (e : Explanation_data) → IsNotFound sub above bound false → IsExplanation sub above bound e → e.ending ≢ Cut }
 {}
 
-/// Where the start survives within a greater bound only, a walk leads from it through spots that don't survive to one that
-/// meets a cut, and there is one first such walk. A greater bound helps where the search finds a derivation within it.
+/// Where the start survives within a greater bound only, a walk leads from it to a spot that meets a cut, and there is one
+/// first such walk. Each spot of it dies within the bound and survives within the greater one, so that it leads nowhere that
+/// the greater bound doesn't mend. A greater bound helps where the search finds a derivation within it.
 pub fn one_cut_walk_where_a_greater_bound_helps()
-    ensures some { (sub above : Machine_data) (bound : ℕ) (cut : Bool) → IsNotFound sub above bound cut → AGreaterBoundHelps sub above bound
-        → (steps : List WalkStep_data) × IsFirstCutWalk sub above bound (start_spot sub above) steps }
-    ensures one { (sub above : Machine_data) (bound : ℕ) (steps others : List WalkStep_data) → IsFirstCutWalk sub above bound (start_spot sub above) steps
-        → IsFirstCutWalk sub above bound (start_spot sub above) others → steps ≡ others }
-    ensures helps { (sub above : Machine_data) (bound greater : ℕ) (d : Derivation_data) → bound ≤ greater → IsCanonical sub above greater d → AGreaterBoundHelps sub above bound }
+    ensures some { (sub above : Machine_data) (bound greater : ℕ) (cut : Bool) → IsNotFound sub above bound cut → AGreaterBoundHelps sub above bound greater
+        → (steps : List WalkStep_data) × IsFirstCutWalk sub above bound greater (start_spot sub above) steps }
+    ensures one { (sub above : Machine_data) (bound greater : ℕ) (steps others : List WalkStep_data) → IsFirstCutWalk sub above bound greater (start_spot sub above) steps
+        → IsFirstCutWalk sub above bound greater (start_spot sub above) others → steps ≡ others }
+    ensures mends { (sub above : Machine_data) (bound greater : ℕ) (steps : List WalkStep_data) (i : ℕ) (s : WalkStep_data) → IsFirstCutWalk sub above bound greater (start_spot sub above) steps
+        → slice_get steps i ≡ Some s → (Survives sub above bound s.spot → ⊥) × Survives sub above greater s.spot }
+    ensures helps { (sub above : Machine_data) (bound greater : ℕ) (d : Derivation_data) → bound ≤ greater → IsCanonical sub above greater d → AGreaterBoundHelps sub above bound greater }
 {}
 
 /// Where the canonical derivation forgets an act that is owed there is a first way round on which it is never made, and one

@@ -7,6 +7,7 @@ mod distances;
 mod explaining;
 mod forcing;
 mod growth;
+mod helping;
 mod kept;
 pub mod laws;
 mod lost;

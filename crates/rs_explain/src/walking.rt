@@ -42,6 +42,8 @@ pub fn first_at(row: &[u32], far: &[Option<u32>], distance: u32) -> usize
     unreachable!()
 }
 
+/// Makes the step of a walk that takes the result at `place` of its move, and leads to the spot of `node`. The spot's
+/// pending acts are copied, so it fails if memory runs out.
 pub fn step_to(alloc: Global, place: u32, node: &DNode) -> Result<WalkStep, NoMemory>
     ensures { IfOk result (λ s. s ≡ record { place = place; spot = spot_of node.now }) }
 {

@@ -1,4 +1,5 @@
 pub mod Partings
+pub mod Meeting
 pub mod Waiting
 pub mod Flags
 pub mod Rows

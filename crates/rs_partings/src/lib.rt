@@ -10,6 +10,6 @@ mod spreading;
 mod surveying;
 mod waiting;
 
-pub use partings::parting;
+pub use partings::{meets_member, parting};
 pub use searching::Parting;
 pub use waiting::waiting_round;

@@ -5,6 +5,7 @@ ghost use Rattle.rs_model.specs.Data.{Protocol_data};
 ghost use Rattle.rs_model.specs.declared.graph.Arm.{Arm};
 ghost use Rattle.rs_model.specs.declared.graph.Role.{Role};
 ghost use Rattle.rs_partings.specs.Flags.{AreFlags, IsMemberNode};
+ghost use Rattle.rs_partings.specs.Meeting.{AreMeeting};
 ghost use Rattle.rs_partings.specs.Partings.{IsParting, MeetsMember, PartNowhere};
 ghost use Rattle.rs_partings.specs.Searching.{arm_toward, parting_by, parting_of_arms, parting_of_nodes};
 ghost use Rattle.rs_project.specs.Graph.{Involves, IsReached, PassesBy};
@@ -37,6 +38,22 @@ pub fn parting(
     let ones = meeting(alloc, protocol, role, &survey, Some(a))?;
     let others = meeting(alloc, protocol, role, &survey, b)?;
     Ok(first_parting(protocol, &here, &ones, &others))
+}
+
+/// Of each node of the protocol, whether the role may meet the member of a front first from there: the talk, or the end where
+/// the member is None. The work is linear in the nodes and their arms. The error is want of memory.
+pub fn meets_member(
+    alloc: Global,
+    protocol: &Protocol,
+    role: Role,
+    member: Option<u32>,
+) -> Result<Vec<bool>, NoMemory>
+    requires well_formed { IsWellFormed protocol.now }
+    requires bounded { length protocol.now.nodes < 2 ^ 32 }
+    ensures { IfOk result (λ v. AreMeeting protocol.now role member v.items) }
+{
+    let survey = survey_of(alloc, protocol, role)?;
+    meeting(alloc, protocol, role, &survey, member)
 }
 
 // The nodes that are reached and don't involve the role.

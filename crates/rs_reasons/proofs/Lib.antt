@@ -4,6 +4,7 @@ pub mod LeastBound
 pub mod LesserBounds
 pub mod Marking
 pub mod OneExplanation
+pub mod OneFlags
 pub mod OneUnderivable
 pub mod Reasons
 pub mod SomePartings

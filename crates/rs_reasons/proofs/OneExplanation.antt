@@ -1,9 +1,6 @@
 -- A document has one explanation, and it begins as `check` answers.
-use Rattle.std.proofs.Common.{◌≡◌, ◌≢◌, ◌++◌, ◌∙◌, ℕ, ◌<◌, List, [], ◌∷◌, length, false, Option, Some, None, refl, sym, ap, ap₂, subst, slice_get}
+use Rattle.std.proofs.Common.{◌≡◌, ◌≢◌, ◌++◌, ◌∙◌, ℕ, ◌<◌, Bool, List, [], ◌∷◌, length, false, Option, Some, None, refl, sym, ap, ap₂, subst, slice_get}
 use Rattle.std.proofs.lemmas.Option.{same_Some, slice_get_within}
-use Rattle.std.specs.Prelude.{codes}
-use Rattle.std.specs.List.{flat_map}
-use Rattle.rs_text.specs.NamePlaces.{name_at}
 use Rattle.rs_answers.specs.Checks as checks
 use Rattle.rs_answers.specs.Checks.{Checks}
 use Rattle.rs_answers.specs.Data.{Answer_data}
@@ -38,14 +35,17 @@ use Rattle.rs_wellformed.proofs.Faults.{no_fault}
 use Rattle.rs_wellformed.specs.Faults.{first_fault}
 use Rattle.rs_wellformed.specs.WellFormed.{IsWellFormed}
 use Rattle.rs_reasons.proofs.OneUnderivable.{one_underivable}
-use Rattle.rs_reasons.proofs.SomePartings.{some_parting, some_round}
+use Rattle.rs_reasons.proofs.OneFlags.{meeting_of, one_meeting}
+use Rattle.rs_reasons.proofs.SomePartings.{some_meeting, some_parting, some_round}
 use Rattle.rs_reasons.proofs.SomeUnderivable.{some_underivable}
 use Rattle.rs_reasons.proofs.Telling.{where_is}
 use Rattle.rs_reasons.specs.Faults.{talk_line}
 use Rattle.rs_reasons.specs.Accepted.{machines_lines}
 use Rattle.rs_reasons.specs.Explains.{Explains, ExplainsBy, IsRefused, IsAccepted, TellsOfMachine, TellsWhy, own_state_line, source_of, with_lines}
 use Rattle.rs_reasons.specs.Underivable.{TellsUnderivable}
-use Rattle.rs_reasons.specs.Unprojectable.{IsWhereTheyPart, TellsClash, TellsUnprojectable, TellsWaiting, clash_lines, talk_item, where_line}
+use Rattle.rs_reasons.specs.Before.{Clash_data}
+use Rattle.rs_reasons.specs.Unprojectable.{IsWhereTheyPart, TellsClash, TellsUnprojectable, TellsWaiting, clash_text}
+use Rattle.rs_reasons.specs.Waits.{waiting_lines}
 
 -- the ways part at one place
 same_parting : (protocol : Protocol_data) (role : Role) (a : ℕ) (b : Option ℕ) (o q : Option Parting) → IsWhereTheyPart protocol role a b o → IsWhereTheyPart protocol role a b q → o ≡ q
@@ -57,15 +57,18 @@ same_parting protocol role a b (Some p) (Some q) h k = ap Some (one_at_most (Par
 one_clash : (names : Names_data) (protocol : Protocol_data) (talks : List Position) (role : Role) (a : ℕ) (b : Option ℕ) (lines others : List ℕ) → TellsClash names protocol talks role a b lines
     → TellsClash names protocol talks role a b others → lines ≡ others
 one_clash names protocol talks role a b lines others h k =
-    h.text ∙ ap (λ (z : Option Parting). clash_lines names protocol talks role a b ++ where_line names protocol talks z) (same_parting protocol role a b h.parting k.parting h.is_where k.is_where)
+    let clash : List Bool → List Bool → Clash_data = λ (x y : List Bool). record { names = names; protocol = protocol; talks = talks; role = role; a = a; b = b; ones = x; others = y } in
+    h.text
+    ∙ ap (λ (z : Option Parting). clash_text (clash h.ones h.others) z) (same_parting protocol role a b h.parting k.parting h.is_where k.is_where)
+    ∙ ap (λ (z : List Bool). clash_text (clash z h.others) k.parting) (one_meeting protocol role (Some a) h.ones k.ones h.to_one k.to_one)
+    ∙ ap (λ (z : List Bool). clash_text (clash k.ones z) k.parting) (one_meeting protocol role b h.others k.others h.to_other k.to_other)
     ∙ sym k.text
 
 one_waiting : (names : Names_data) (protocol : Protocol_data) (talks : List Position) (role : Role) (node : ℕ) (lines others : List ℕ) → TellsWaiting names protocol talks role node lines
     → TellsWaiting names protocol talks role node others → lines ≡ others
 one_waiting names protocol talks role node lines others h k =
     let round = one_round protocol role node h.round k.round h.is_round k.is_round in
-    h.text
-    ∙ ap (λ (z : List ℕ). name_at names.roles role.0 ++ codes " may be left waiting while these go round:\n" ++ flat_map (talk_item names protocol talks) z) round ∙ sym k.text
+    h.text ∙ ap (λ (z : List ℕ). waiting_lines names protocol talks role z) round ∙ sym k.text
 
 one_unprojectable : (names : Names_data) (protocol : Protocol_data) (talks : List Position) (fault : ProjFault) (lines others : List ℕ) → TellsUnprojectable names protocol talks fault lines
     → TellsUnprojectable names protocol talks fault others → lines ≡ others
@@ -152,13 +155,15 @@ some_unprojectable : (names : Names_data) (protocol : Protocol_data) (talks : Li
     → (lines : List ℕ) × TellsUnprojectable names protocol talks fault lines
 some_unprojectable names protocol talks role (proj.Unmergeable r a b) wf h =
     let p = some_parting protocol r a b wf in
-    (clash_lines names protocol talks r a b ++ where_line names protocol talks p.0, record { parting = p.0; is_where = where_is protocol r a b p.0 p.1; text = refl })
+    let ones = some_meeting protocol r (Some a) wf in
+    let others = some_meeting protocol r b wf in (
+      clash_text (record { names = names; protocol = protocol; talks = talks; role = r; a = a; b = b; ones = ones.0; others = others.0 }) p.0,
+      record { parting = p.0; is_where = where_is protocol r a b p.0 p.1; ones = ones.0; to_one = meeting_of protocol r (Some a) ones.0 ones.1; others = others.0; to_other = meeting_of protocol r b others.0 others.1; text = refl },
+    )
 some_unprojectable names protocol talks role (proj.Unreached r node) wf h =
     let waits : IsUnreached protocol r node = subst (λ (x : Role). IsUnreached protocol x node) (sym h.0) h.1 in
-    let round = some_round protocol r node wf (unreached_within protocol r node waits) in (
-      name_at names.roles r.0 ++ codes " may be left waiting while these go round:\n" ++ flat_map (talk_item names protocol talks) round.0,
-      record { round = round.0; is_round = round.1; text = refl },
-    )
+    let round = some_round protocol r node wf (unreached_within protocol r node waits) in
+    (waiting_lines names protocol talks r round.0, record { round = round.0; is_round = round.1; text = refl })
 some_unprojectable names protocol talks role (proj.TooManyStates r) wf h = ([], refl)
 some_unprojectable names protocol talks role proj.NoMemory wf h = absurd h
 

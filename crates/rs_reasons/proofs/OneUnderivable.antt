@@ -1,6 +1,7 @@
 -- One is told of a machine of which no derivation is found.
 use Rattle.std.proofs.Common.{◌≡◌, ◌≢◌, ◌++◌, ◌∙◌, ℕ, List, [], ◌∷◌, Bool, true, false, Some, sym, ap, subst, arith}
-use Rattle.rs_explain.proofs.Existing.{one_cut_walk, one_explanation}
+use Rattle.rs_explain.proofs.Existing.{one_explanation}
+use Rattle.rs_explain.proofs.Firsts.{one_cut_walk}
 use Rattle.rs_explain.proofs.Forgetful.{one_forgetting}
 use Rattle.rs_explain.specs.Explanations.{Explanation_data, IsExplanation}
 use Rattle.rs_explain.specs.Forgetting.{Forgetting_data, IsForgetting}
@@ -10,7 +11,7 @@ use Rattle.rs_model.specs.declared.limits.TheConstants.{MOST_BOUND, MOST_CANDIDA
 use Rattle.rs_search.proofs.Determined.{not_both_ways}
 use Rattle.rs_search.proofs.Determined as searched
 use Rattle.rs_derive.specs.Data.{Derivation_data}
-use Rattle.rs_search.specs.Candidates.{AreMoreThan}
+use Rattle.rs_search.specs.Candidates.{AreMoreThan, start_spot}
 use Rattle.rs_search.specs.Canonical.{IsCanonical, IsForgets, SearchRefuses}
 use Rattle.rs_search.specs.declared.faults.SearchFault.{SearchFault}
 use Rattle.rs_search.specs.declared.faults.SearchFault.TheVariants as search
@@ -66,7 +67,7 @@ one_not_found source bound cut lines others (GreatestHelps e h x d c steps w p) 
 one_not_found source bound cut lines others (GreatestHelps e h x d c steps w p) (GreatestRefuses f k y fault n calm r q) =
     absurd (n (not_both_ways source.machine source.projection.machine MOST_BOUND d fault c r))
 one_not_found source bound cut lines others (GreatestHelps e h x d c steps w p) (GreatestHelps f k y g b ways v q) =
-    p ∙ ap (λ (z : List WalkStep_data). way_text source bound z Cut ++ helped_line source d) (one_cut_walk source.machine source.projection.machine bound steps ways w v)
+    p ∙ ap (λ (z : List WalkStep_data). way_text source bound z Cut ++ helped_line source d) (one_cut_walk source.machine source.projection.machine bound MOST_BOUND (start_spot source.machine source.projection.machine) steps ways w v)
     ∙ ap (λ (z : Derivation_data). way_text source bound ways Cut ++ helped_line source z) (searched.one_answer source.machine source.projection.machine MOST_BOUND d g c b) ∙ sym q
 one_not_found source bound cut lines others (NoneHelps e h x p) (GreatestForgets f k y node r g w q) = absurd (both source bound cut e f h k x y)
 one_not_found source bound cut lines others (GreatestForgets e h x node r g w p) (NoneHelps f k y q) = absurd (both source bound cut f e k h y x)

@@ -136,6 +136,10 @@ member_or_not pr role member wf n lt = go member (front_any pr role sv.0 (n ∷ 
         ends true e = inl (let s = f.1.ends.0 e in subst (λ (z : ℕ). MeetsTheEnd pr role z) (sym (the_start n s.start s.among)) s.ends)
         ends false e = inr (λ h. (let t = f.1.ends.1 (record { start = n; among = inl refl; ends = h }) in let bad : false ≡ true = sym e ∙ t in cc bad))
 
+-- the nodes from which the role may meet the member first
+pub some_meeting : (pr : Protocol_data) (role : Role) (member : Option ℕ) → IsWellFormed pr → (flags : List Bool) × AreFlags (length pr.nodes) (λ n. MeetsMember pr role n member) flags
+some_meeting pr role member wf = some_flags (length pr.nodes) (λ n. MeetsMember pr role n member) (member_or_not pr role member wf)
+
 -- ---- the first parting
 
 pub some_parting : (pr : Protocol_data) (role : Role) (a : ℕ) (b : Option ℕ) → IsWellFormed pr → (o : Option Parting) × MatchOption o (PartNowhere pr role a b) (λ p. IsParting pr role a b p)
@@ -167,7 +171,7 @@ tested count test = some_flags count (λ n. test n ≡ true) (λ n lt. true_or_n
     true_or_not true = inl refl
     true_or_not false = inr (λ e. cc e)
 
-same_flag : (x y : Bool) → (x ≡ true) ↔ (y ≡ true) → x ≡ y
+pub same_flag : (x y : Bool) → (x ≡ true) ↔ (y ≡ true) → x ≡ y
 same_flag true true h = refl
 same_flag true false h = absurd (cc (h.0 refl))
 same_flag false true h = absurd (cc (h.1 refl))

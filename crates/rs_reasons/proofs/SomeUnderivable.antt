@@ -21,7 +21,7 @@ use Rattle.rs_reasons.specs.Underivable.{Accepts, Finds, GreatestForgets, Greate
 -- where the search finds a derivation within the greatest bound and none within this one, the greatest helps
 pub greatest_helps : (source : WalkSource_data) (bound : ℕ) (e : Explanation_data) (d : Derivation_data) → IsProper source.machine → IsProper source.projection.machine
     → IsExplanation source.machine source.projection.machine bound e → IsCanonical source.machine source.projection.machine MOST_BOUND d
-    → AGreaterBoundHelps source.machine source.projection.machine bound
+    → AGreaterBoundHelps source.machine source.projection.machine bound MOST_BOUND
 greatest_helps source bound e d ours theirs h c = elim (leb_tells bound MOST_BOUND) [
   | inl le ↦ canonical_helps source.machine source.projection.machine bound MOST_BOUND d le.1 c
   | inr more ↦ (
@@ -52,7 +52,7 @@ some_not_found source bound cut ours theirs h = by (is_hopeless source cut e.0) 
     by true k = (way_text source bound e.0.steps e.0.ending ++ hopeless_line, NoneHelps e.0 e.1 k refl)
     by false k = elim (searching.decided source.machine source.projection.machine MOST_BOUND ours theirs) [
       | inl d ↦ (
-          let walk = cut_from_start source.machine source.projection.machine bound cut h (greatest_helps source bound e.0 d.0 ours theirs e.1 d.1) in
+          let walk = cut_from_start source.machine source.projection.machine bound MOST_BOUND cut h (greatest_helps source bound e.0 d.0 ours theirs e.1 d.1) in
           (way_text source bound walk.0 Cut ++ helped_line source d.0, GreatestHelps e.0 e.1 k d.0 d.1 walk.0 walk.1 refl))
       | inr f ↦ refused k f.0 f.1 f.2
     ]

@@ -1,5 +1,6 @@
 pub mod Accepted
 pub mod Ahead
+pub mod Before
 pub mod Explains
 pub mod Faults
 pub mod Flagged
@@ -7,3 +8,4 @@ pub mod Marks
 pub mod Underivable
 pub mod Unprojectable
 pub mod Uses
+pub mod Waits

@@ -104,10 +104,10 @@ pub data TellsNotFound (source : WalkSource_data) (bound : ℕ) (cut : Bool) (li
       → (node : ℕ) → IsForgets source.machine source.projection.machine MOST_BOUND node
       → (f : Forgetting_data) → IsForgetting source.machine source.projection.machine MOST_BOUND node f
       → lines ≡ round_text source f ++ hopeless_line → TellsNotFound source bound cut lines
-  -- it finds one within the greatest bound: a way leads to where that is needed
+  -- it finds one within the greatest bound: a way leads to where that is needed, through spots that the greatest bound helps
   GreatestHelps : (e : Explanation_data) → IsExplanation source.machine source.projection.machine bound e → is_hopeless source cut e ≡ false
       → (d : Derivation_data) → IsCanonical source.machine source.projection.machine MOST_BOUND d
-      → (steps : List WalkStep_data) → IsFirstCutWalk source.machine source.projection.machine bound (start_spot source.machine source.projection.machine) steps
+      → (steps : List WalkStep_data) → IsFirstCutWalk source.machine source.projection.machine bound MOST_BOUND (start_spot source.machine source.projection.machine) steps
       → lines ≡ way_text source bound steps Cut ++ helped_line source d → TellsNotFound source bound cut lines
 
 -- the derivation that the search finds forgets an act: a way leads round on which it stays owed

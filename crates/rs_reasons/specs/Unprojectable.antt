@@ -1,11 +1,11 @@
 -- Public: what is told of a protocol that has no projection onto a role.
-use Rattle.std.specs.Prelude.{◌≡◌, ℕ, List, [], ◌++◌, codes, ◌==◌, if◌then◌else◌, slice_get, Option, Some, None}
-use Rattle.std.specs.List.{flat_map}
+use Rattle.std.specs.Prelude.{◌≡◌, ℕ, List, [], ◌++◌, Bool, codes, ◌==◌, if◌then◌else◌, slice_get, Option, Some, None}
 use Rattle.rs_model.specs.Data.{Names_data, Protocol_data}
 use Rattle.rs_model.specs.declared.graph.Arm.{Arm}
 use Rattle.rs_model.specs.declared.graph.Node.{Node}
 use Rattle.rs_model.specs.declared.graph.Node.TheVariants.{Talk}
 use Rattle.rs_model.specs.declared.graph.Role.{Role}
+use Rattle.rs_partings.specs.Meeting.{AreMeeting}
 use Rattle.rs_partings.specs.Partings.{IsParting, PartNowhere}
 use Rattle.rs_partings.specs.Waiting.{AreWaitingRound}
 use Rattle.rs_partings.specs.declared.searching.Parting.{Parting}
@@ -14,6 +14,8 @@ use Rattle.rs_project.specs.declared.projecting.ProjFault.{ProjFault}
 use Rattle.rs_project.specs.declared.projecting.ProjFault.TheVariants as proj
 use Rattle.rs_text.specs.NamePlaces.{name_at}
 use Rattle.rs_walk_texts.specs.Heads.{placed_talk_text}
+use Rattle.rs_reasons.specs.Before.{Clash_data, before_lines}
+use Rattle.rs_reasons.specs.Waits.{waiting_lines}
 
 -- `- A->B:x(sort) at L:C`, a line: a talk by its number
 abbrev pub talk_item : Names_data → Protocol_data → List Position → ℕ → List ℕ
@@ -89,31 +91,35 @@ parting_line names protocol talks p =
     codes "they part at " ++ placed_talk_text names protocol.nodes talks p.talk ++ codes ", by " ++ label_at names (slice_get protocol.nodes p.talk) p.one
     ++ codes " and " ++ label_at names (slice_get protocol.nodes p.talk) p.other ++ codes "\n"
 
--- the line where the ways to both part nowhere
-abbrev pub nowhere_line : List ℕ
-nowhere_line = codes "both stand behind the same messages\n"
-
 -- the first place at which the ways to both part, or that there is none
 abbrev pub IsWhereTheyPart : Protocol_data → Role → ℕ → Option ℕ → Option Parting → Type 0
 IsWhereTheyPart protocol role a b (Some p) = IsParting protocol role a b p
 IsWhereTheyPart protocol role a b None = PartNowhere protocol role a b
 
--- the line of that place, or that there is none
-abbrev pub where_line : Names_data → Protocol_data → List Position → Option Parting → List ℕ
-where_line names protocol talks (Some p) = parting_line names protocol talks p
-where_line names protocol talks None = nowhere_line
+-- the line of that place, or the messages that come before both
+abbrev pub where_lines : Clash_data → Option Parting → List ℕ
+where_lines c (Some p) = parting_line c.names c.protocol c.talks p
+where_lines c None = before_lines c
 
--- the role can't tell apart a talk, and another one or the end: where the ways to both part
+-- both members, and where the ways to them part
+abbrev pub clash_text : Clash_data → Option Parting → List ℕ
+clash_text c parting = clash_lines c.names c.protocol c.talks c.role c.a c.b ++ where_lines c parting
+
+-- the role can't tell apart a talk, and another one or the end: where the ways to both part, or what comes before both
 pub record TellsClash (names : Names_data) (protocol : Protocol_data) (talks : List Position) (role : Role) (a : ℕ) (b : Option ℕ) (lines : List ℕ) : Type 0 where
   pub parting : Option Parting
   pub is_where : IsWhereTheyPart protocol role a b parting
-  pub text : lines ≡ clash_lines names protocol talks role a b ++ where_line names protocol talks parting
+  pub ones : List Bool
+  pub to_one : AreMeeting protocol role (Some a) ones
+  pub others : List Bool
+  pub to_other : AreMeeting protocol role b others
+  pub text : lines ≡ clash_text (record { names = names; protocol = protocol; talks = talks; role = role; a = a; b = b; ones = ones; others = others }) parting
 
--- the talks that can go round while the role is left waiting at a node, a line each
+-- the talks that can go round while the role is left waiting at a node: a line for each message by which they do, and the cure
 pub record TellsWaiting (names : Names_data) (protocol : Protocol_data) (talks : List Position) (role : Role) (node : ℕ) (lines : List ℕ) : Type 0 where
   pub round : List ℕ
   pub is_round : AreWaitingRound protocol role node round
-  pub text : lines ≡ name_at names.roles role.0 ++ codes " may be left waiting while these go round:\n" ++ flat_map (talk_item names protocol talks) round
+  pub text : lines ≡ waiting_lines names protocol talks role round
 
 -- what is told, by the reason; of too many states nothing more
 abbrev pub TellsUnprojectable : Names_data → Protocol_data → List Position → ProjFault → List ℕ → Type 0

@@ -4,6 +4,7 @@
 mod accepted;
 mod ahead;
 mod at;
+mod before;
 mod explaining;
 mod faults;
 pub mod laws;
@@ -11,5 +12,6 @@ mod lesser;
 mod underivable;
 mod unprojectable;
 mod uses;
+mod waits;
 
 pub use explaining::explain;

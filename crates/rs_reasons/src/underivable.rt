@@ -256,7 +256,8 @@ fn greatest_helps_text(
     ensures { IfOk result (spec.TellsNotFound source.now bound cut) }
 {
     let projection = source.projection;
-    let steps = explain_cut(alloc, source.machine, &projection.machine, bound)?;
+    let most = MOST_BOUND as u8;
+    let steps = explain_cut(alloc, source.machine, &projection.machine, bound, most)?;
     let figures = figures_of(derivation);
     helped_text(alloc, source, bound, steps.as_slice(), figures.owed)
 }
@@ -397,7 +398,12 @@ fn push_never(text: &mut Text, names: &Names, pending: &[Act]) -> Result<(), NoM
 }
 
 // A way round from a spot, what is owed there, what isn't done on it, and the talks that may stand behind that.
-fn push_round(text: &mut Text, source: &WalkSource, forgetting: &Forgetting) -> Result<(), NoMemory>
+fn push_round(
+    alloc: Global,
+    text: &mut Text,
+    source: &WalkSource,
+    forgetting: &Forgetting,
+) -> Result<(), NoMemory>
     ensures { OnOk result (text.new ≡ text.old ++ spec.round_text source.now forgetting.now) }
 {
     let names = source.names;
@@ -409,7 +415,7 @@ fn push_round(text: &mut Text, source: &WalkSource, forgetting: &Forgetting) -> 
     };
     push_name(text, names.roles.as_slice(), usize::from(machine.role.0))?;
     text.push(b", round and round:\n")?;
-    push_steps(text, source, &first, forgetting.steps.as_slice())?;
+    push_steps(alloc, text, source, &first, forgetting.steps.as_slice())?;
     push_owed_line(text, names, forgetting.pending.as_slice())?;
     push_never(text, names, forgetting.pending.as_slice())?;
     push_dues(text, source, oldest(forgetting.pending.as_slice()))
@@ -420,7 +426,7 @@ fn round_text(alloc: Global, source: &WalkSource, forgetting: &Forgetting) -> Re
     ensures { IfOk result (λ text. text ≡ spec.round_text source.now forgetting.now ++ spec.hopeless_line) }
 {
     let mut text = Text::new(alloc);
-    push_round(&mut text, source, forgetting)?;
+    push_round(alloc, &mut text, source, forgetting)?;
     text.push(b"no bound helps\n")?;
     Ok(text)
 }

@@ -1,13 +1,14 @@
 //! What is told of a protocol that has no projection onto a role.
 
 ghost use Rattle.std.specs.Prelude.{◌≡◌, ◌++◌, ◌<◌, ◌^◌, IfOk, OnOk, Some, length, slice_get};
-ghost use Rattle.std.specs.List.{flat_map};
 ghost use Rattle.rs_reasons.specs.Unprojectable as spec;
 ghost use Rattle.rs_text.specs.NamePlaces.{name_at};
 ghost use Rattle.rs_wellformed.specs.WellFormed.{IsWellFormed};
 
+use crate::before::{Clash, push_before};
+use crate::waits::push_waiting;
 use rs_model::{Arm, Names, NoMemory, Node, Protocol, Role};
-use rs_partings::{Parting, parting, waiting_round};
+use rs_partings::{Parting, meets_member, parting, waiting_round};
 use rs_places::Position;
 use rs_project::ProjFault;
 use rs_text::Text;
@@ -56,8 +57,8 @@ fn push_nothing_item(text: &mut Text, names: &Names, role: Role) -> Result<(), N
     text.push(b"\n")
 }
 
-// The name of the role.
-fn push_role(text: &mut Text, names: &Names, role: Role) -> Result<(), NoMemory>
+/// Writes the name of the role.
+pub(crate) fn push_role(text: &mut Text, names: &Names, role: Role) -> Result<(), NoMemory>
     ensures { OnOk result (text.new ≡ text.old ++ name_at names.now.roles role.0) }
 {
     push_name(text, names.roles.as_slice(), usize::from(role.0))
@@ -299,20 +300,43 @@ fn push_parting(
     text.push(b"\n")
 }
 
-// The line of where the ways part, if anywhere.
-fn push_where(
-    text: &mut Text,
-    names: &Names,
-    protocol: &Protocol,
-    talks: &[Position],
-    parting: Option<Parting>,
-) -> Result<(), NoMemory>
-    ensures { OnOk result (text.new ≡ text.old ++ spec.where_line names.now protocol.now talks.now parting) }
+// The line of where the ways part, or the messages that come before both.
+fn push_where(text: &mut Text, clash: &Clash, parting: Option<Parting>) -> Result<(), NoMemory>
+    ensures { OnOk result (text.new ≡ text.old ++ spec.where_lines clash.now parting) }
 {
     match parting {
-        Some(parting) => push_parting(text, names, protocol, talks, parting),
-        None => text.push(b"both stand behind the same messages\n"),
+        Some(parting) => push_parting(text, clash.names, clash.protocol, clash.talks, parting),
+        None => push_before(text, clash),
     }
+}
+
+// Both members, and where the ways to them part.
+fn push_clash_and_where(
+    text: &mut Text,
+    clash: &Clash,
+    parting: Option<Parting>,
+) -> Result<(), NoMemory>
+    ensures { OnOk result (text.new ≡ text.old ++ spec.clash_text clash.now parting) }
+{
+    push_clash(
+        text,
+        clash.names,
+        clash.protocol,
+        clash.talks,
+        clash.role,
+        clash.a,
+        clash.b,
+    )?;
+    push_where(text, clash, parting)
+}
+
+// The text of both.
+fn text_of_clash(alloc: Global, clash: &Clash, parting: Option<Parting>) -> Result<Text, NoMemory>
+    ensures { IfOk result (λ t. t ≡ spec.clash_text clash.now parting) }
+{
+    let mut text = Text::new(alloc);
+    push_clash_and_where(&mut text, clash, parting)?;
+    Ok(text)
 }
 
 /// What is told where the role can't tell apart a talk, and another one or the end. Refused memory is the only error.
@@ -330,26 +354,19 @@ fn clash_text(
     ensures { IfOk result (spec.TellsClash names.now protocol.now talks.now role a b) }
 {
     let parting = parting(alloc, protocol, role, a, b)?;
-    let mut text = Text::new(alloc);
-    push_clash(&mut text, names, protocol, talks, role, a, b)?;
-    push_where(&mut text, names, protocol, talks, parting)?;
-    Ok(text)
-}
-
-// The lines of talks.
-fn push_talk_items(
-    text: &mut Text,
-    names: &Names,
-    protocol: &Protocol,
-    talks: &[Position],
-    nodes: &[u32],
-) -> Result<(), NoMemory>
-    ensures { OnOk result (text.new ≡ text.old ++ flat_map (spec.talk_item names.now protocol.now talks.now) nodes.now) }
-{
-    for node in nodes {
-        push_talk_item(text, names, protocol, talks, *node)?;
-    }
-    Ok(())
+    let ones = meets_member(alloc, protocol, role, Some(a))?;
+    let others = meets_member(alloc, protocol, role, b)?;
+    let clash = Clash {
+        names,
+        protocol,
+        talks,
+        role,
+        a,
+        b,
+        ones: ones.as_slice(),
+        others: others.as_slice(),
+    };
+    text_of_clash(alloc, &clash, parting)
 }
 
 /// What is told where the role is left waiting at the node. Refused memory is the only error.
@@ -367,9 +384,7 @@ fn waiting_text(
 {
     let round = waiting_round(alloc, protocol, role, node)?;
     let mut text = Text::new(alloc);
-    push_name(&mut text, names.roles.as_slice(), usize::from(role.0))?;
-    text.push(b" may be left waiting while these go round:\n")?;
-    push_talk_items(&mut text, names, protocol, talks, round.as_slice())?;
+    push_waiting(&mut text, names, protocol, talks, role, round.as_slice())?;
     Ok(text)
 }
 

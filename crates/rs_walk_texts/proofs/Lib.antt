@@ -1,3 +1,5 @@
 pub mod Finding
 pub mod Joins
 pub mod Near
+pub mod Least
+pub mod Toward

@@ -1,5 +1,5 @@
 -- Public: labels of the machine that may be misspelt ones of the protocol.
-use Rattle.std.specs.Prelude.{ℕ, List, [], ◌++◌, codes, map, slice_get, Bool, false, not, ◌==◌, ◌&&◌, if◌then◌else◌, is_some, Option, Some, None}
+use Rattle.std.specs.Prelude.{◌≡◌, ℕ, ◌≤◌, List, [], ◌++◌, codes, map, slice_get, Bool, false, ◌==◌, ◌&&◌, if◌then◌else◌, is_some, Option, Some, None}
 use Rattle.std.specs.List.{find, flat_map, list_any}
 use Rattle.rs_derive.specs.Moves.{Spot, arm_of}
 use Rattle.rs_derive.specs.Rules.{arms_of}
@@ -7,6 +7,7 @@ use Rattle.rs_explain.specs.declared.explaining.Ending.{Ending}
 use Rattle.rs_explain.specs.declared.explaining.Ending.TheVariants.{Blocked}
 use Rattle.rs_explain.specs.declared.obstacles.Obstacle.TheVariants as told
 use Rattle.rs_model.specs.Data.{Names_data}
+use Rattle.rs_model.specs.FirstFailed.{or_later}
 use Rattle.rs_model.specs.declared.graph.Arm.{Arm}
 use Rattle.rs_model.specs.declared.graph.Label.{Label}
 use Rattle.rs_model.specs.declared.graph.Node.{Node}
@@ -18,7 +19,7 @@ use Rattle.rs_model.specs.declared.machines.State.{State}
 use Rattle.rs_model.specs.declared.machines.State.TheVariants.{Puts, Takes}
 use Rattle.rs_text.specs.NamePlaces.{name_at}
 use Rattle.rs_walk_texts.specs.Data.{WalkSource_data}
-use Rattle.rs_walk_texts.specs.Nearness.{is_near}
+use Rattle.rs_walk_texts.specs.Nearness.{distance}
 use Rattle.rs_walk_texts.specs.Walks.{state_at}
 use Rattle.rs_walk_texts.specs.declared.alike.LabelPair.{LabelPair}
 
@@ -26,9 +27,14 @@ use Rattle.rs_walk_texts.specs.declared.alike.LabelPair.{LabelPair}
 abbrev pub label_pair : Label → Label → LabelPair
 label_pair own theirs = record { own = own; theirs = theirs }
 
--- the names of both are near each other
-abbrev pub are_alike : Names_data → LabelPair → Bool
-are_alike names pair = is_near (name_at names.labels pair.own.0) (name_at names.labels pair.theirs.0)
+-- how far the names of both are from each other, where they are near
+abbrev pub label_distance : Names_data → LabelPair → Option ℕ
+label_distance names pair = distance (name_at names.labels pair.own.0) (name_at names.labels pair.theirs.0)
+
+-- the distance is this one
+abbrev pub is_this : ℕ → Option ℕ → Bool
+is_this far None = false
+is_this far (Some d) = d == far
 
 -- the node is a talk from the sender to the receiver that has the label
 abbrev pub sends_label : Role → Role → Label → Node → Bool
@@ -45,10 +51,15 @@ is_known_there nodes role (Some (Puts peer arms)) label = is_known nodes role pe
 is_known_there nodes role (Some (Takes peer arms)) label = is_known nodes peer role label
 is_known_there nodes role _ label = false
 
--- the machine's label may be a misspelt one: the protocol doesn't send it that way, and the names of both are near each other
-abbrev pub is_slip : WalkSource_data → Spot → LabelPair → Bool
-is_slip source p pair =
-    not (is_known_there source.protocol.nodes source.machine.role (state_at source p) pair.own) && are_alike source.names pair
+-- how far the machine's label is from the other, where it may be this one misspelt: the protocol doesn't send it that way, and
+-- the names of both are near each other
+abbrev pub slip_distance : WalkSource_data → Spot → LabelPair → Option ℕ
+slip_distance source p pair =
+    if is_known_there source.protocol.nodes source.machine.role (state_at source p) pair.own then None else label_distance source.names pair
+
+-- it may be misspelt, and is as far as this from the other
+abbrev pub is_slip : WalkSource_data → Spot → ℕ → LabelPair → Bool
+is_slip source p far pair = is_this far (slip_distance source p pair)
 
 -- the label beside that of each arm of a node, where it is a talk from the sender to the receiver
 abbrev pub pairs_with : Role → Role → Label → Node → List LabelPair
@@ -86,9 +97,18 @@ pairs_at source p (Blocked (told.SendBeforeSend place)) = pairs_owed (arms_of (s
 pairs_at source p (Blocked (told.ReceiveBeforeReceive place)) = pairs_owed (arms_of (state_at source p)) (slice_get p.pending place)
 pairs_at source p _ = []
 
--- the first of them of which the machine's label may be misspelt
+-- of the pairs of which the machine's label may be misspelt the first of the least distance
 abbrev pub nearest : WalkSource_data → Spot → Ending → Option LabelPair
-nearest source p ending = find (is_slip source p) (pairs_at source p ending)
+nearest source p ending = or_later (find (is_slip source p 0) (pairs_at source p ending)) (find (is_slip source p 1) (pairs_at source p ending))
+
+-- the pair stands there, has the distance, and none has a lesser one, nor has one before it the same
+pub record IsFirstOfLeast (distances : LabelPair → Option ℕ) (pairs : List LabelPair) (pair : LabelPair) : Type 0 where
+  pub place : ℕ
+  pub stands : slice_get pairs place ≡ Some pair
+  pub far : ℕ
+  pub far_is : distances pair ≡ Some far
+  pub least : (i d : ℕ) (q : LabelPair) → slice_get pairs i ≡ Some q → distances q ≡ Some d → far ≤ d
+  pub first : (i : ℕ) (q : LabelPair) → slice_get pairs i ≡ Some q → distances q ≡ Some far → place ≤ i
 
 -- `nearest: own for theirs`, a line, where there is such a pair
 abbrev pub nearest_text : Names_data → Option LabelPair → List ℕ

@@ -6,5 +6,7 @@ pub mod Nearness
 pub mod Alike
 pub mod Elsewhere
 pub mod Dues
+pub mod Hints
 pub mod Stops
 pub mod Rounds
+pub mod OneWay

@@ -1,5 +1,5 @@
 -- Public: names that are near each other, so that the one may be meant for the other.
-use Rattle.std.specs.Prelude.{◌≡◌, ◌≢◌, ◌⊎◌, ℕ, ◌≤◌, Bool, true, false, ◌||◌, ◌&&◌, ◌==◌, nat_lt, List, [], ◌∷◌, ◌++◌, map, length, if◌then◌else◌}
+use Rattle.std.specs.Prelude.{◌≡◌, ◌≢◌, ◌⊎◌, ℕ, ◌≤◌, Bool, true, false, ◌||◌, ◌&&◌, ◌==◌, nat_lt, List, [], ◌∷◌, ◌++◌, map, length, if◌then◌else◌, Option, Some, None}
 use Rattle.std.specs.Char.{to_ascii_lowercase}
 use Rattle.std.specs.Str.{bytes_eq, str_eq_ignore_ascii_case}
 
@@ -65,3 +65,7 @@ is_near one other =
     if bytes_eq one other then false
     else if str_eq_ignore_ascii_case one other then true
     else if nat_lt (length one) 3 && nat_lt (length other) 3 then false else differ_by_one one other
+
+-- how far near names are from each other: not at all where they are the same but for the case of their letters, else by one
+abbrev pub distance : List ℕ → List ℕ → Option ℕ
+distance one other = if is_near one other then Some (if str_eq_ignore_ascii_case one other then 0 else 1) else None

@@ -1,5 +1,5 @@
 -- Public: the talks that a state of a projection stands for, and what they say of one of its acts.
-use Rattle.std.specs.Prelude.{ℕ, List, [], ◌∷◌, ◌++◌, codes, slice_get, slice_index_or, option_map, Option, Some, None}
+use Rattle.std.specs.Prelude.{ℕ, Bool, List, [], ◌∷◌, ◌++◌, codes, slice_get, slice_index_or, option_map, Option, Some, None}
 use Rattle.rs_derive.specs.Moves.{arm_of}
 use Rattle.rs_model.specs.FirstFailed.{or_later}
 use Rattle.rs_model.specs.declared.graph.Arm.{Arm}
@@ -9,6 +9,7 @@ use Rattle.rs_model.specs.declared.graph.Node.TheVariants.{Talk}
 use Rattle.rs_model.specs.declared.graph.Role.{Role}
 use Rattle.rs_text.specs.NamePlaces.{name_at}
 use Rattle.rs_walk_texts.specs.Data.{WalkSource_data}
+use Rattle.rs_walk_texts.specs.OneWay.{flagged, meeting}
 use Rattle.rs_walk_texts.specs.Heads.{at_text, placed_talk_text, talk_by_text, with_commas}
 use Rattle.rs_walk_texts.specs.declared.passed.TalkArm.{TalkArm}
 
@@ -35,13 +36,18 @@ abbrev pub talk_arm_text : WalkSource_data → Option TalkArm → List ℕ
 talk_arm_text source None = []
 talk_arm_text source (Some t) = talk_by_text source.names t.sender t.receiver t.arm ++ at_text (slice_get source.talks t.number)
 
--- the first talk for which the projection's state stands and that has the label
-abbrev pub passed_talk : WalkSource_data → ℕ → Label → Option TalkArm
-passed_talk source above label = first_talk source.protocol.nodes label (talks_of source above)
+-- the first of these talks that has an arm with the label, by that arm, and leads by it to a flagged node
+abbrev pub first_flagged : List Node → List Bool → Label → List ℕ → Option TalkArm
+first_flagged nodes flags label [] = None
+first_flagged nodes flags label (n ∷ later) = or_later (flagged flags (talk_with n label (slice_get nodes n))) (first_flagged nodes flags label later)
 
--- an act of the projection at its state, by the first talk for which the state stands and that has the act's label
-abbrev pub passed_text : WalkSource_data → ℕ → Label → List ℕ
-passed_text source above label = talk_arm_text source (passed_talk source above label)
+-- of the talks for which the projection's state stands and that have the label the first behind which the role may meet the next
+-- talk first; where there is no next one, or none of them leads to it, the first
+abbrev pub passed_talk : WalkSource_data → ℕ → Label → Option TalkArm → Option TalkArm
+passed_talk source above label None = first_talk source.protocol.nodes label (talks_of source above)
+passed_talk source above label (Some next) =
+    or_later (first_flagged source.protocol.nodes (meeting source.protocol.nodes source.machine.role next.number) label (talks_of source above))
+    (first_talk source.protocol.nodes label (talks_of source above))
 
 -- the name of the machine's role
 abbrev pub own_name : WalkSource_data → List ℕ

@@ -8,7 +8,7 @@ ghost use Rattle.rs_walk_texts.specs.Alike as spec;
 ghost use Rattle.rs_walk_texts.specs.Walks.{state_at};
 
 use crate::acts::push_label;
-use crate::nearness::is_near;
+use crate::nearness::distance;
 use crate::sources::{SpotRef, WalkSource};
 use rs_derive::{arm_of, arms_at};
 use rs_explain::{Ending, Obstacle};
@@ -32,11 +32,20 @@ fn name_of(names: &Names, label: Label) -> &[u8]
     }
 }
 
-// Whether the names of both are near each other.
-fn are_alike(names: &Names, pair: LabelPair) -> bool
-    ensures { result ≡ spec.are_alike names.now pair }
+// How far the names of both are from each other, where they are near.
+fn label_distance(names: &Names, pair: LabelPair) -> Option<u32>
+    ensures { result ≡ spec.label_distance names.now pair }
 {
-    is_near(name_of(names, pair.own), name_of(names, pair.theirs))
+    distance(name_of(names, pair.own), name_of(names, pair.theirs))
+}
+
+fn is_this(far: u32, distance: Option<u32>) -> bool
+    ensures { result ≡ spec.is_this far distance }
+{
+    match distance {
+        Some(distance) => distance == far,
+        None => false,
+    }
 }
 
 // Whether the node is a talk from the sender to the receiver that has the label.
@@ -88,28 +97,40 @@ fn is_known_there(source: &WalkSource, spot: &SpotRef, label: Label) -> bool
     }
 }
 
-// Whether the machine's label may be a misspelt one: the protocol doesn't send it that way, and the names are near each other.
-fn is_slip(source: &WalkSource, spot: &SpotRef, pair: LabelPair) -> bool
-    ensures { result ≡ spec.is_slip source.now spot.now pair }
+// How far the machine's label is from the other, where it may be this one misspelt: the protocol doesn't send it that way, and
+// the names are near each other.
+fn slip_distance(source: &WalkSource, spot: &SpotRef, pair: LabelPair) -> Option<u32>
+    ensures { result ≡ spec.slip_distance source.now spot.now pair }
 {
-    !is_known_there(source, spot, pair.own) && are_alike(source.names, pair)
+    if is_known_there(source, spot, pair.own) {
+        return None;
+    }
+    label_distance(source.names, pair)
+}
+
+// Whether it may be misspelt, and is as far as this from the other.
+fn is_slip(source: &WalkSource, spot: &SpotRef, far: u32, pair: LabelPair) -> bool
+    ensures { result ≡ spec.is_slip source.now spot.now far pair }
+{
+    is_this(far, slip_distance(source, spot, pair))
 }
 
 // The first of the arms of which our label may be misspelt, as one of theirs.
 fn nearest_of_theirs(
     source: &WalkSource,
     spot: &SpotRef,
+    far: u32,
     own: Label,
     arms: &[Arm],
 ) -> Option<LabelPair>
-    ensures { result ≡ find (spec.is_slip source.now spot.now) (map (λ a. spec.label_pair own a.label) arms.now) }
+    ensures { result ≡ find (spec.is_slip source.now spot.now far) (map (λ a. spec.label_pair own a.label) arms.now) }
 {
     for arm in arms {
         let pair = LabelPair {
             own,
             theirs: arm.label,
         };
-        if is_slip(source, spot, pair) {
+        if is_slip(source, spot, far, pair) {
             return Some(pair);
         }
     }
@@ -120,12 +141,13 @@ fn nearest_of_theirs(
 fn nearest_at(
     source: &WalkSource,
     spot: &SpotRef,
+    far: u32,
     node: &Node,
     sender: Role,
     receiver: Role,
     own: Label,
 ) -> Option<LabelPair>
-    ensures { result ≡ find (spec.is_slip source.now spot.now) (spec.pairs_with sender receiver own node.now) }
+    ensures { result ≡ find (spec.is_slip source.now spot.now far) (spec.pairs_with sender receiver own node.now) }
 {
     match node {
         Node::Talk {
@@ -135,6 +157,7 @@ fn nearest_at(
         } if s.0 == sender.0 && r.0 == receiver.0 => nearest_of_theirs(
             source,
             spot,
+            far,
             own,
             arms.as_slice(),
         ),
@@ -146,15 +169,16 @@ fn nearest_at(
 fn nearest_between(
     source: &WalkSource,
     spot: &SpotRef,
+    far: u32,
     nodes: &[Node],
     sender: Role,
     receiver: Role,
     own: Label,
 ) -> Option<LabelPair>
-    ensures { result ≡ find (spec.is_slip source.now spot.now) (spec.pairs_between nodes.now sender receiver own) }
+    ensures { result ≡ find (spec.is_slip source.now spot.now far) (spec.pairs_between nodes.now sender receiver own) }
 {
     for node in nodes {
-        let found = nearest_at(source, spot, node, sender, receiver, own);
+        let found = nearest_at(source, spot, far, node, sender, receiver, own);
         if found.is_some() {
             return found;
         }
@@ -166,25 +190,32 @@ fn nearest_between(
 fn nearest_to(
     source: &WalkSource,
     spot: &SpotRef,
+    far: u32,
     peer: Role,
     arm: Option<Arm>,
 ) -> Option<LabelPair>
-    ensures { result ≡ find (spec.is_slip source.now spot.now) (spec.pairs_to source.now peer arm) }
+    ensures { result ≡ find (spec.is_slip source.now spot.now far) (spec.pairs_to source.now peer arm) }
 {
     let own = arm?.label;
     let protocol = source.protocol;
     let machine = source.machine;
-    nearest_between(source, spot, &protocol.nodes, machine.role, peer, own)
+    nearest_between(source, spot, far, &protocol.nodes, machine.role, peer, own)
 }
 
 // The first that may be misspelt where the machine sends by its arm at the place.
-fn nearest_sent(source: &WalkSource, spot: &SpotRef, place: usize) -> Option<LabelPair>
-    ensures { result ≡ find (spec.is_slip source.now spot.now) (spec.pairs_sent source.now (state_at source.now spot.now) place) }
+fn nearest_sent(source: &WalkSource, spot: &SpotRef, far: u32, place: usize) -> Option<LabelPair>
+    ensures { result ≡ find (spec.is_slip source.now spot.now far) (spec.pairs_sent source.now (state_at source.now spot.now) place) }
 {
     let machine = source.machine;
     match machine.states.get(spot.state as usize) {
         Some(State::Puts { peer, arms }) => {
-            nearest_to(source, spot, *peer, arms.as_slice().get(place).copied())
+            nearest_to(
+                source,
+                spot,
+                far,
+                *peer,
+                arms.as_slice().get(place).copied(),
+            )
         }
         _ => None,
     }
@@ -203,29 +234,31 @@ pub(crate) fn label_of(act: Act) -> Label
 fn nearest_owed(
     source: &WalkSource,
     spot: &SpotRef,
+    far: u32,
     arms: &[Arm],
     act: Option<Act>,
 ) -> Option<LabelPair>
-    ensures { result ≡ find (spec.is_slip source.now spot.now) (spec.pairs_owed arms.now act) }
+    ensures { result ≡ find (spec.is_slip source.now spot.now far) (spec.pairs_owed arms.now act) }
 {
     let theirs = label_of(act?);
-    nearest_of_own(source, spot, arms, theirs)
+    nearest_of_own(source, spot, far, arms, theirs)
 }
 
 fn nearest_of_own(
     source: &WalkSource,
     spot: &SpotRef,
+    far: u32,
     arms: &[Arm],
     theirs: Label,
 ) -> Option<LabelPair>
-    ensures { result ≡ find (spec.is_slip source.now spot.now) (map (λ b. spec.label_pair b.label theirs) arms.now) }
+    ensures { result ≡ find (spec.is_slip source.now spot.now far) (map (λ b. spec.label_pair b.label theirs) arms.now) }
 {
     for arm in arms {
         let pair = LabelPair {
             own: arm.label,
             theirs,
         };
-        if is_slip(source, spot, pair) {
+        if is_slip(source, spot, far, pair) {
             return Some(pair);
         }
     }
@@ -243,20 +276,32 @@ pub(crate) fn own_arms<'a>(source: &WalkSource<'a>, spot: &SpotRef) -> &'a [Arm]
     }
 }
 
-// The first pair of labels of which ours may be misspelt, of those that may explain why a walk ends at the spot.
-fn nearest(source: &WalkSource, spot: &SpotRef, ending: Ending) -> Option<LabelPair>
-    ensures { result ≡ spec.nearest source.now spot.now ending }
+// The first pair of labels of which ours may be misspelt and is as far as this, of those that may explain why a walk ends at
+// the spot.
+fn nearest_by(source: &WalkSource, spot: &SpotRef, far: u32, ending: Ending) -> Option<LabelPair>
+    ensures { result ≡ find (spec.is_slip source.now spot.now far) (spec.pairs_at source.now spot.now ending) }
 {
     match ending {
-        Ending::Blocked(Obstacle::UnknownSend { arm }) => nearest_sent(source, spot, arm),
+        Ending::Blocked(Obstacle::UnknownSend { arm }) => nearest_sent(source, spot, far, arm),
         Ending::Blocked(
             Obstacle::SendBeforeSend { place } | Obstacle::ReceiveBeforeReceive { place },
         ) => {
             let act = spot.pending.as_slice().get(place).copied();
-            nearest_owed(source, spot, own_arms(source, spot), act)
+            nearest_owed(source, spot, far, own_arms(source, spot), act)
         }
         _ => None,
     }
+}
+
+// Of these pairs the first of the least distance.
+fn nearest(source: &WalkSource, spot: &SpotRef, ending: Ending) -> Option<LabelPair>
+    ensures { result ≡ spec.nearest source.now spot.now ending }
+{
+    let found = nearest_by(source, spot, 0, ending);
+    if found.is_some() {
+        return found;
+    }
+    nearest_by(source, spot, 1, ending)
 }
 
 // Writes `nearest: own for theirs`, a line, where there is such a pair.

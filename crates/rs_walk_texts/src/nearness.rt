@@ -21,6 +21,21 @@ pub fn is_near(one: &[u8], other: &[u8]) -> bool
     differ_by_one(one, other)
 }
 
+/// How far near names are from each other: 0 where they are the same but for the case of their letters, else 1. None where
+/// they aren't near.
+pub(crate) fn distance(one: &[u8], other: &[u8]) -> Option<u32>
+    ensures { result ≡ spec.distance one.now other.now }
+{
+    if !is_near(one, other) {
+        return None;
+    }
+    if one.eq_ignore_ascii_case(other) {
+        Some(0)
+    } else {
+        Some(1)
+    }
+}
+
 // Whether both names have fewer than three bytes.
 fn are_short(one: &[u8], other: &[u8]) -> bool
     ensures { result ≡ (nat_lt (length one.now) 3 && nat_lt (length other.now) 3) }

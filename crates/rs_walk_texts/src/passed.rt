@@ -1,17 +1,20 @@
 //! The talks that a state of a projection stands for, and what they say of one of its acts.
 
-ghost use Rattle.std.specs.Prelude.{◌≡◌, ◌++◌, OnOk, slice_get};
+ghost use Rattle.std.specs.Prelude.{◌≡◌, ◌++◌, IfOk, OnOk, slice_get};
 ghost use Rattle.std.specs.List.{flat_map};
 ghost use Rattle.rs_walk_texts.specs.Heads.{behind_comma, placed_talk_text};
+ghost use Rattle.rs_walk_texts.specs.OneWay.{flagged, meeting};
 ghost use Rattle.rs_walk_texts.specs.Passed as spec;
 
 use crate::acts::push_role;
+use crate::oneway::{flag_at, meeting};
 use crate::positions::{position_at, push_at};
 use crate::sources::WalkSource;
 use crate::talks::{push_placed_talk, push_talk_by};
 use rs_derive::arm_of;
 use rs_model::{Arm, Label, NoMemory, Node, Role};
 use rs_text::Text;
+use std::alloc::Global;
 
 /// A talk by one of its arms, and the number of its node.
 #[derive(Clone, Copy, Debug)]
@@ -92,25 +95,72 @@ pub(crate) fn push_talk_arm(
     push_at(text, position_at(source.talks, talk.number))
 }
 
-/// The first talk for which the projection's state stands and that has the label, by its arm with the label.
-pub(crate) fn passed_talk(source: &WalkSource, above: u32, label: Label) -> Option<TalkArm>
-    ensures { result ≡ spec.passed_talk source.now above label }
+// The talk, where its arm leads to a flagged node.
+fn flagged(flags: &[bool], talk: Option<TalkArm>) -> Option<TalkArm>
+    ensures { result ≡ flagged flags.now talk }
 {
-    let protocol = source.protocol;
-    first_talk(&protocol.nodes, label, talks_of(source, above))
+    let talk = talk?;
+    if flag_at(flags, talk.arm.next) {
+        Some(talk)
+    } else {
+        None
+    }
 }
 
-/// Writes an act of the projection at its state as `A->B:x(sort) at L:C`, by the first talk for which the state stands and
-/// that has the act's label.
-pub(crate) fn push_passed(
-    text: &mut Text,
+// The first of these talks that has an arm with the label, by that arm, and leads by it to a flagged node.
+fn first_flagged(nodes: &[Node], flags: &[bool], label: Label, numbers: &[u32]) -> Option<TalkArm>
+    ensures { result ≡ spec.first_flagged nodes.now flags.now label numbers.now }
+{
+    for number in numbers {
+        let leading = flagged(flags, talk_at(nodes, label, *number));
+        if leading.is_some() {
+            return leading;
+        }
+    }
+    None
+}
+
+// Of several talks that have the label the first behind which the role may meet the next one first.
+fn talk_before(
+    alloc: Global,
+    source: &WalkSource,
+    label: Label,
+    numbers: &[u32],
+    next: TalkArm,
+) -> Result<Option<TalkArm>, NoMemory>
+    ensures { IfOk result (λ t. t ≡ spec.first_flagged source.now.protocol.nodes (meeting source.now.protocol.nodes source.now.machine.role next.number) label numbers.now) }
+{
+    let protocol = source.protocol;
+    let machine = source.machine;
+    let flags = meeting(alloc, &protocol.nodes, machine.role, next.number)?;
+    Ok(first_flagged(&protocol.nodes, flags.as_slice(), label, numbers))
+}
+
+/// Of the talks for which the projection's state stands and that have the label the first behind which the role may meet the
+/// next talk first, by its arm with the label; where there is no next one, or none of them leads to it, the first.
+pub(crate) fn passed_talk(
+    alloc: Global,
     source: &WalkSource,
     above: u32,
     label: Label,
-) -> Result<(), NoMemory>
-    ensures { OnOk result (text.new ≡ text.old ++ spec.passed_text source.now above label) }
+    next: Option<TalkArm>,
+) -> Result<Option<TalkArm>, NoMemory>
+    ensures { IfOk result (λ t. t ≡ spec.passed_talk source.now above label next) }
 {
-    push_talk_arm(text, source, passed_talk(source, above, label))
+    let protocol = source.protocol;
+    let numbers = talks_of(source, above);
+    let first = first_talk(&protocol.nodes, label, numbers);
+    let Some(next) = next else {
+        return Ok(first);
+    };
+    if numbers.len() < 2 {
+        return Ok(first);
+    }
+    let before = talk_before(alloc, source, label, numbers, next)?;
+    if before.is_some() {
+        return Ok(before);
+    }
+    Ok(first)
 }
 
 /// Writes these talks, each with its position, or that the protocol has nothing more for the role.

@@ -87,6 +87,7 @@ fn owed_at_end(steps: &[WalkStep]) -> &[Act]
 
 // The steps of a walk: all of them, or up to the first of the rounds, and what the others add.
 fn push_folded<'a>(
+    alloc: Global,
     text: &mut Text,
     source: &WalkSource,
     first: &SpotRef<'a>,
@@ -96,9 +97,9 @@ fn push_folded<'a>(
     ensures { OnOk result (text.new ≡ text.old ++ spec.folded_text source.now first.now steps.now rounds) }
 {
     match rounds {
-        None => push_steps(text, source, first, steps),
+        None => push_steps(alloc, text, source, first, steps),
         Some(rounds) => {
-            push_steps(text, source, first, first_steps(steps, rounds.shown))?;
+            push_steps(alloc, text, source, first, first_steps(steps, rounds.shown))?;
             push_rounds_line(text, source, owed_at_end(steps), rounds)
         }
     }
@@ -126,5 +127,5 @@ pub fn push_walk(
         above: projection.machine.start,
     };
     let rounds = rounds_of(machine, &projection.machine, steps);
-    push_folded(text, source, &start, steps, rounds)
+    push_folded(alloc, text, source, &start, steps, rounds)
 }

@@ -1,18 +1,20 @@
 //! How a walk of a machine beside its projection is told: a line for each step.
 
-ghost use Rattle.std.specs.Prelude.{◌≡◌, ◌++◌, OnOk, Some, length, slice_get};
+ghost use Rattle.std.specs.Prelude.{◌≡◌, ◌<◌, ◌++◌, IfOk, OnOk, Some, length, slice_get};
 ghost use Rattle.rs_derive.specs.Rules.{arms_of};
+ghost use Rattle.rs_model.specs.FirstFailed.{or_later};
 ghost use Rattle.rs_walk_texts.specs.Walks as spec;
 
 use crate::acts::{push_label, push_maybe_act, push_role};
 use crate::heads::act_by;
-use crate::passed::{TalkArm, passed_talk, push_passed};
+use crate::passed::{TalkArm, passed_talk, push_talk_arm};
 use crate::positions::{position_of, push_at};
 use crate::sources::{SpotRef, WalkSource};
 use rs_derive::{Rule, arms_at, rule_at};
 use rs_explain::WalkStep;
 use rs_model::{Act, Arm, Names, NoMemory, State};
 use rs_text::Text;
+use std::alloc::Global;
 
 // The rule that applies at the spot.
 fn rule_of(source: &WalkSource, spot: &SpotRef) -> Option<Rule>
@@ -51,21 +53,121 @@ fn push_own(text: &mut Text, source: &WalkSource, spot: &SpotRef, arm: Arm) -> R
     push_at(text, position_of(source.states, spot.state))
 }
 
+// The arm of the projection's act that is passed by the rule, by the arm at the place.
+fn passed_arm(source: &WalkSource, spot: &SpotRef, place: u32, rule: Option<Rule>) -> Option<Arm>
+    ensures { result ≡ spec.passed_arm source.now spot.now place rule }
+{
+    match rule {
+        Some(Rule::SendsBoth) => {
+            let machine = source.machine;
+            arm_at(&machine.states, spot.state, place as usize)
+        }
+        Some(Rule::Guesses { .. } | Rule::Follows { .. }) => {
+            let projection = source.projection;
+            arm_at(&projection.machine.states, spot.above, place as usize)
+        }
+        Some(Rule::Pays { .. } | Rule::Stops) | None => None,
+    }
+}
+
+// The talk of that arm, before the next one.
+fn arm_talk(
+    alloc: Global,
+    source: &WalkSource,
+    spot: &SpotRef,
+    next: Option<TalkArm>,
+    arm: Option<Arm>,
+) -> Result<Option<TalkArm>, NoMemory>
+    ensures { IfOk result (λ t. t ≡ spec.arm_talk source.now spot.now next arm) }
+{
+    match arm {
+        Some(arm) => passed_talk(alloc, source, spot.above, arm.label, next),
+        None => Ok(None),
+    }
+}
+
+// The talk that a step by the arm at the place passes, before the next one.
+fn step_talk(
+    alloc: Global,
+    source: &WalkSource,
+    spot: &SpotRef,
+    step: &WalkStep,
+    next: Option<TalkArm>,
+) -> Result<Option<TalkArm>, NoMemory>
+    ensures { IfOk result (λ t. t ≡ spec.step_talk source.now spot.now step.now next) }
+{
+    let rule = rule_of(source, spot);
+    arm_talk(
+        alloc,
+        source,
+        spot,
+        next,
+        passed_arm(source, spot, step.place, rule),
+    )
+}
+
+// The spot before the step with the number.
+fn spot_before<'a>(first: &SpotRef<'a>, steps: &'a [WalkStep], number: usize) -> SpotRef<'a>
+    requires { number < length steps.now }
+    ensures { result ≡ spec.spot_before first.now steps.now number }
+{
+    if number > 0 {
+        return spot_behind(&steps[number - 1]);
+    }
+    SpotRef {
+        state: first.state,
+        pending: first.pending,
+        above: first.above,
+    }
+}
+
+fn or_later(talk: Option<TalkArm>, later: Option<TalkArm>) -> Option<TalkArm>
+    ensures { result ≡ or_later talk later }
+{
+    match talk {
+        Some(talk) => Some(talk),
+        None => later,
+    }
+}
+
+// Of each step of a walk from the spot the talk that it passes, so that the talks lie on one way.
+fn talks_along<'a>(
+    alloc: Global,
+    source: &WalkSource,
+    first: &SpotRef<'a>,
+    steps: &'a [WalkStep],
+) -> Result<Vec<Option<TalkArm>>, NoMemory>
+    ensures { IfOk result (λ v. v.items ≡ spec.talks_along source.now first.now steps.now) }
+{
+    let mut talks = vec![in alloc; None; steps.len()]?;
+    let mut next = None;
+    let mut left = steps.len();
+    while left > 0 {
+        left -= 1;
+        let spot = spot_before(first, steps, left);
+        let talk = step_talk(alloc, source, &spot, &steps[left], next)?;
+        talks[left] = talk;
+        next = or_later(talk, next);
+    }
+    Ok(talks)
+}
+
 // Both send, the machine by that arm of its own.
 fn push_both(
     text: &mut Text,
     source: &WalkSource,
     spot: &SpotRef,
+    talk: Option<TalkArm>,
     arm: Option<Arm>,
 ) -> Result<(), NoMemory>
-    ensures { OnOk result (text.new ≡ text.old ++ spec.both_text source.now spot.now arm) }
+    ensures { OnOk result (text.new ≡ text.old ++ spec.both_text source.now spot.now talk arm) }
 {
     let Some(arm) = arm else {
         return Ok(());
     };
     push_own(text, source, spot, arm)?;
     text.push(b", as ")?;
-    push_passed(text, source, spot.above, arm.label)
+    push_talk_arm(text, source, talk)
 }
 
 // What leads to a talk that is passed, of a choice between so many arms.
@@ -104,77 +206,79 @@ fn arms_above(source: &WalkSource, spot: &SpotRef) -> usize
     }
 }
 
-// The machine passes the act of the projection by that arm.
+// The machine passes the talk.
 fn push_due(
     text: &mut Text,
     source: &WalkSource,
     spot: &SpotRef,
-    arm: Option<Arm>,
+    talk: Option<TalkArm>,
 ) -> Result<(), NoMemory>
-    ensures { OnOk result (text.new ≡ text.old ++ spec.due_text source.now spot.now arm) }
+    ensures { OnOk result (text.new ≡ text.old ++ spec.due_text source.now spot.now talk) }
 {
-    let Some(arm) = arm else {
-        return Ok(());
-    };
-    let talk = passed_talk(source, spot.above, arm.label);
     push_due_head(text, source.names, arms_above(source, spot), talk)?;
-    push_passed(text, source, spot.above, arm.label)
+    push_talk_arm(text, source, talk)
 }
 
-// What is done at the spot by the rule, by the arm at the place.
+// What is done at the spot by the rule, by the arm at the place, where the step passes this talk.
 fn push_deed(
     text: &mut Text,
     source: &WalkSource,
     spot: &SpotRef,
     place: u32,
+    talk: Option<TalkArm>,
     rule: Option<Rule>,
 ) -> Result<(), NoMemory>
-    ensures { OnOk result (text.new ≡ text.old ++ spec.deed_text source.now spot.now place rule) }
+    ensures { OnOk result (text.new ≡ text.old ++ spec.deed_text source.now spot.now place talk rule) }
 {
     match rule {
-        Some(Rule::Pays { arm, .. }) => { push_own(text, source, spot, arm) }
+        Some(Rule::Pays { arm, .. }) => push_own(text, source, spot, arm),
         Some(Rule::SendsBoth) => {
             let machine = source.machine;
             let arm = arm_at(&machine.states, spot.state, place as usize);
-            push_both(text, source, spot, arm)
+            push_both(text, source, spot, talk, arm)
         }
-        Some(Rule::Guesses { .. } | Rule::Follows { .. }) => {
-            let projection = source.projection;
-            let arm = arm_at(&projection.machine.states, spot.above, place as usize);
-            push_due(text, source, spot, arm)
-        }
+        Some(Rule::Guesses { .. } | Rule::Follows { .. }) => push_due(text, source, spot, talk),
         Some(Rule::Stops) | None => Ok(()),
     }
 }
 
-// What is done at the spot, by the arm at the place.
-fn push_deed_at(
-    text: &mut Text,
-    source: &WalkSource,
-    spot: &SpotRef,
-    place: u32,
-) -> Result<(), NoMemory>
-    ensures { OnOk result (text.new ≡ text.old ++ spec.deed_text source.now spot.now place (spec.rule_of source.now spot.now)) }
-{
-    push_deed(text, source, spot, place, rule_of(source, spot))
-}
-
-// A line: what is done at the spot.
+// A line: what is done at the spot, where the step passes this talk.
 fn push_step(
     text: &mut Text,
     source: &WalkSource,
     spot: &SpotRef,
     step: &WalkStep,
+    talk: Option<TalkArm>,
 ) -> Result<(), NoMemory>
-    ensures { OnOk result (text.new ≡ text.old ++ spec.step_text source.now spot.now step.now) }
+    ensures { OnOk result (text.new ≡ text.old ++ spec.step_text source.now spot.now step.now talk) }
 {
     text.push(b"- ")?;
-    push_deed_at(text, source, spot, step.place)?;
+    push_deed(text, source, spot, step.place, talk, rule_of(source, spot))?;
     text.push(b"\n")
 }
 
-/// Writes a line for each step of a walk that begins at the spot. Refused memory is the only error.
+// A line for each step of a walk that begins at the spot, where the steps pass these talks.
+fn push_lines<'a>(
+    text: &mut Text,
+    source: &WalkSource,
+    first: &SpotRef<'a>,
+    steps: &'a [WalkStep],
+    talks: &[Option<TalkArm>],
+) -> Result<(), NoMemory>
+    requires { length talks.now ≡ length steps.now }
+    ensures { OnOk result (text.new ≡ text.old ++ spec.lines_text source.now first.now steps.now talks.now) }
+{
+    for i in 0..steps.len() {
+        let spot = spot_before(first, steps, i);
+        push_step(text, source, &spot, &steps[i], talks[i])?;
+    }
+    Ok(())
+}
+
+/// Writes a line for each step of a walk that begins at the spot, by talks that lie on one way. Refused memory is the only
+/// error.
 pub fn push_steps<'a>(
+    alloc: Global,
     text: &mut Text,
     source: &WalkSource,
     first: &SpotRef<'a>,
@@ -182,21 +286,8 @@ pub fn push_steps<'a>(
 ) -> Result<(), NoMemory>
     ensures { OnOk result (text.new ≡ text.old ++ spec.steps_text source.now first.now steps.now) }
 {
-    let mut state = first.state;
-    let mut pending = first.pending;
-    let mut above = first.above;
-    for step in steps {
-        let spot = SpotRef {
-            state,
-            pending,
-            above,
-        };
-        push_step(text, source, &spot, step)?;
-        state = step.state;
-        pending = &step.pending;
-        above = step.above;
-    }
-    Ok(())
+    let talks = talks_along(alloc, source, first, steps)?;
+    push_lines(text, source, first, steps, talks.as_slice())
 }
 
 /// The spot behind a step.

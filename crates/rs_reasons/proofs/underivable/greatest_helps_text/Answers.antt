@@ -20,7 +20,7 @@ explain_cut-requires-clause-helps c =
     let machine : c.source.inside.machine.now ≡ c.args.source.now.machine = ap (λ (x : WalkSource_data). x.machine) c.source.view_is in
     let above : c.projection.inside.machine ≡ c.args.source.now.projection.machine =
     ap (λ (x : Projection_data). x.machine) c.projection.view_is ∙ ap (λ (x : WalkSource_data). x.projection.machine) c.source.view_is in
-    subst₂ (λ (x : Machine_data) (y : Machine_data). AGreaterBoundHelps x y c.args.bound) (sym machine) (sym above)
+    subst₂ (λ (x : Machine_data) (y : Machine_data). AGreaterBoundHelps x y c.args.bound MOST_BOUND) (sym machine) (sym above)
     (canonical_helps c.args.source.now.machine c.args.source.now.projection.machine c.args.bound MOST_BOUND c.args.derivation.now c.requires.within c.requires.found)
 
 pub figures_of-figures-requires : goal.figures_of-figures-requires
@@ -35,7 +35,7 @@ returns c =
     mapped _ _ c.helped_text.result
     (λ lines e.
     GreatestHelps c.args.explanation.now c.requires.explained c.requires.hopeful c.args.derivation.now c.requires.found c.in_ok-steps.steps.items
-    (subst₂ (λ (x : Machine_data) (y : Machine_data). IsFirstCutWalk x y c.args.bound (start_spot x y) c.in_ok-steps.steps.items) machine above c.in_ok-steps.ensures)
+    (subst₂ (λ (x : Machine_data) (y : Machine_data). IsFirstCutWalk x y c.args.bound MOST_BOUND (start_spot x y) c.in_ok-steps.steps.items) machine above c.in_ok-steps.ensures)
     (e
     ∙ ap₂ (λ (z : List WalkStep_data) (k : ℕ). way_text s c.args.bound z Cut ++ with_bound_line k (name_at s.names.roles s.machine.role.0 ++ codes " is accepted")) c.as_slice.ensures.value
     (ap (λ (z : Figures). z.owed) c.figures_of-figures.ensures))) c.helped_text.ensures

@@ -5,5 +5,5 @@ use Rattle.rs_walk_texts.proofs.alike.nearest_of_theirs.Given as goal
 
 abbrev pub invariant-loop-arm : goal.invariant-loop-arm
 invariant-loop-arm l =
-    find (is_slip l.source l.spot) (map (λ a. label_pair l.own a.label) (drop l.arm-index l.arms))
-    ≡ find (is_slip l.source l.spot) (map (λ a. label_pair l.own a.label) l.arms)
+    find (is_slip l.source l.spot l.far) (map (λ a. label_pair l.own a.label) (drop l.arm-index l.arms))
+    ≡ find (is_slip l.source l.spot l.far) (map (λ a. label_pair l.own a.label) l.arms)
