@@ -4,3 +4,4 @@ mod Keeping
 mod Places
 mod Received
 mod Spent
+mod Seen

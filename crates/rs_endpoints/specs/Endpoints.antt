@@ -1,18 +1,19 @@
 -- Public: what contracts see of endpoints, and what their acts tell.
-use Rattle.std.specs.Prelude.{◌≡◌, ℕ, ◌<◌, ◌^◌, List, [], Option, Some, None, true, length, slice_get}
+use Rattle.std.specs.Prelude.{◌≡◌, ℕ, ◌<◌, ◌^◌, Bool, List, [], Option, Some, None, true, false, length, slice_get}
 use Rattle.rs_model.specs.Data.{Machine_data}
 use Rattle.rs_model.specs.declared.graph.Arm.{Arm}
 use Rattle.rs_model.specs.declared.graph.Label.{Label}
 use Rattle.rs_model.specs.declared.graph.Role.{Role}
 use Rattle.rs_model.specs.declared.machines.State.{State}
 use Rattle.rs_model.specs.declared.machines.State.TheVariants.{Puts}
+use Rattle.rs_model.specs.declared.values.Sort.{Sort}
 use Rattle.rs_model.specs.declared.values.Value.{Value}
 use Rattle.rs_core.specs.Choosable.{label_of}
 use Rattle.rs_rings.specs.Acts.{parcels_sent, parcels_got}
 use Rattle.rs_rings.specs.Closed.{IsLeft, loose_in}
 use Rattle.rs_rings.specs.Passes.{Rings_data}
 use Rattle.rs_slots.specs.Places.{ring_count}
-use Rattle.rs_session.specs.Acts.{SendsBy, ReceivesBy, IsSent, IsHandedBack, IsGot, IsKept}
+use Rattle.rs_session.specs.Acts.{SendsBy, ReceivesBy, RoomTells, IsSent, IsHandedBack, IsGot, IsKept}
 use Rattle.rs_session.specs.Data.{Stage_data}
 use Rattle.rs_session.specs.Stages.{IsOf, IsReceiving, first_stage, sight_of_stage, state_of_stage}
 use Rattle.rs_session.specs.declared.leaving.LeftOver.{LeftOver}
@@ -22,6 +23,8 @@ use Rattle.rs_endpoints.specs.declared.acts.Posted.{Posted}
 use Rattle.rs_endpoints.specs.declared.acts.Posted.TheVariants as posted
 use Rattle.rs_endpoints.specs.declared.acts.Fetched.{Fetched}
 use Rattle.rs_endpoints.specs.declared.acts.Fetched.TheVariants as fetched
+use Rattle.rs_endpoints.specs.declared.acts.Room.{Room}
+use Rattle.rs_endpoints.specs.declared.acts.Room.TheVariants as room
 
 -- what contracts see of an endpoint: its session, and its role's stage
 pub record Endpoint_data : Type 0 where
@@ -56,6 +59,23 @@ pub record MaySend (endpoint : Endpoint_data) (place : ℕ) (value : Value) : Ty
   pub by : SendsBy endpoint.session stage place value
   pub acts : length stage.part.history < 2 ^ 63
 
+-- the stage stands at a state that sends to the peer, and the arm at that place is of the sort
+pub record SendsSort (session : Rings_data) (stage : Stage_data) (place : ℕ) (sort : Sort) : Type 0 where
+  pub peer : Role
+  pub arms : List Arm
+  pub arm : Arm
+  pub stands : state_of_stage session stage ≡ Some (Puts peer arms)
+  pub picks : slice_get arms place ≡ Some arm
+  pub of_sort : arm.sort ≡ sort
+
+-- the role may look for room for a value of the sort: its state sends one by the arm at that place, and its acts so far can be
+-- counted on
+pub record MayLook (endpoint : Endpoint_data) (place : ℕ) (sort : Sort) : Type 0 where
+  pub stage : Stage_data
+  pub stands : endpoint.stage ≡ Some (Sending stage)
+  pub by : SendsSort endpoint.session stage place sort
+  pub acts : length stage.part.history < 2 ^ 63
+
 -- the role may receive
 pub record MayReceive (endpoint : Endpoint_data) : Type 0 where
   pub stage : Stage_data
@@ -74,6 +94,22 @@ PostTells old place value new posted.Went = (stage : Stage_data) × (next : Stag
 PostTells old place value new (posted.Full back) =
     (stage : Stage_data) × (same : Stage_data) × (sent : ℕ) × (taken : ℕ) × (old.stage ≡ Some (Sending stage)) × IsHandedBack old.session stage place value same back sent taken × GoesTo old new (Sending same)
 PostTells old place value new (posted.Refused back) = (back ≡ value) × (new ≡ old) × (MaySend old place value → ⊥)
+
+-- the role looked for room, and stands at the same state: only what is known of the ring has changed
+pub record HasLooked (old : Endpoint_data) (place : ℕ) (sort : Sort) (new : Endpoint_data) (found : Bool) : Type 0 where
+  pub stage : Stage_data
+  pub seen : Stage_data
+  pub stands : old.stage ≡ Some (Sending stage)
+  pub by : SendsSort old.session stage place sort
+  pub told : RoomTells old.session stage seen found
+  pub goes : GoesTo old new (Sending seen)
+
+-- what a look for room tells: there is room; the ring was full; or the role may not send a value of the sort by the arm at that
+-- place, and nothing has changed
+abbrev pub LookTells : Endpoint_data → ℕ → Sort → Endpoint_data → Room → Type 0
+LookTells old place sort new room.Free = HasLooked old place sort new true
+LookTells old place sort new room.Full = HasLooked old place sort new false
+LookTells old place sort new room.Refused = (new ≡ old) × (MayLook old place sort → ⊥)
 
 -- nothing will come to the role any more: the pass of the peer from which it receives was given up, and lies with the session; it
 -- has sent so many parcels to the role as the role has got

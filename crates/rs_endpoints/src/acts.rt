@@ -2,10 +2,11 @@
 ghost use Rattle.std.specs.Prelude.{◌≡◌, ◌<◌, ◌^◌, ℕ, IfNone, IfSome, Some, false, length, slice_get, true};
 ghost use Rattle.rs_core.specs.Choosable.{label_of};
 ghost use Rattle.rs_model.specs.declared.machines.State.TheVariants.{Puts, Takes};
+ghost use Rattle.rs_endpoints.specs.Endpoints.{SendsSort};
 ghost use Rattle.rs_session.specs.Acts.{SendsBy};
 ghost use Rattle.rs_session.specs.Stages.{IsReceiving, IsSending, state_of_stage};
 
-use rs_model::{Arm, Label, Role, State, Value};
+use rs_model::{Arm, Label, Role, Sort, State, Value};
 use rs_session::{Receiving, Sending, Session};
 
 /// So many acts a role makes at most: no program makes them in a thousand years.
@@ -20,6 +21,17 @@ pub enum Posted {
     Full { value: Value },
     /// The role's state has no such arm, or the value isn't of the arm's sort. Nothing was looked at, and the value comes back.
     Refused { value: Value },
+}
+
+/// What a look for room found.
+#[derive(Drop)]
+pub enum Room {
+    /// The ring has room. Only this role sends into it, so its next send isn't answered by [`Posted::Full`].
+    Free,
+    /// The ring was full when the call looked.
+    Full,
+    /// The role's state has no arm of that sort at that place. Nothing was looked at.
+    Refused,
 }
 
 /// What a receive did.
@@ -77,6 +89,29 @@ pub(crate) fn may_send(session: &Session, stage: &Sending, place: u16, value: &V
     ensures no { result ≡ false → SendsBy session.now stage.now place value.now → length stage.now.part.history < 2 ^ 63 → ⊥ }
 {
     stage.acts() < MOST_ACTS && sends_by(session, stage, place, value)
+}
+
+/// Whether the role's state sends values of the sort by an arm at that place.
+fn sends_sort(session: &Session, stage: &Sending, place: u16, sort: Sort) -> bool
+    requires { IsSending session.now stage.now }
+    ensures yes { result ≡ true → SendsSort session.now stage.now place sort }
+    ensures no { result ≡ false → SendsSort session.now stage.now place sort → ⊥ }
+{
+    let (_, arms) = sending_arms(session, stage);
+    match arms.get(place as usize) {
+        Some(arm) => arm.sort == sort,
+        None => false,
+    }
+}
+
+/// Whether the role may look for room for a value of the sort by an arm at that place.
+pub(crate) fn may_look(session: &Session, stage: &Sending, place: u16, sort: Sort) -> bool
+    requires { IsSending session.now stage.now }
+    ensures by { result ≡ true → SendsSort session.now stage.now place sort }
+    ensures acts { result ≡ true → length stage.now.part.history < 2 ^ 63 }
+    ensures no { result ≡ false → SendsSort session.now stage.now place sort → length stage.now.part.history < 2 ^ 63 → ⊥ }
+{
+    stage.acts() < MOST_ACTS && sends_sort(session, stage, place, sort)
 }
 
 /// Whether the role may receive.

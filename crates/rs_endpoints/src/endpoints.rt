@@ -2,13 +2,15 @@
 ghost use Rattle.std.specs.Arc.{arc_value};
 ghost use Rattle.std.specs.Prelude.{◌≡◌, ◌↔◌, ◌<◌, ◌≤◌, ◌^◌, ℕ, IfNone, IfOk, IfSome, IsSome, IsTrue, None, Some, slice_get};
 ghost use Rattle.rs_core.specs.Configurations.{state_of};
-ghost use Rattle.rs_endpoints.specs.Endpoints.{FetchTells, HasArmFor, IsLeftOf, IsOfRole, IsWhole, PostTells, StandsAt, endpoint_at};
+ghost use Rattle.rs_endpoints.specs.Endpoints.{FetchTells, HasArmFor, IsLeftOf, IsOfRole, IsWhole, LookTells, PostTells, StandsAt, endpoint_at};
 ghost use Rattle.rs_session.specs.Stages.{IsOf};
 ghost use Rattle.rs_model.specs.declared.machines.State.TheVariants.{Done};
 
-use crate::acts::{Fetched, Posted, may_receive, may_send, place_of, receiving_arms};
+use crate::acts::{
+    Fetched, Posted, Room, may_look, may_receive, may_send, place_of, receiving_arms,
+};
 use crate::sharing::Shared;
-use rs_model::{Label, NoMemory, Role, State, Value};
+use rs_model::{Label, NoMemory, Role, Sort, State, Value};
 use rs_session::{LeftOver, Sent, Session, Stage, Taken};
 use std::alloc::Global;
 use std::marker::Model;
@@ -126,6 +128,36 @@ impl Endpoint {
                 Posted::Refused { value }
             }
             None => Posted::Refused { value },
+        }
+    }
+
+    /// Whether the ring has room for a value of the sort, sent by the arm at that place of the role's state. It looks once at the
+    /// ring, takes no memory, and never waits.
+    ///
+    /// A value that is costly to make is made only after `Room::Free`: the next [`Endpoint::send`] isn't answered by
+    /// [`Posted::Full`] then ([`seen_room_stays`](crate::laws::seen_room_stays)). The role stands where it stood.
+    pub fn look_for_room(&mut self, place: u16, sort: Sort) -> Room
+        ensures told { LookTells self.old place sort self.new result }
+    {
+        match taken(&mut self.stage) {
+            Some(Stage::Sending(mut sending)) => {
+                if !may_look(&self.shared.session, &sending, place, sort) {
+                    put(&mut self.stage, Stage::Sending(sending));
+                    return Room::Refused;
+                }
+                let is_free = sending.has_room(&self.shared.session);
+                put(&mut self.stage, Stage::Sending(sending));
+                if is_free { Room::Free } else { Room::Full }
+            }
+            Some(Stage::Receiving(receiving)) => {
+                put(&mut self.stage, Stage::Receiving(receiving));
+                Room::Refused
+            }
+            Some(Stage::Ended(ended)) => {
+                put(&mut self.stage, Stage::Ended(ended));
+                Room::Refused
+            }
+            None => Room::Refused,
         }
     }
 

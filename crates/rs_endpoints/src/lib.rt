@@ -4,10 +4,11 @@
 
 mod acts;
 mod endpoints;
+pub mod laws;
 mod lockers;
 mod sharing;
 mod starting;
 
-pub use acts::{Fetched, Posted};
+pub use acts::{Fetched, Posted, Room};
 pub use endpoints::Endpoint;
 pub use starting::begin;

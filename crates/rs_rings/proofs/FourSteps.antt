@@ -18,7 +18,7 @@ use Rattle.rs_rings.specs.declared.views.Key.{Key}
 use Rattle.rs_rings.specs.Acts.{role_of_number, sent_act, got_act, message_of, Happened, HadTaken, HadPut, MayPut, MayTake, parcels_sent, parcels_got, parcel_sent, parcel_got}
 use Rattle.rs_rings.specs.Places.{head_word_of, tail_of, slot_place}
 use Rattle.rs_rings.specs.Rule.{RingFacts, RingRule, ring_facts, AreLegal, RingsShow, machines_in_key, configuration_by, histories_of}
-use Rattle.rs_rings.specs.Steps.{HasFittingArm, Call, LoadsHead, StoresTail, LoadsTail, StoresHead, GivesEmptied}
+use Rattle.rs_rings.specs.Steps.{HasFittingArm, Call, LoadsHead, LooksAtHead, StoresTail, LoadsTail, StoresHead, GivesEmptied}
 use Rattle.rs_rings.specs.Views.{last_found, loads_with, stamp_with, stamps_with, is_putting, parcel_in_hand}
 use Rattle.rs_rings.specs.Views.{speaks, the_part, view_with_part, part_with_room, gaining, sending, part_with_parcel, taking, getting, KnowsGot, KnowsSent}
 use Rattle.rs_rings.specs.Views.{KnowsOldest}
@@ -212,6 +212,43 @@ module _ (key : Key) (slots id : ℕ) (me : Me (Option Parcel) View) (p q next :
             (same_legal (machines_in_key key) sh.known p (gaining q r a) (ap (λ (z : Part). z.state) (sym is)) (ap (λ (z : Part). z.history) (sym is)) sh.legal)),
         (seen, (let g : r ≤ sent = omega arith in g), (let g : sent ≤ r + c' = omega arith in g), (λ e. absurd (more e)), (λ _. refl), knows, read),
       ))
+
+  -- kind 1, where the sender only looks
+  pub looks_at_head : speaks p me.0.parts ≡ true → q < n' → Allows (RingsShow key) slots id me (head_word_of n' p q) (λ k. k) (LooksAtHead w (step slots (head_word_of n' p q) 0 0 none) me)
+  looks_at_head says below s sh long at small =
+      let v : View = me.0 in let a : Part = the_part p v.parts in let b : Part = sh.known q in let kn = known_is n' sh.owner sh.known s.views sh.spoken id v at p says in let is = kn.1 in
+      let fl : RingRule c' (ring_facts n' c' s.words s.homes p q a b) = subst (λ (z : Part). RingRule c' (ring_facts n' c' s.words s.homes p q z b)) is (sh.rings p q kn.0 below apart) in
+      let i : ℕ = head_word_of n' p q in let r : ℕ = slice_index s.words i in let hd : r ≡ length (parcels_got p b.history) = fl.head_is in let room = fl.room in let role =
+      the_role p v.parts says in
+      let seen : last_found q a.heads ≤ r = (let z = fl.read_head in omega arith) in
+      let knows : KnowsGot v p q r = λ too. hd ∙ ap (λ (z : Part). length (parcels_got p z.history)) (known_is n' sh.owner sh.known s.views sh.spoken id v at q too).1 in
+      let read : HadTaken (machines_in_key key) p a.history q r
+      = record { histories = histories_of sh.known; moment = configuration_by sh.known; legal = sh.legal; own = ap (λ (z : Part). z.history) is; taken = hd } in
+      let sent : ℕ = length (parcels_sent q a.history) in let bh : length (parcels_got p b.history) ≤ sent = behind c' (ring_facts n' c' s.words s.homes p q a b) fl in (
+        view_with_part p (part_with_room q r a) v,
+        keeps,
+        tt,
+        same_words key s i s.homes _ (sender_shows key s sh id v at p q apart s.words s.homes (λ x y l not. (refl, refl, λ k. refl)) refl refl says (part_with_room q r a) role
+            (λ y ny. (refl, found_other y q r a.heads ny, refl, loads_other y q r a.heads ny, refl)) (λ x. (refl, refl, refl, refl, refl))
+            (subst (RingRule c') (λ j. record {
+              tail = slice_index s.words (tail_of n' p q);
+              head = r;
+              slot = λ k. get_elem? s.homes (slot_place n' c' p q k);
+              sent = parcels_sent q a.history;
+              got = parcels_got p b.history;
+              seen_head = sym (found_here q r a.heads) j;
+              seen_tail = last_found p b.tails;
+              head_loads = sym (loads_here q r a.heads) j;
+              tail_loads = loads_with p b.tails;
+              put_stamps = stamps_with q a.put_stamps;
+              take_stamps = stamps_with p b.take_stamps;
+              putting = is_putting q a.middle;
+              taking = parcel_in_hand p b.middle;
+            })
+            (looks_head c' (ring_facts n' c' s.words s.homes p q a b) fl r seen (omega arith)))
+            (same_legal (machines_in_key key) sh.known p (part_with_room q r a) (ap (λ (z : Part). z.state) (sym is)) (ap (λ (z : Part). z.history) (sym is)) sh.legal)),
+        (seen, (let g : r ≤ sent = omega arith in g), (let g : sent ≤ r + c' = omega arith in g), refl, knows, read),
+      )
 
   -- kind 3
   pub sees_tail : speaks q me.0.parts ≡ true → p < n' → (the_part q me.0.parts).middle ≡ Idle

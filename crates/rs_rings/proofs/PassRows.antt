@@ -23,7 +23,7 @@ use Rattle.rs_slots.specs.declared.parcels.Parcel.{Parcel}
 use Rattle.rs_slots.specs.Places.{IsPair}
 use Rattle.rs_rings.specs.Asked.{IsIdleAt, MayAct}
 use Rattle.rs_rings.specs.Acts.{role_of_number, sent_act, got_act, MayPut, parcels_sent, parcels_got, parcel_sent, parcel_got}
-use Rattle.rs_rings.specs.Passes.{CanPut, CanTake, IsChanged}
+use Rattle.rs_rings.specs.Passes.{CanPut, CanTake, IsChanged, SendsTo}
 use Rattle.rs_rings.specs.Rows.{row_at, with_sent_count, with_got_count, new_row, either_row, row_at_start, RowShows, IsBetweenCalls}
 use Rattle.rs_rings.specs.Told.{arms_in_state, IsAfter}
 use Rattle.rs_rings.specs.Views.{starting, speaks, the_part, parts_without, view_without_role, alone, joint_view, start_of, gaining, sending, taking, getting}
@@ -250,8 +250,8 @@ some_arm ms p q s x can = by (arm_with can.1.arms x.label) refl
     by None e = absurd (arm_found can.1.arms x.label can.1.place can.1.arm can.1.picks can.1.same_label e)
     by (Some arm) e = (arm, e)
 
-pub put_pair : (ms : List Machine_data) (p : ℕ) (q : Role) (s : ℕ) (x : Parcel) → AreWellFormed ms → CanPut ms p q s x → IsPair (length ms) p q.0
-put_pair ms p q s x well_formed can = let at = here_is (slice_get ms p) s (Puts q can.1.arms) can.1.puts in let fit = (well_formed.fits p at.0 at.1).puts s q can.1.arms at.2 in
+pub send_pair : (ms : List Machine_data) (p : ℕ) (q : Role) (s : ℕ) → AreWellFormed ms → SendsTo ms p q s → IsPair (length ms) p q.0
+send_pair ms p q s well_formed sends = let at = here_is (slice_get ms p) s (Puts q sends.arms) sends.puts in let fit = (well_formed.fits p at.0 at.1).puts s q sends.arms at.2 in
     record { sender = slice_get_within ms p at.0 at.1; receiver = fit.known; differ = λ e. fit.other (ap role_of_number (sym e ∙ sym (well_formed.role p at.0 at.1))) }
 
 pub take_pair : (ms : List Machine_data) (q : ℕ) (p : Role) (s : ℕ) → AreWellFormed ms → CanTake ms q p s → IsPair (length ms) q p.0
@@ -295,7 +295,7 @@ changed p y v m a = record { part = a.part; spoken = a.spoken; others = a.others
 pub idle_at : (r : ℕ) (m : M) (items : Items) → MayAct r m items → IsIdleAt r m
 idle_at r m items a = record { speaks_for = a.speaks_for; idle = a.between.idle r a.speaks_for; empty = a.between.empty }
 
--- what a put knows of its sender p, of whom a is known, and of its receiver, by the counts that it reads
+-- what a put, or a look for room, knows of its sender p, of whom a is known, and of its receiver, by the counts that it reads
 pub record PutKnows (roles p q : ℕ) (a : Part) (state sent : ℕ) : Type 0 where
   pub pair : IsPair roles p q
   pub small : (p < 16) × (q < 16)
@@ -303,20 +303,28 @@ pub record PutKnows (roles p q : ℕ) (a : Part) (state sent : ℕ) : Type 0 whe
   pub sent_is : sent ≡ length (parcels_sent q a.history)
   pub acts : sent < 9223372036854775808
 
-pub put_knows : (ms : List Machine_data) (roles p : ℕ) (q : Role) (m : M) (items : Items) (x : Parcel) (state sent got : ℕ) → length ms ≡ roles → roles ≤ 16 → AreWellFormed ms → IsBetweenCalls m items
+pub sender_knows : (ms : List Machine_data) (roles p : ℕ) (q : Role) (m : M) (items : Items) (state sent got : ℕ) → length ms ≡ roles → roles ≤ 16 → AreWellFormed ms → IsBetweenCalls m items
     → speaks p m.0.parts ≡ true
-    → CanPut ms p q (the_part p m.0.parts).state x → length (the_part p m.0.parts).history < 9223372036854775808
+    → SendsTo ms p q (the_part p m.0.parts).state → length (the_part p m.0.parts).history < 9223372036854775808
     → ((r : Row) → row_at items p ≡ Some r → (state ≡ r.state) × (slice_get r.sent q.0 ≡ Some sent) × (slice_get r.got q.0 ≡ Some got))
     → PutKnows roles p q.0 (the_part p m.0.parts) state sent
-put_knows ms roles p q m items x state sent got many few well_formed kept says can short reads =
+sender_knows ms roles p q m items state sent got many few well_formed kept says sends short reads =
     let a : Part = the_part p m.0.parts in let t = kept.rows p says in let k = reads t.0 t.1 in
-    let pair : IsPair roles p q.0 = subst (λ (z : ℕ). IsPair z p q.0) many (put_pair ms p q a.state x well_formed can) in
+    let pair : IsPair roles p q.0 = subst (λ (z : ℕ). IsPair z p q.0) many (send_pair ms p q a.state well_formed sends) in
     let one = pair.sender in let other = pair.receiver in
     let small : p < 16 = omega arith in
     let small' : q.0 < 16 = omega arith in
     let is : sent ≡ length (parcels_sent q.0 a.history) = count_is t.0 t.0.sent q.0 sent (length (parcels_sent q.0 a.history)) k.1 (t.2.sent q.0 small') in
     let f = few_sent q.0 a.history in
     record { pair = pair; small = (small, small'); state_is = k.0 ∙ t.2.state; sent_is = is; acts = omega arith }
+
+pub put_knows : (ms : List Machine_data) (roles p : ℕ) (q : Role) (m : M) (items : Items) (x : Parcel) (state sent got : ℕ) → length ms ≡ roles → roles ≤ 16 → AreWellFormed ms → IsBetweenCalls m items
+    → speaks p m.0.parts ≡ true
+    → CanPut ms p q (the_part p m.0.parts).state x → length (the_part p m.0.parts).history < 9223372036854775808
+    → ((r : Row) → row_at items p ≡ Some r → (state ≡ r.state) × (slice_get r.sent q.0 ≡ Some sent) × (slice_get r.got q.0 ≡ Some got))
+    → PutKnows roles p q.0 (the_part p m.0.parts) state sent
+put_knows ms roles p q m items x state sent got many few well_formed kept says can short reads =
+    sender_knows ms roles p q m items state sent got many few well_formed kept says record { arms = can.1.arms; puts = can.1.puts } short reads
 
 -- what a take knows of its receiver q, of whom b is known, and of its sender, by the counts that it reads
 pub record TakeKnows (roles p q : ℕ) (b : Part) (got : ℕ) : Type 0 where

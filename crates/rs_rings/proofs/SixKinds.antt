@@ -12,7 +12,7 @@ use Rattle.rs_rings.specs.Asked.{IsCallStep}
 use Rattle.rs_rings.specs.Places.{head_word_of, tail_of}
 use Rattle.rs_rings.specs.Rule.{RingsShow, machines_in_key}
 use Rattle.rs_rings.specs.Shown.{Moves, LoadsHeadOf, StoresTailOf, LoadsTailOf, StoresHeadOf}
-use Rattle.rs_rings.specs.Steps.{Call, LoadsHead, StoresTail, LoadsTail, StoresHead, GivesFilled, GivesEmptied}
+use Rattle.rs_rings.specs.Steps.{Call, LoadsHead, LooksAtHead, StoresTail, LoadsTail, StoresHead, GivesFilled, GivesEmptied}
 use Rattle.rs_rings.specs.Views.{speaks, the_part, view_with_part, part_with_room, gaining, sending, part_with_parcel, taking, getting}
 use Rattle.rs_rings.specs.declared.views.Key.{Key}
 use Rattle.rs_rings.specs.declared.views.Middle.{Middle}
@@ -93,6 +93,18 @@ module _ (key : Key) (s t : St) (call : Call) (p q : ℕ) (m m' : M) (st : Step 
         looks = inr refl;
         moves = moved key s t call p q w r m m' p e (gaining q r a) (ap (λ (z : M). z.0) (l.4 more));
       })
+
+  pub head_looked_at : IsCallStep key s t p p q (head_word_of key.roles p q) (slice_index s.words (head_word_of key.roles p q)) call m m'
+      → LooksAtHead call st m (slice_index s.words (head_word_of key.roles p q)) m' → LoadsHeadOf key s t p q
+  head_looked_at e told =
+      let w : ℕ = head_word_of key.roles p q in let r : ℕ = slice_index s.words w in let a : Part = the_part p m.0.parts in
+      let l : LooksAtHead ring_call st m r m' = subst (λ (u : Call). LooksAtHead u st m r m') (call_is key s t call p q w r m m' p e) told in
+      record {
+        knew = a;
+        knows = part_with_room q r a;
+        looks = inl refl;
+        moves = moved key s t call p q w r m m' p e (part_with_room q r a) (ap (λ (z : M). z.0) l.3);
+      }
 
   pub tail_loaded : IsCallStep key s t q p q (tail_of key.roles p q) (slice_index s.words (tail_of key.roles p q)) call m m'
       → LoadsTail call st m (slice_index s.words (tail_of key.roles p q)) m' → LoadsTailOf key s t p q

@@ -15,11 +15,11 @@ use Rattle.rs_rings.specs.Acts.{role_of_number, sent_act, got_act, Happened, May
 use Rattle.rs_rings.specs.Asked.{IsCallOn}
 use Rattle.rs_rings.specs.Places.{head_word_of, tail_of, slot_place}
 use Rattle.rs_rings.specs.Rule.{RingsShow, machines_in_key}
-use Rattle.rs_rings.specs.Steps.{Call, LoadsHead, StoresTail, LoadsTail, StoresHead, GivesFilled, GivesEmptied, own}
+use Rattle.rs_rings.specs.Steps.{Call, LoadsHead, LooksAtHead, StoresTail, LoadsTail, StoresHead, GivesFilled, GivesEmptied, own}
 use Rattle.rs_rings.specs.Told.{IsAfter}
 use Rattle.rs_rings.specs.Views.{speaks, the_part, view_with_part, sending, taking, getting}
 use Rattle.rs_rings.proofs.Parts.{the_role, speaks_put, the_put_here, the_put_other}
-use Rattle.rs_rings.proofs.FourSteps.{sees_head, stores_tail, sees_tail, stores_head}
+use Rattle.rs_rings.proofs.FourSteps.{sees_head, looks_at_head, stores_tail, sees_tail, stores_head}
 
 abbrev M : Type 0
 M = Me (Option Parcel) View
@@ -69,6 +69,12 @@ module _ (key : Key) (w : Call) (n cap p q : ℕ) (kn : key.roles ≡ n) (kc : k
       (lift (λ a b u. q < a → Allows (RingsShow key) slots id me (head_word_of a p q) (λ k. k) (LoadsHead u (step slots (head_word_of a p q) 0 0 none) me))
       (λ below'. sees_head key slots id me p q w.next w.arms apart says below' idle) below)
 
+  pub room_asks : (i : ℕ) → i ≡ head_word_of n p q → (me : M) → speaks p me.0.parts ≡ true → q < n
+      → Allows (RingsShow key) slots id me i (λ k. k) (LooksAtHead w (step slots i 0 0 none) me)
+  room_asks i at me says below = subst (λ (i : ℕ). Allows (RingsShow key) slots id me i (λ k. k) (LooksAtHead w (step slots i 0 0 none) me)) (sym at)
+      (lift (λ a b u. q < a → Allows (RingsShow key) slots id me (head_word_of a p q) (λ k. k) (LooksAtHead u (step slots (head_word_of a p q) 0 0 none) me))
+      (λ below'. looks_at_head key slots id me p q w.next w.arms apart says below') below)
+
   pub tail_asks : (i : ℕ) → i ≡ tail_of n p q → (me : M) → speaks q me.0.parts ≡ true → p < n → (the_part q me.0.parts).middle ≡ Idle
       → state_of (slice_get (machines_in_key key) q) (the_part q me.0.parts).state ≡ Some (Takes (role_of_number p) w.arms)
       → Allows (RingsShow key) slots id me i (λ k. k) (LoadsTail w (step slots i 0 0 none) me)
@@ -111,6 +117,9 @@ module _ (key : Key) (w : Call) (n cap p q : ℕ) (kn : key.roles ≡ n) (kc : k
   -- the same, of what a load told
   pub head_loaded : (st : Step (Option Parcel)) (m m' : M) (r : ℕ) → LoadsHead w st m r m' → LoadsHead (named n cap p q w.next w.arms (machines_in_key key)) st m r m'
   head_loaded st m m' r t = subst (λ (u : Call). LoadsHead u st m r m') (is_named w n cap p q (machines_in_key key) nm) t
+
+  pub head_looked_at : (st : Step (Option Parcel)) (m m' : M) (r : ℕ) → LooksAtHead w st m r m' → LooksAtHead (named n cap p q w.next w.arms (machines_in_key key)) st m r m'
+  head_looked_at st m m' r t = subst (λ (u : Call). LooksAtHead u st m r m') (is_named w n cap p q (machines_in_key key) nm) t
 
   pub tail_loaded : (st : Step (Option Parcel)) (m m' : M) (r : ℕ) → LoadsTail w st m r m' → LoadsTail (named n cap p q w.next w.arms (machines_in_key key)) st m r m'
   tail_loaded st m m' r t = subst (λ (u : Call). LoadsTail u st m r m') (is_named w n cap p q (machines_in_key key) nm) t

@@ -1,10 +1,10 @@
 -- Public: what contracts see of rings and passes, and what the calls on them tell.
-use Rattle.std.specs.Prelude.{◌≡◌, ◌≢◌, ℕ, ◌+◌, ◌<◌, ◌≤◌, List, length, Some, slice_get}
+use Rattle.std.specs.Prelude.{◌≡◌, ◌≢◌, ℕ, ◌+◌, ◌<◌, ◌≤◌, Bool, true, false, List, length, Some, slice_get}
 use Rattle.atomic_table.specs.Seated.{TableId}
 use Rattle.rs_model.specs.Data.{Machine_data}
 use Rattle.rs_model.specs.declared.graph.Arm.{Arm}
 use Rattle.rs_model.specs.declared.graph.Role.{Role}
-use Rattle.rs_model.specs.declared.machines.State.TheVariants.{Takes}
+use Rattle.rs_model.specs.declared.machines.State.TheVariants.{Puts, Takes}
 use Rattle.rs_core.specs.Choosable.{label_of}
 use Rattle.rs_core.specs.Configurations.{state_of}
 use Rattle.rs_slots.specs.declared.parcels.Parcel.{Parcel}
@@ -40,11 +40,33 @@ pub record CanTake (machines : List Machine_data) (q : ℕ) (p : Role) (s : ℕ)
   pub arms : List Arm
   pub takes : state_of (slice_get machines q) s ≡ Some (Takes p arms)
 
+-- role p, in state s, sends to q
+pub record SendsTo (machines : List Machine_data) (p : ℕ) (q : Role) (s : ℕ) : Type 0 where
+  pub arms : List Arm
+  pub puts : state_of (slice_get machines p) s ≡ Some (Puts q arms)
+
 -- what the pass knows of p is y now, and all else that it knows is as it was
 pub record IsChanged (p : ℕ) (y : Part) (v w : View) : Type 0 where
   pub part : the_part p w.parts ≡ y
   pub spoken : (r : ℕ) → speaks r w.parts ≡ speaks r v.parts
   pub others : (r : ℕ) → r ≢ p → the_part r w.parts ≡ the_part r v.parts
+
+-- what a look for room in the ring from p to q tells, by which the pass's view v became w: the one load read the number `taken`
+-- of parcels that q had taken, and there is room if p has sent less than the capacity more. A pass that speaks for q too knows
+-- that number
+pub record RoomTells (machines : List Machine_data) (capacity p q : ℕ) (v w : View) (room : Bool) : Type 0 where
+  pub taken : ℕ
+  pub not_less : last_found q (part_of v p).heads ≤ taken
+  pub not_more : taken ≤ length (parcels_sent q (part_of v p).history)
+  pub some : room ≡ true → length (parcels_sent q (part_of v p).history) < taken + capacity
+  pub none : room ≡ false → length (parcels_sent q (part_of v p).history) ≡ taken + capacity
+  pub changed : IsChanged p (part_with_room q taken (part_of v p)) v w
+  pub knows : KnowsGot v p q taken
+  pub read : HadTaken machines p (part_of v p).history q taken
+
+-- of a sender this is known: by the number that it last read of its ring to q, one parcel more has room there
+abbrev pub HasSeenRoom : ℕ → ℕ → Part → Type 0
+HasSeenRoom capacity q a = length (parcels_sent q a.history) < last_found q a.heads + capacity
 
 -- x was put from p to q: the one load read the number `taken` of parcels that q had taken, and there was room; the send
 -- happened, before which q had made so many loads, and p stands in the state `next`. A pass that speaks for q too knows that

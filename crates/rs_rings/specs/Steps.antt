@@ -56,6 +56,14 @@ LoadsHead w st m r m' =
     × KnowsGot m.0 w.sender w.receiver r
     × HadTaken w.machines w.sender (own w.sender m).history w.receiver r
 
+-- the sender loads the head word and reads r, only to see whether there is room: it gains no slot
+abbrev pub LooksAtHead : Call → Step (Option Parcel) → Me (Option Parcel) View → ℕ → Me (Option Parcel) View → Type 0
+LooksAtHead w st m r m' =
+    (last_found w.receiver (own w.sender m).heads ≤ r) × (r ≤ sent_of w m) × (sent_of w m ≤ r + w.capacity)
+    × (m' ≡ (view_with_part w.sender (part_with_room w.receiver r (own w.sender m)) m.0, m.1))
+    × KnowsGot m.0 w.sender w.receiver r
+    × HadTaken w.machines w.sender (own w.sender m).history w.receiver r
+
 -- the sender stores the tail word: the slot that it took last goes home with the parcel in it, which is sent by this
 abbrev pub GivesFilled : Call → Me (Option Parcel) View → Me (Option Parcel) View → List (ℕ × Option Parcel) → Type 0
 GivesFilled w m m' [] = ⊥

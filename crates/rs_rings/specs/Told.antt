@@ -1,5 +1,5 @@
 -- Steps: what the calls on a seat tell.
-use Rattle.std.specs.Prelude.{◌≡◌, ◌≢◌, ℕ, ◌+◌, ◌<◌, ◌≤◌, List, [], ◌∷◌, ◌++◌, map, Option, Some, None, slice_get}
+use Rattle.std.specs.Prelude.{◌≡◌, ◌≢◌, ℕ, ◌+◌, ◌<◌, ◌≤◌, Bool, true, false, List, [], ◌∷◌, ◌++◌, map, Option, Some, None, slice_get}
 use Rattle.atomic_table.specs.Table.{Me}
 use Rattle.rs_model.specs.Data.{Machine_data}
 use Rattle.rs_model.specs.declared.graph.Arm.{Arm}
@@ -44,6 +44,17 @@ HasPut machines next p q capacity sent x a v m put.Done =
 HasPut machines next p q capacity sent x a v m (put.Full s n back) =
     (s ≡ sent) × (sent ≡ n + capacity) × (back ≡ x) × (last_found q a.heads ≤ n) × IsAfter p (part_with_room q n a) v m × KnowsGot v p q n
     × HadTaken machines p a.history q n
+
+-- a look of p, which has sent so many parcels to q, for room in its ring to q
+pub record HasLookedForRoom (machines : List Machine_data) (p q capacity sent : ℕ) (a : Part) (v : View) (m : Me (Option Parcel) View) (room : Bool) : Type 0 where
+  pub taken : ℕ
+  pub not_less : last_found q a.heads ≤ taken
+  pub not_more : taken ≤ sent
+  pub some : room ≡ true → sent < taken + capacity
+  pub none : room ≡ false → sent ≡ taken + capacity
+  pub after : IsAfter p (part_with_room q taken a) v m
+  pub knows : KnowsGot v p q taken
+  pub read : HadTaken machines p a.history q taken
 
 -- a look of q for a parcel from p, of which q has got so many before; where one is found, its slot k is still with the seat
 abbrev pub HasLooked : List Machine_data → ℕ → List Arm → ℕ → ℕ → ℕ → ℕ → Part → View → Me (Option Parcel) View → Looked → Type 0

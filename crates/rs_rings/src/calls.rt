@@ -7,7 +7,7 @@ ghost use Rattle.rs_model.specs.declared.machines.State.TheVariants.{Takes};
 ghost use Rattle.rs_slots.specs.Places.{IsPair};
 ghost use Rattle.rs_rings.specs.Acts.{MayPut, parcels_sent};
 ghost use Rattle.rs_rings.specs.Asked.{IsCountOf, MayAct};
-ghost use Rattle.rs_rings.specs.Passes.{CanPut, CanTake, PutTells, TakeByTells, TakeTells};
+ghost use Rattle.rs_rings.specs.Passes.{CanPut, CanTake, PutTells, RoomTells, SendsTo, TakeByTells, TakeTells};
 ghost use Rattle.rs_rings.specs.Rows.{IsBetweenCalls};
 ghost use Rattle.rs_rings.specs.Rule.{machines_in_key};
 ghost use Rattle.rs_rings.specs.Views.{the_part};
@@ -19,6 +19,9 @@ use rs_model::{Arm, Role};
 use rs_slots::Parcel;
 
 impl RingTable {
+    /// Puts the parcel into the ring from the sender to the receiver. The arm with the parcel's label gives the next state.
+    ///
+    /// `Put::Full` returns the parcel, and then nothing has changed but what the seat knows of the head word.
     #[inline(always)]
     pub fn put(
         &self,
@@ -80,7 +83,8 @@ impl RingTable {
         }
     }
 
-    // A put into the next state, which the caller knows.
+    /// The same as [`RingTable::put`], by an arm that leads to the state `next`. The caller has found the arm, so nothing is
+    /// looked up.
     #[inline(always)]
     pub fn put_next(
         &self,
@@ -103,6 +107,26 @@ impl RingTable {
         self.put_by(seat, rows, sender, receiver, counts.sent, parcel, next)
     }
 
+    /// Whether the ring from the sender to the receiver has room. The sender's state sends to the receiver.
+    ///
+    /// Nothing changes but what the seat knows of the head word.
+    #[inline(always)]
+    pub fn has_room(&self, seat: &mut RingSeat, rows: &Rows, sender: Role, receiver: Role) -> bool
+        requires table { seat.old.table_id ≡ self.now.board.shared.table_id }
+        requires well_formed { AreWellFormed (machines_in_key self.now.board.shared.key) }
+        requires may { MayAct sender.0 seat.old.me rows.now.items }
+        requires sends { SendsTo (machines_in_key self.now.board.shared.key) sender.0 receiver (the_part sender.0 seat.old.me.0.parts).state }
+        ensures table { seat.new.table_id ≡ seat.old.table_id }
+        ensures kept { IsBetweenCalls seat.new.me rows.now.items }
+        ensures told { RoomTells (machines_in_key self.now.board.shared.key) self.now.layout.capacity sender.0 receiver.0 seat.old.me.0 seat.new.me.0 result }
+    {
+        let counts = rows.counts(sender, receiver);
+        self.has_room_behind(seat, sender, receiver, counts.sent)
+    }
+
+    /// Takes the oldest parcel out of the ring from the sender to the receiver, which goes on by the arm with the parcel's label.
+    ///
+    /// `Got::Empty`: nothing has changed but what the seat knows of the tail word.
     #[inline(always)]
     pub fn take(&self, seat: &mut RingSeat, rows: &mut Rows, receiver: Role, sender: Role) -> Got
         requires table { seat.old.table_id ≡ self.now.board.shared.table_id }
@@ -121,7 +145,7 @@ impl RingTable {
         }
     }
 
-    // A take by a receiver at a state with these arms.
+    /// The same as [`RingTable::take`], by a receiver at a state with these arms. It also returns the place of the arm.
     #[inline(always)]
     pub fn take_by(
         &self,

@@ -16,6 +16,7 @@ use rs_model::Role;
 use rs_slots::Parcel;
 use std::alloc::Global;
 
+/// The slots of a table that is closed.
 pub type Slots = Closed<Option<Parcel>, Global>;
 
 /// Takes what the slots from `from` on hold, up to `to`.

@@ -12,12 +12,14 @@ ghost use Rattle.rs_core.specs.Choices.{AreWellFormed};
 ghost use Rattle.rs_rings.specs.Acts.{MayPut, MayTake, SendsParcel, ReceivesParcel, Happened, parcels_sent, parcels_got};
 ghost use Rattle.rs_rings.specs.Asked.{IsCallStep};
 ghost use Rattle.rs_rings.specs.Looks.{IsKnown, GoesOn};
+ghost use Rattle.rs_rings.specs.Passes.{HasSeenRoom, PutTells, RoomTells};
 ghost use Rattle.rs_rings.specs.Places.{head_word_of, tail_of};
 ghost use Rattle.rs_rings.specs.Rule.{RingsShow, machines_in_key};
 ghost use Rattle.rs_rings.specs.Shown.{Shown, IsSameAmong, LoadsHeadOf, StoresTailOf, LoadsTailOf, StoresHeadOf, SplitsOff, JoinsIn};
-ghost use Rattle.rs_rings.specs.Steps.{Call, LoadsHead, StoresTail, LoadsTail, StoresHead};
+ghost use Rattle.rs_rings.specs.Steps.{Call, LoadsHead, LooksAtHead, StoresTail, LoadsTail, StoresHead};
 ghost use Rattle.rs_rings.specs.Views.{SpeaksFor, speaks, part_of, first_part, starting, view_without_role, alone, joint_view, spent_view};
 ghost use Rattle.rs_rings.specs.Views.{part_with_room, gaining, sending, part_with_parcel, taking, getting};
+ghost use Rattle.rs_rings.specs.declared.answers.Put.TheVariants.{Full};
 ghost use Rattle.rs_rings.specs.declared.views.Key.{Key};
 ghost use Rattle.rs_rings.specs.declared.views.Part.{Part};
 ghost use Rattle.rs_rings.specs.declared.views.View.{View};
@@ -48,6 +50,9 @@ pub fn steps_are_of_six_kinds()
     ensures head_loaded { (key : Key) (s t : State (Option Parcel) View) (p q : ℕ) (call : Call) (m n : Me (Option Parcel) View) (step : Step (Option Parcel))
         → IsCallStep key s t p p q (head_word_of key.roles p q) (slice_index s.words (head_word_of key.roles p q)) call m n
         → LoadsHead call step m (slice_index s.words (head_word_of key.roles p q)) n → LoadsHeadOf key s t p q }
+    ensures head_looked_at { (key : Key) (s t : State (Option Parcel) View) (p q : ℕ) (call : Call) (m n : Me (Option Parcel) View) (step : Step (Option Parcel))
+        → IsCallStep key s t p p q (head_word_of key.roles p q) (slice_index s.words (head_word_of key.roles p q)) call m n
+        → LooksAtHead call step m (slice_index s.words (head_word_of key.roles p q)) n → LoadsHeadOf key s t p q }
     ensures tail_stored { (key : Key) (s t : State (Option Parcel) View) (p q : ℕ) (call : Call) (m n : Me (Option Parcel) View) (step : Step (Option Parcel)) (new : ℕ)
         → RingsShow key s → RingsShow key t → IsCallStep key s t p p q (tail_of key.roles p q) new call m n → StoresTail call step m new n → (x : Parcel) × StoresTailOf key s t p q x }
     ensures tail_loaded { (key : Key) (s t : State (Option Parcel) View) (p q : ℕ) (call : Call) (m n : Me (Option Parcel) View) (step : Step (Option Parcel))
@@ -86,6 +91,13 @@ pub fn roles_go_on()
     ensures full { (a : Part) (q n : ℕ) → GoesOn a (part_with_room q n a) }
     ensures empty { (b : Part) (p n : ℕ) → GoesOn b (part_with_parcel p n b) }
     ensures on { (a b c : Part) → GoesOn a b → GoesOn b c → GoesOn a c }
+{}
+
+/// Room that was seen stays: after a look that found room, the sender's next put into the ring isn't refused.
+pub fn seen_room_stays()
+    ensures seen { (machines : List Machine_data) (capacity p q : ℕ) (v w : View) → RoomTells machines capacity p q v w true → HasSeenRoom capacity q (part_of w p) }
+    ensures put { (machines : List Machine_data) (capacity p q : ℕ) (x : Parcel) (v w : View) (sent taken : ℕ) (back : Parcel) → HasSeenRoom capacity q (part_of v p)
+        → PutTells machines capacity p q x v w (Full sent taken back) → ⊥ }
 {}
 
 /// The first pass speaks for all roles. Each stands in its machine's start state and has done nothing.

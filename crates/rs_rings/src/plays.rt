@@ -39,6 +39,17 @@ impl<N: CallName> Play<Option<Parcel>, View> for LoadHead<N> {
     ghost then = { LoadsHead N.call };
 }
 
+/// The sender loads the head word, and gains no slot.
+pub struct LookAtHead<N: CallName> {
+    name: PhantomData<N>,
+}
+
+impl<N: CallName> Play<Option<Parcel>, View> for LookAtHead<N> {
+    ghost use Rattle.rs_rings.specs.Steps.{LooksAtHead};
+
+    ghost then = { LooksAtHead N.call };
+}
+
 /// The sender stores the tail word, and gives the filled slot home.
 pub struct StoreTail<N: CallName> {
     name: PhantomData<N>,

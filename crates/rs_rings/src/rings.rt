@@ -1,4 +1,4 @@
-//! The rings as their users see them: begin, split and join passes, put, take, and three ways to end.
+//! The rings as their users see them: begin, split and join passes, put, look for room, take, and three ways to end.
 ghost use Rattle.std.specs.Prelude.{◌≡◌, ◌<◌, ◌≤◌, ◌^◌, ◌*◌, [], vec_capacity, ℕ, Some, length, slice_get, IfOk};
 ghost use Rattle.rs_model.specs.declared.limits.TheConstants.{MOST_ROLES};
 ghost use Rattle.rs_model.specs.Limits.{IsCapacity};
@@ -9,7 +9,7 @@ ghost use Rattle.rs_model.specs.declared.machines.State.TheVariants.{Done, Takes
 ghost use Rattle.rs_slots.specs.Places.{ring_count};
 ghost use Rattle.rs_rings.specs.Acts.{MayPut};
 ghost use Rattle.rs_rings.specs.Closed.{IsLeft, IsOver, loose_in};
-ghost use Rattle.rs_rings.specs.Passes.{CanPut, CanTake, PutTells, TakeByTells, TakeTells};
+ghost use Rattle.rs_rings.specs.Passes.{CanPut, CanTake, PutTells, RoomTells, SendsTo, TakeByTells, TakeTells};
 ghost use Rattle.rs_rings.specs.Views.{SpeaksFor, state_in, history_in, starting, view_without_role, alone, joint_view};
 
 use crate::answers::{Got, GotOn, Put};
@@ -140,6 +140,24 @@ impl Rings {
             parcel,
             next,
         )
+    }
+
+    /// Whether the ring from `sender` to `receiver` has room for a parcel of the sender, whose state sends to the receiver.
+    ///
+    /// It loads the ring's head word, once, and changes nothing but what the pass knows of that word. Only the sender puts into
+    /// the ring: so after the answer `true` the sender's next put there isn't refused, whatever the other roles do meanwhile
+    /// ([`seen_room_stays`](crate::laws::seen_room_stays)).
+    #[inline(always)]
+    pub fn has_room(&self, pass: &mut Pass, sender: Role, receiver: Role) -> bool
+        requires table { pass.old.table ≡ self.now.table }
+        requires speaks { SpeaksFor pass.old.view sender.0 }
+        requires sends { SendsTo self.now.machines sender.0 receiver (state_in pass.old.view sender.0) }
+        requires acts { length (history_in pass.old.view sender.0) < 2 ^ 63 }
+        ensures table { pass.new.table ≡ pass.old.table }
+        ensures told { RoomTells self.now.machines self.now.capacity sender.0 receiver.0 pass.old.view pass.new.view result }
+    {
+        self.inner
+            .has_room(&mut pass.seat, &pass.rows, sender, receiver)
     }
 
     /// Takes the oldest parcel out of the ring from `sender` to `receiver`.

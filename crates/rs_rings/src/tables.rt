@@ -11,12 +11,12 @@ ghost use Rattle.rs_model.specs.declared.graph.Role.{Role};
 ghost use Rattle.rs_model.specs.declared.machines.State.TheVariants.{Takes};
 ghost use Rattle.rs_slots.specs.Places.{IsPair, ring_count};
 ghost use Rattle.rs_rings.specs.Acts.{MayPut, MayTake, parcels_sent, parcels_got};
-ghost use Rattle.rs_rings.specs.Asked.{IsActCall, IsCountOf, IsIdleAt, IsLookCall, IsTakingAt};
+ghost use Rattle.rs_rings.specs.Asked.{IsActCall, IsCallOn, IsCountOf, IsIdleAt, IsLookCall, IsTakingAt};
 ghost use Rattle.rs_rings.specs.Closed.{IsClosedAs, loose_in};
 ghost use Rattle.rs_rings.specs.Places.{head_word_of, tail_of, slot_place};
 ghost use Rattle.rs_rings.specs.Rows.{IsBetweenCalls};
 ghost use Rattle.rs_rings.specs.Rule.{machines_in_key, first_view};
-ghost use Rattle.rs_rings.specs.Told.{arms_in_state, IsLegalEnd, HasGiven, HasPut, HasLooked, HasTaken};
+ghost use Rattle.rs_rings.specs.Told.{arms_in_state, IsLegalEnd, HasGiven, HasPut, HasLooked, HasLookedForRoom, HasTaken};
 ghost use Rattle.rs_rings.specs.Views.{the_part, speaks, view_without_role, alone, joint_view};
 
 use crate::answers::{Looked, Put, Took};
@@ -24,8 +24,8 @@ use crate::closed::Closed;
 use crate::emptying::empty_all;
 use crate::loose::Loose;
 use crate::plays::{
-    CallName, JoinPasses, LoadHead, LoadTail, RingTableRule, RoleName, SplitRole, StoreHead,
-    StoreTail,
+    CallName, JoinPasses, LoadHead, LoadTail, LookAtHead, RingTableRule, RoleName, SplitRole,
+    StoreHead, StoreTail,
 };
 use crate::rows::Rows;
 use crate::views::{Key, View};
@@ -36,8 +36,10 @@ use rs_slots::{Layout, Parcel};
 use std::alloc::Global;
 use std::marker::Brand;
 
+/// The words, the slots and the views, with their rule.
 pub type Board = Table<Option<Parcel>, View, Key, RingTableRule, Global>;
 
+/// A seat of the table: what it knows of its roles, and the slots that it holds.
 pub type RingSeat = Seat<Option<Parcel>, View>;
 
 /// The table, its layout, and the machines beside it.
@@ -55,6 +57,9 @@ pub struct RingTable {
 }
 
 impl RingTable {
+    /// A table with empty rings of `capacity` slots between the roles of these machines, and the seat that speaks for all roles.
+    ///
+    /// The error is that memory was refused. No other call takes memory.
     pub fn begin(
         alloc: Global,
         machines: Vec<Machine>,
@@ -166,6 +171,31 @@ impl RingTable {
         Put::Done
     }
 
+    // One load of the head word. Nothing else changes.
+    #[inline(always)]
+    fn has_room_as<N: CallName>(
+        &self,
+        seat: &mut RingSeat,
+        sender: Role,
+        receiver: Role,
+        sent: u64,
+    ) -> bool
+        requires table { seat.old.table_id ≡ self.now.board.shared.table_id }
+        requires pair { IsPair self.now.layout.roles sender.0 receiver.0 }
+        requires idle { IsIdleAt sender.0 seat.old.me }
+        requires sent { sent ≡ length (parcels_sent receiver.0 (the_part sender.0 seat.old.me.0.parts).history) }
+        requires call { IsCallOn N.call self.now.layout.roles self.now.layout.capacity sender.0 receiver.0 (machines_in_key self.now.board.shared.key) }
+        ensures table { seat.new.table_id ≡ seat.old.table_id }
+        ensures looked { HasLookedForRoom (machines_in_key self.now.board.shared.key) sender.0 receiver.0 self.now.layout.capacity sent
+            (the_part sender.0 seat.old.me.0.parts) seat.old.me.0 seat.new.me result }
+    {
+        let taken = self
+            .board
+            .shared
+            .load::<LookAtHead<N>>(seat, self.head_word(sender, receiver));
+        sent - taken != self.capacity as u64
+    }
+
     // One load of the tail word; where a parcel is there, an exchange that empties the slot of the head.
     #[inline(always)]
     fn look_as<N: CallName>(
@@ -241,6 +271,7 @@ impl RingTable {
         self.board.shared.split_seat::<SplitRole<N>>(seat)
     }
 
+    /// Cuts off a seat that speaks for the role alone. The old seat no longer speaks for it.
     pub fn split(&self, seat: &mut RingSeat, role: Role) -> RingSeat
         requires table { seat.old.table_id ≡ self.now.board.shared.table_id }
         requires speaks { speaks role.0 seat.old.me.0.parts ≡ true }
@@ -251,6 +282,7 @@ impl RingTable {
         self.split_as::<Brand>(seat, role)
     }
 
+    /// Gives the seat the roles of the other seat too, which holds no slot.
     pub fn join(&self, seat: &mut RingSeat, other: RingSeat)
         requires table { (seat.old.table_id ≡ self.now.board.shared.table_id) × (other.table_id ≡ self.now.board.shared.table_id) }
         requires idle { other.me.1 ≡ [] }
@@ -260,6 +292,7 @@ impl RingTable {
         self.board.shared.join_seat::<JoinPasses>(seat, other);
     }
 
+    /// Ends the session by the seat that speaks for all roles. The parcels that the rings hold are dropped.
     pub fn close(self, seat: RingSeat) -> Closed
         requires table { seat.table_id ≡ self.board.shared.table_id }
         requires all { (r : ℕ) → r < self.layout.roles → speaks r seat.me.0.parts ≡ true }
@@ -287,6 +320,8 @@ impl RingTable {
         }
     }
 
+    /// Ends the session by the seat that speaks for all roles, and moves the parcels that the rings hold to the end of `loose`:
+    /// ordered by sender, then by receiver, then the oldest first. `loose` has room for as many parcels as there are slots.
     pub fn close_left(self, seat: RingSeat, rows: &Rows, loose: &mut Vec<Loose>) -> Closed
         requires table { seat.table_id ≡ self.board.shared.table_id }
         requires all { (r : ℕ) → r < self.layout.roles → speaks r seat.me.0.parts ≡ true }
@@ -314,6 +349,9 @@ impl RingTable {
         }
     }
 
+    /// Puts the parcel into the ring, for a sender that has sent so many parcels to the receiver and goes on to the state `next`.
+    ///
+    /// `Put::Full` returns the parcel, and then nothing has changed but what the seat knows of the head word.
     #[inline(always)]
     pub fn put_to(
         &self,
@@ -334,6 +372,26 @@ impl RingTable {
             (the_part sender.0 seat.old.me.0.parts) seat.old.me.0 seat.new.me result }
     {
         self.put_as::<Brand>(seat, sender, receiver, sent, parcel, next)
+    }
+
+    /// Whether the ring has room, for a sender that has sent so many parcels to the receiver.
+    #[inline(always)]
+    pub fn has_room_behind(
+        &self,
+        seat: &mut RingSeat,
+        sender: Role,
+        receiver: Role,
+        sent: u64,
+    ) -> bool
+        requires table { seat.old.table_id ≡ self.now.board.shared.table_id }
+        requires pair { IsPair self.now.layout.roles sender.0 receiver.0 }
+        requires idle { IsIdleAt sender.0 seat.old.me }
+        requires sent { sent ≡ length (parcels_sent receiver.0 (the_part sender.0 seat.old.me.0.parts).history) }
+        ensures table { seat.new.table_id ≡ seat.old.table_id }
+        ensures looked { HasLookedForRoom (machines_in_key self.now.board.shared.key) sender.0 receiver.0 self.now.layout.capacity sent
+            (the_part sender.0 seat.old.me.0.parts) seat.old.me.0 seat.new.me result }
+    {
+        self.has_room_as::<Brand>(seat, sender, receiver, sent)
     }
 
     #[inline(always)]
@@ -379,6 +437,10 @@ impl RingTable {
         self.give_as::<Brand>(seat, receiver, sender, got, parcel, next)
     }
 
+    /// Takes the oldest parcel out of the ring, for a receiver that has got so many parcels from the sender and is in a state
+    /// with these arms. It returns the parcel with the place of its arm and the next state.
+    ///
+    /// `Took::Nothing`: nothing has changed but what the seat knows of the tail word.
     #[inline(always)]
     pub fn look_take(
         &self,
@@ -413,6 +475,7 @@ impl RingTable {
         }
     }
 
+    /// The arms of the state of the role's machine; none if the state ends.
     #[inline(always)]
     pub fn arms_of(&self, role: Role, state: u32) -> &[Arm]
         requires { IsSome (state_of (slice_get (machines_in_key self.now.board.shared.key) role.0) state) }
@@ -426,7 +489,7 @@ impl RingTable {
     }
 }
 
-// the state to which the arm with that label leads
+/// The state to which the first arm with that label leads.
 pub fn next_of(arms: &[Arm], label: Label) -> u32
     requires { IsSome (arm_with arms.now label) }
     ensures { IfSome (arm_with arms.now label) (λ a. result ≡ a.next) }

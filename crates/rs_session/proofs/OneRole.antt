@@ -1,10 +1,10 @@
 -- What an act of a role makes of its pass.
-use Rattle.std.proofs.Common.{◌≡◌, ℕ, ◌+◌, List, [], ◌∷◌, length, Option, Some, None, slice_get, refl, sym, ap, ◌∙◌, subst, length-append}
+use Rattle.std.proofs.Common.{◌≡◌, ℕ, ◌+◌, Bool, List, [], ◌∷◌, length, Option, Some, None, slice_get, refl, sym, ap, ◌∙◌, subst, length-append}
 use Rattle.rs_model.specs.Sorts.{HasSort}
 use Rattle.rs_model.specs.declared.graph.Arm.{Arm}
 use Rattle.rs_model.specs.declared.graph.Label.{Label}
 use Rattle.rs_model.specs.declared.graph.Role.{Role}
-use Rattle.rs_model.specs.declared.machines.State.TheVariants.{Takes}
+use Rattle.rs_model.specs.declared.machines.State.TheVariants.{Puts, Takes}
 use Rattle.rs_model.specs.declared.values.Value.{Value}
 use Rattle.rs_core.specs.Choices.{AreWellFormed}
 use Rattle.rs_core.specs.Configurations.{state_of}
@@ -12,12 +12,12 @@ use Rattle.rs_core.specs.Choosable.{label_of}
 use Rattle.rs_core.proofs.Stands.{here_is}
 use Rattle.rs_slots.specs.declared.parcels.Parcel.{Parcel}
 use Rattle.rs_rings.specs.Acts.{sent_act, got_act, MayPut}
-use Rattle.rs_rings.specs.Passes.{Rings_data, Pass_data, IsChanged, IsPut, ParcelIsTaken}
-use Rattle.rs_rings.specs.Views.{part_of, state_in, gaining, sending, taking, getting}
+use Rattle.rs_rings.specs.Passes.{Rings_data, Pass_data, IsChanged, IsPut, ParcelIsTaken, RoomTells, SendsTo}
+use Rattle.rs_rings.specs.Views.{part_of, part_with_room, state_in, gaining, sending, taking, getting}
 use Rattle.rs_rings.specs.declared.views.Part.{Part}
 use Rattle.rs_rings.specs.declared.views.View.{View}
 use Rattle.rs_rings.proofs.Arms.{put_once}
-use Rattle.rs_session.specs.Acts.{parcel_by, HasSent, FindsFull, HasGot, FindsEmpty}
+use Rattle.rs_session.specs.Acts.{parcel_by, HasSent, FindsFull, HasGot, FindsEmpty, LooksForRoom}
 use Rattle.rs_session.specs.Data.{Stage_data}
 use Rattle.rs_session.specs.Standing.{IsOne, HasGotBy, sight_of_pass}
 
@@ -66,6 +66,33 @@ pub record Full (rings : Rings_data) (q : ℕ) (x : Parcel) (sent taken : ℕ) (
   pub one : IsOne pass.view role s n
   pub full : FindsFull rings q sent taken old (sight_of_pass pass role)
   pub same : back ≡ x
+
+-- a look for room
+pub record Looked (rings : Rings_data) (q : ℕ) (room : Bool) (s n : ℕ) (old : Stage_data) (role : Role) (pass : Pass_data) : Type 0 where
+  pub one : IsOne pass.view role s n
+  pub looks : LooksForRoom rings q room old (sight_of_pass pass role)
+
+pub room_looked : (rings : Rings_data) (q : ℕ) (room : Bool) (s n : ℕ) (old : Stage_data) (role : Role) (pass pass' : Pass_data) → sight_of_pass pass role ≡ old → IsOne pass.view role s n
+    → RoomTells rings.machines rings.capacity role.0 q pass.view pass'.view room → pass'.table ≡ pass.table → Looked rings q room s n old role pass'
+room_looked rings q room s n old role pass pass' is one told table =
+    let a : Part = part_of pass.view role.0 in
+    subst (λ (z : Stage_data). Looked rings q room s n z role pass') is record {
+      one = one_changed pass.view pass'.view role s n s n (part_with_room q told.taken a) one told.changed one.is_state one.is_acts;
+      looks = record {
+        taken = told.taken;
+        not_less = told.not_less;
+        not_more = told.not_more;
+        some = told.some;
+        none = told.none;
+        read = told.read;
+        becomes = λ i. record { table = table i; role = role; part = told.changed.part i };
+      };
+    }
+
+pub sends_there : (rings : Rings_data) (peer : Role) (old : Stage_data) (role : Role) (pass : Pass_data) → sight_of_pass pass role ≡ old
+    → ((arms : List Arm) × (state_of (slice_get rings.machines old.role.0) old.part.state ≡ Some (Puts peer arms))) → SendsTo rings.machines role.0 peer (state_in pass.view role.0)
+sends_there rings peer old role pass is stands =
+    record { arms = stands.0; puts = ap (λ (z : Stage_data). state_of (slice_get rings.machines z.role.0) z.part.state) is ∙ stands.1 }
 
 -- a look
 pub stands_there : (rings : Rings_data) (peer : Role) (arms : List Arm) (old : Stage_data) (role : Role) (pass : Pass_data) → sight_of_pass pass role ≡ old

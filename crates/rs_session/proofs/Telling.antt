@@ -1,5 +1,5 @@
 -- What sends and receives of stages tell.
-use Rattle.std.proofs.Common.{◌≡◌, ℕ, List, Some, IsSome, slice_get, refl, sym, ap, ◌∙◌, subst}
+use Rattle.std.proofs.Common.{◌≡◌, ℕ, ◌+◌, ◌<◌, ◌≤◌, Bool, true, List, Some, IsSome, length, slice_get, refl, sym, ap, ◌∙◌, subst, arith}
 use Rattle.rs_model.specs.Sorts.{HasSort}
 use Rattle.rs_model.specs.declared.graph.Arm.{Arm}
 use Rattle.rs_model.specs.declared.graph.Role.{Role}
@@ -8,8 +8,11 @@ use Rattle.rs_model.specs.declared.values.Value.{Value}
 use Rattle.rs_core.specs.Choices.{AreWellFormed}
 use Rattle.rs_core.proofs.Stands.{here_is}
 use Rattle.rs_slots.specs.declared.parcels.Parcel.{Parcel}
+use Rattle.rs_rings.specs.Acts.{parcels_sent}
 use Rattle.rs_rings.specs.Passes.{Rings_data}
-use Rattle.rs_session.specs.Acts.{parcel_by, SendsBy, HasSent, FindsFull, HasGot, FindsEmpty, IsSent, IsHandedBack, IsGot, IsKept}
+use Rattle.rs_rings.specs.Views.{last_found}
+use Rattle.rs_rings.proofs.FourSteps.{found_here}
+use Rattle.rs_session.specs.Acts.{parcel_by, SendsBy, HasSent, FindsFull, HasGot, FindsEmpty, LooksForRoom, RoomTells, IsSent, IsHandedBack, IsGot, IsKept}
 use Rattle.rs_session.specs.Data.{Stage_data}
 use Rattle.rs_session.specs.Stages.{sight_of_stage, state_of_stage, IsSending, IsReceiving, IsOf}
 use Rattle.rs_session.specs.Standing.{HasGotBy, SendsTo}
@@ -41,6 +44,35 @@ pub sends_by : (session : Rings_data) (old standing : Stage_data) (place : ℕ) 
 sends_by session old standing place value peer arm is by to =
     let to' : SendsTo session old place peer arm = subst (λ (z : Stage_data). SendsTo session z place peer arm) is to in
     (record { peer = peer; arms = to'.arms; arm = arm; stands = to'.stands; picks = to'.picks; has_sort = sort_by session old place value peer arm by to' }, refl, refl)
+
+-- room that was seen stays
+pub room_stays : (session : Rings_data) (old seen new : Stage_data) (place sent taken : ℕ) (value back : Value) → RoomTells session old seen true → IsHandedBack session seen place value new back sent taken → ⊥
+room_stays session old seen new place sent taken value back told handed =
+    let l = told.looks in
+    let q : ℕ = told.from.peer.0 in
+    let full = handed.full in
+    let here : state_of_stage session seen ≡ Some (Puts told.from.peer told.from.arms) = ap (state_of_stage session) l.becomes ∙ told.from.stands in
+    let both : Some (Puts handed.by.peer handed.by.arms) ≡ Some (Puts told.from.peer told.from.arms) = sym handed.by.stands ∙ here in
+    let peers : handed.by.peer ≡ told.from.peer = cc (both) in
+    let full' : FindsFull session q sent taken seen new = subst (λ (r : Role). FindsFull session r.0 sent taken seen new) peers full in
+    let is : sent ≡ length (parcels_sent q old.part.history) = full'.is_sent ∙ ap (λ (z : Stage_data). length (parcels_sent q z.part.history)) l.becomes in
+    let found : last_found q seen.part.heads ≡ l.taken = ap (λ (z : Stage_data). last_found q z.part.heads) l.becomes ∙ found_here q l.taken old.part.heads in
+    let less : l.taken ≤ taken = subst (λ (k : ℕ). k ≤ taken) found full'.not_less in
+    let room : length (parcels_sent q old.part.history) < l.taken + session.capacity = l.some refl in
+    let much : sent ≡ taken + session.capacity = full'.full in
+    omega arith
+
+-- what a look of a stage that sends tells
+pub looked : (session rings : Rings_data) (old standing moved : Stage_data) (peer : Role) (room : Bool) → rings ≡ session → standing ≡ old → old.table ≡ session.table
+    → ((arms : List Arm) × (state_of_stage session standing ≡ Some (Puts peer arms))) → LooksForRoom rings peer.0 room standing moved → RoomTells session old moved room
+looked session rings old standing moved peer room same is table stands looks =
+    let looks' : LooksForRoom session peer.0 room old moved = subst (λ (z : Rings_data × Stage_data). LooksForRoom z.0 peer.0 room z.1 moved) (λ i. (same i, is i)) looks in
+    let at : state_of_stage session old ≡ Some (Puts peer stands.0) = ap (state_of_stage session) (sym is) ∙ stands.1 in
+    record {
+      from = record { table = table; peer = peer; arms = stands.0; stands = at };
+      looks = looks';
+      of = subst (IsSending session) (sym looks'.becomes) record { table = table; peer = peer; arms = stands.0; stands = at };
+    }
 
 -- so of the arms of a state that receives
 pub receives_at : (session : Rings_data) (old standing : Stage_data) (peer : Role) (arms : List Arm) → standing ≡ old → (of : IsReceiving session old) → of.peer ≡ peer → of.arms ≡ arms

@@ -1,5 +1,5 @@
 -- Public: what sends and receives of stages tell.
-use Rattle.std.specs.Prelude.{◌≡◌, ◌≢◌, ℕ, ◌+◌, ◌<◌, ◌≤◌, List, length, Some, slice_get}
+use Rattle.std.specs.Prelude.{◌≡◌, ◌≢◌, ℕ, ◌+◌, ◌<◌, ◌≤◌, Bool, true, false, List, length, Some, slice_get}
 use Rattle.rs_model.specs.Sorts.{HasSort}
 use Rattle.rs_model.specs.declared.graph.Arm.{Arm}
 use Rattle.rs_model.specs.declared.graph.Role.{Role}
@@ -66,6 +66,17 @@ pub record FindsFull (session : Rings_data) (q sent taken : ℕ) (old new : Stag
   pub read : HadTaken session.machines old.role.0 old.part.history q taken
   pub becomes : new ≡ stage_with (part_with_room q taken old.part) old
 
+-- a look of the stage's role for room in the ring to q: the one load read the number `taken` of parcels that q had taken, and there
+-- is room if the role has sent less than the capacity more
+pub record LooksForRoom (session : Rings_data) (q : ℕ) (room : Bool) (old new : Stage_data) : Type 0 where
+  pub taken : ℕ
+  pub not_less : last_found q old.part.heads ≤ taken
+  pub not_more : taken ≤ length (parcels_sent q old.part.history)
+  pub some : room ≡ true → length (parcels_sent q old.part.history) < taken + session.capacity
+  pub none : room ≡ false → length (parcels_sent q old.part.history) ≡ taken + session.capacity
+  pub read : HadTaken session.machines old.role.0 old.part.history q taken
+  pub becomes : new ≡ stage_with (part_with_room q taken old.part) old
+
 -- the stage's role has got x from p: the one load read the number `put` of parcels that p had put, which is more than the role
 -- has got, by no more than the capacity; the receive happened, before which p had made so many loads, and the role stands in
 -- the state `next`
@@ -98,6 +109,12 @@ pub record IsHandedBack (session : Rings_data) (old : Stage_data) (place : ℕ) 
   pub by : SendsBy session old place value
   pub full : FindsFull session by.peer.0 sent taken old new
   pub same : back ≡ value
+  pub of : IsSending session new
+
+-- what a look for room tells: the stage stands at the same state, which sends, and only what is known of the ring has changed
+pub record RoomTells (session : Rings_data) (old new : Stage_data) (room : Bool) : Type 0 where
+  pub from : IsSending session old
+  pub looks : LooksForRoom session from.peer.0 room old new
   pub of : IsSending session new
 
 -- what a send tells that went, or that found the ring full

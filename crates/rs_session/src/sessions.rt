@@ -1,13 +1,14 @@
 //! A session that is shared by threads: its stages, the acts that they allow, and what is left at the end.
-ghost use Rattle.std.specs.Prelude.{◌≡◌, ◌≤◌, ◌<◌, ◌++◌, ◌∷◌, ℕ, [], IfErr, IfOk, IsSome, Some, length, slice_get, vec_len, vec_capacity};
+ghost use Rattle.std.specs.Prelude.{◌≡◌, ◌≤◌, ◌<◌, ◌++◌, ◌∷◌, ℕ, List, [], IfErr, IfOk, IsSome, Some, length, slice_get, vec_len, vec_capacity};
 ghost use Rattle.rs_model.specs.Limits.{IsCapacity};
 ghost use Rattle.rs_core.specs.Choices.{AreWellFormed};
 ghost use Rattle.rs_core.specs.Configurations.{state_of};
-ghost use Rattle.rs_model.specs.declared.machines.State.TheVariants.{Takes};
+ghost use Rattle.rs_model.specs.declared.graph.Arm.{Arm};
+ghost use Rattle.rs_model.specs.declared.machines.State.TheVariants.{Puts, Takes};
 ghost use Rattle.rs_model.specs.declared.values.Value.{Value};
 ghost use Rattle.rs_rings.specs.Views.{SpeaksFor, starting};
 ghost use Rattle.rs_session.specs.Acts.{SendsBy};
-ghost use Rattle.rs_session.specs.Stages.{AreFirst, IsOf, IsReceiving, first_stage, sight_of_stage, state_of_stage};
+ghost use Rattle.rs_session.specs.Stages.{AreFirst, IsOf, IsReceiving, IsSending, first_stage, sight_of_stage, state_of_stage};
 ghost use Rattle.rs_session.specs.Standing.{IsFirst, RingsAreWhole, SendsTo};
 
 use crate::gathering::gather_into;
@@ -145,6 +146,18 @@ impl Session {
     {
         match self.state(standing) {
             State::Puts { peer, arms } => (*peer, arms.as_slice()[place as usize]),
+            _ => unreachable!(),
+        }
+    }
+
+    /// The peer of the role's state, which sends.
+    #[inline(always)]
+    pub(crate) fn sending_peer(&self, standing: &Standing) -> Role
+        requires { IsSending self.now standing.now }
+        ensures { (arms : List Arm) × (state_of_stage self.now standing.now ≡ Some (Puts result arms)) }
+    {
+        match self.state(standing) {
+            State::Puts { peer, .. } => *peer,
             _ => unreachable!(),
         }
     }

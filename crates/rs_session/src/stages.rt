@@ -2,8 +2,8 @@
 ghost use Rattle.std.specs.Prelude.{◌≡◌, ◌<◌, ◌^◌, length};
 ghost use Rattle.rs_model.specs.declared.limits.TheConstants.{MOST_ROLES};
 ghost use Rattle.rs_rings.specs.Acts.{parcels_sent};
-ghost use Rattle.rs_session.specs.Acts.{SendsBy, SendTells, ReceiveTells};
-ghost use Rattle.rs_session.specs.Stages.{IsReceiving, sight_of_stage};
+ghost use Rattle.rs_session.specs.Acts.{SendsBy, RoomTells, SendTells, ReceiveTells};
+ghost use Rattle.rs_session.specs.Stages.{IsReceiving, IsSending, sight_of_stage};
 
 use crate::sessions::Session;
 use crate::standing::{ParcelFound, Standing};
@@ -126,6 +126,21 @@ impl Sending {
         ensures { result ≡ length self.now.part.history }
     {
         self.standing.acts()
+    }
+
+    /// Whether the ring to the state's peer has room for a value. It looks once at the ring, and takes no memory.
+    ///
+    /// Nothing changes but what is known of the ring. Only this role sends into it: so after the answer `true` the next send
+    /// isn't answered by [`Sent::Full`] ([`seen_room_stays`](crate::laws::seen_room_stays)). A value that is costly to make need
+    /// not be made while there is no room.
+    #[inline(always)]
+    pub fn has_room(&mut self, session: &Session) -> bool
+        requires of { IsSending session.now self.old }
+        requires acts { length self.old.part.history < 2 ^ 63 }
+        ensures told { RoomTells session.now self.old self.new result }
+    {
+        let peer = session.sending_peer(&self.standing);
+        self.standing.has_room(session.rings(), peer)
     }
 
     /// Sends the value by the arm at that place of the state. It looks once at the ring to the state's peer, and takes no memory.

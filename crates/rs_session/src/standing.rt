@@ -1,11 +1,13 @@
 //! What is behind a stage of any kind.
-ghost use Rattle.std.specs.Prelude.{◌≡◌, ◌<◌, ◌^◌, ℕ, [], IfErr, IfOk, Some, length, slice_get};
+ghost use Rattle.std.specs.Prelude.{◌≡◌, ◌<◌, ◌^◌, ℕ, List, [], IfErr, IfOk, Some, length, slice_get};
 ghost use Rattle.rs_core.specs.Choices.{AreWellFormed};
 ghost use Rattle.rs_core.specs.Configurations.{state_of};
-ghost use Rattle.rs_model.specs.declared.machines.State.TheVariants.{Takes};
+ghost use Rattle.rs_model.specs.declared.machines.State.TheVariants.{Puts, Takes};
+ghost use Rattle.rs_model.specs.declared.graph.Arm.{Arm};
 ghost use Rattle.rs_model.specs.declared.limits.TheConstants.{MOST_ROLES};
 ghost use Rattle.rs_rings.specs.Acts.{MayPut, parcels_sent};
 ghost use Rattle.rs_rings.specs.Views.{SpeaksFor, part_of, state_in, history_in};
+ghost use Rattle.rs_session.specs.Acts.{LooksForRoom};
 ghost use Rattle.rs_session.specs.Standing.{FoundTells, StagePutTells, sight_of_pass};
 
 use rs_model::{Arm, Role, Value};
@@ -124,6 +126,18 @@ impl RolePass {
         }
     }
 
+    /// Whether the ring to the peer has room.
+    #[inline(always)]
+    fn has_room(&mut self, rings: &Rings, peer: Role) -> bool
+        requires table { self.old.table ≡ rings.now.table }
+        requires well_formed { AreWellFormed rings.now.machines }
+        requires stands { (arms : List Arm) × (state_of (slice_get rings.now.machines self.old.role.0) self.old.part.state ≡ Some (Puts peer arms)) }
+        requires acts { length self.old.part.history < 2 ^ 63 }
+        ensures told { LooksForRoom rings.now peer.0 result self.old self.new }
+    {
+        rings.has_room(&mut self.pass, self.role, peer)
+    }
+
     /// Takes the oldest parcel out of the ring from the peer; the role goes on by the arm with its label.
     #[inline(always)]
     fn look_take(&mut self, rings: &Rings, peer: Role, arms: &[Arm]) -> ParcelFound
@@ -220,6 +234,18 @@ impl Standing {
         ensures told { StagePutTells rings.now peer.0 parcel next self.old self.new result }
     {
         self.inside.put(rings, peer, parcel, next)
+    }
+
+    /// Whether the ring to the peer has room.
+    #[inline(always)]
+    pub(crate) fn has_room(&mut self, rings: &Rings, peer: Role) -> bool
+        requires table { self.old.table ≡ rings.now.table }
+        requires well_formed { AreWellFormed rings.now.machines }
+        requires stands { (arms : List Arm) × (state_of (slice_get rings.now.machines self.old.role.0) self.old.part.state ≡ Some (Puts peer arms)) }
+        requires acts { length self.old.part.history < 2 ^ 63 }
+        ensures told { LooksForRoom rings.now peer.0 result self.old self.new }
+    {
+        self.inside.has_room(rings, peer)
     }
 
     /// Takes the oldest parcel out of the ring from the peer; the role goes on by the arm with its label.

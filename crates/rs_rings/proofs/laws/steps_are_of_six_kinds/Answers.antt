@@ -1,9 +1,12 @@
 use Rattle.std.proofs.Common.{refl}
-use Rattle.rs_rings.proofs.SixKinds.{head_loaded, tail_stored, tail_loaded, head_stored}
+use Rattle.rs_rings.proofs.SixKinds.{head_loaded, head_looked_at, tail_stored, tail_loaded, head_stored}
 use Rattle.rs_rings.proofs.laws.steps_are_of_six_kinds.Goals as goal
 
 pub returns-clause-head_loaded : goal.returns-clause-head_loaded
 returns-clause-head_loaded c = λ key s t p q call m n step e told. head_loaded key s t call p q m n step e told
+
+pub returns-clause-head_looked_at : goal.returns-clause-head_looked_at
+returns-clause-head_looked_at c = λ key s t p q call m n step e told. head_looked_at key s t call p q m n step e told
 
 pub returns-clause-tail_stored : goal.returns-clause-tail_stored
 returns-clause-tail_stored c = λ key s t p q call m n step new sh th e told. tail_stored key s t call p q m n step new sh th e told
