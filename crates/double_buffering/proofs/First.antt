@@ -10,7 +10,7 @@ use Rattle.rs_session.specs.Stages.{AreFirst, IsOf, first_stage, sight_of_stage}
 use Rattle.rs_session.specs.declared.stages.Stage.{Stage}
 use Rattle.rs_session.proofs.HandedIn.{at_end, in_front}
 use Rattle.rs_typed.specs.Endpoints.{CanEnter}
-use Rattle.buffering.specs.Machines.{all_machines, kernel, sink, source}
+use Rattle.double_buffering.specs.Machines.{all_machines, kernel, sink, source}
 
 -- the stage at a place can enter at the start of the machine there
 enters_at : (session : Rings_data) (stages : List Stage) (r : ℕ) (machine : Machine_data) (stage : Stage) → AreFirst session stages → slice_get session.machines r ≡ Some machine → role_of_number r ≡ machine.role → slice_get stages r ≡ Some stage

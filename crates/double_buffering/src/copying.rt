@@ -3,12 +3,12 @@
 ghost use Rattle.std.specs.Prelude.{◌≡◌};
 ghost use Rattle.rs_session.specs.Stages.{IsEnded};
 ghost use Rattle.rs_typed.specs.Endpoints.{IsEndpoint};
-ghost use Rattle.buffering.specs.Machines as spec;
-ghost use Rattle.buffering.specs.declared.names.TheConstants.{KERNEL_ROLE};
+ghost use Rattle.double_buffering.specs.Machines as spec;
+ghost use Rattle.double_buffering.specs.declared.names.TheConstants.{KERNEL_ROLE};
 
+use crate::kernel::{Asked, Begun, Copying, Fed, Ready, Stopping};
 use crate::played::Played;
 use crate::waiting::{Came, receive, receive_two, send};
-use buffering::kernel::{Asked, Begun, Copying, Fed, Ready, Stopping};
 use rs_model::{NoMemory, Octets};
 use rs_session::Session;
 use rs_typed::At;
@@ -24,7 +24,7 @@ pub fn inverted(alloc: Global, bytes: &[u8]) -> Result<Octets, NoMemory> {
     Ok(Octets::from(turned))
 }
 
-/// Asks S for copies, and hands them inverted to T, until S stops. Where memory is refused it hands on nothing.
+/// Asks S for copies, and hands them inverted to T, until S stops. If memory runs out, it hands on nothing.
 pub fn play_kernel<R: Wait>(rt: &R, alloc: Global, session: &Session, at: At<Begun>) -> Played
     requires { IsEndpoint session.now spec.kernel at }
     ensures ended { IsEnded session.now result.ended }

@@ -1,11 +1,16 @@
 //! Double buffering by typed roles on three threads: the source has the bytes of standard input, the kernel turns each byte b
-//! into 255 - b, and what comes to the sink is written to standard output.
+//! into 255 - b, and what the sink receives is written to standard output.
 #![tactic(auto)]
 
 mod copying;
+mod kernel;
+mod names;
 mod played;
 mod reading;
 mod sessions;
+mod sink;
+mod source;
+mod states;
 mod threads;
 mod waiting;
 mod writing;
@@ -28,7 +33,7 @@ const MOST_BYTES: usize = 1 << 30;
 /// How many values each ring holds.
 const CAPACITY: u16 = 16;
 
-/// What comes to the sink of the session of the text, of these bytes. None where something was refused for want of memory, or
+/// What the sink of the text's session receives of these bytes. None if memory ran out, or
 /// the text isn't accepted.
 fn turned<R: Threads + Wait + Sync>(
     rt: &R,

@@ -3,12 +3,12 @@
 ghost use Rattle.std.specs.Prelude.{◌≡◌};
 ghost use Rattle.rs_session.specs.Stages.{IsEnded};
 ghost use Rattle.rs_typed.specs.Endpoints.{IsEndpoint};
-ghost use Rattle.buffering.specs.Machines as spec;
-ghost use Rattle.buffering.specs.declared.names.TheConstants.{SOURCE_ROLE};
+ghost use Rattle.double_buffering.specs.Machines as spec;
+ghost use Rattle.double_buffering.specs.declared.names.TheConstants.{SOURCE_ROLE};
 
 use crate::played::Played;
+use crate::source::{Asked, Leaving, Waiting};
 use crate::waiting::{receive, send};
-use buffering::source::{Asked, Leaving, Waiting};
 use rs_model::Octets;
 use rs_session::Session;
 use rs_typed::At;
@@ -18,7 +18,7 @@ use std::sync::Wait;
 /// The most bytes of one copy.
 const PIECE: usize = 4_096;
 
-/// Sends the bytes in pieces, one each time that K is ready, and then stops. Where memory is refused it stops at once.
+/// Sends the bytes in pieces, one each time that K is ready, and then stops. If memory runs out, it stops at once.
 pub fn play_source<R: Wait>(
     rt: &R,
     alloc: Global,

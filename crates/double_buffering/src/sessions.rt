@@ -4,12 +4,12 @@ ghost use Rattle.std.specs.Prelude.{◌≡◌, ◌≤◌, ◌<◌, IfOk, IfSome,
 ghost use Rattle.rs_model.specs.Limits.{IsCapacity};
 ghost use Rattle.rs_session.specs.Stages.{AreFirst, IsEnded, IsOf};
 ghost use Rattle.rs_typed.specs.Endpoints.{CanEnter, IsEndpoint};
-ghost use Rattle.buffering.specs.Machines as spec;
-ghost use Rattle.buffering.specs.declared.names.TheConstants.{KERNEL_ROLE, SINK_ROLE, SOURCE_ROLE};
+ghost use Rattle.double_buffering.specs.Machines as spec;
+ghost use Rattle.double_buffering.specs.declared.names.TheConstants.{KERNEL_ROLE, SINK_ROLE, SOURCE_ROLE};
 
-use buffering::kernel::{Begun, Kernel};
-use buffering::sink::{Ready, Sink};
-use buffering::source::{Source, Waiting};
+use crate::kernel::{Begun, Kernel};
+use crate::sink::{Ready, Sink};
+use crate::source::{Source, Waiting};
 use rs_answers::{AcceptedDocument, accept_document};
 use rs_documents::read_document;
 use rs_model::{Bound, Machine, NoMemory};
@@ -39,7 +39,7 @@ fn are_typed(alloc: Global, machines: &[Machine]) -> Result<bool, NoMemory>
     })
 }
 
-/// The session of the text. None where the text isn't accepted, its machines aren't those of kernel, source and sink, or
+/// The session of the text. None if the text isn't accepted, its machines aren't those of kernel, source and sink, or
 /// memory was refused.
 pub fn accepted_of(alloc: Global, text: &[u8]) -> Option<Accepted>
     ensures { IfSome result (λ accepted. accepted.machines ≡ spec.all_machines) }
@@ -84,7 +84,7 @@ fn three_stages(session: &Session, stages: Vec<Stage>) -> (Stage, Stage, Stage)
     (kernel, source, sink)
 }
 
-/// The endpoint of a stage that stands at the spot.
+/// The endpoint of a stage that is at the spot.
 fn entered<S: Spot>(session: &Session, machine: &Machine, stage: Stage) -> At<S>
     requires of { IsOf session.now stage }
     requires machine { machine.now ≡ S.Of.meaning }

@@ -3,16 +3,16 @@
 ghost use Rattle.std.specs.Prelude.{◌≡◌, IfSome, IsSome, None};
 ghost use Rattle.rs_session.specs.Stages.{IsEnded};
 ghost use Rattle.rs_typed.specs.Endpoints.{IsEndpoint};
-ghost use Rattle.buffering.specs.Machines as spec;
-ghost use Rattle.buffering.specs.declared.names.TheConstants.{KERNEL_ROLE, SINK_ROLE, SOURCE_ROLE};
+ghost use Rattle.double_buffering.specs.Machines as spec;
+ghost use Rattle.double_buffering.specs.declared.names.TheConstants.{KERNEL_ROLE, SINK_ROLE, SOURCE_ROLE};
 
 use crate::copying::play_kernel;
+use crate::kernel::Begun;
 use crate::played::Played;
 use crate::reading::play_source;
+use crate::sink::Ready;
+use crate::source::Waiting;
 use crate::writing::play_sink;
-use buffering::kernel::Begun;
-use buffering::sink::Ready;
-use buffering::source::Waiting;
 use rs_session::Session;
 use rs_typed::{At, Spot};
 use std::alloc::Global;
@@ -137,7 +137,7 @@ fn spend<S: Spot>(place: Option<At<S>>)
     }
 }
 
-/// All three roles play, each on a thread of its own. Where no threads can be made it waits for ever.
+/// All three roles play, each on a thread of its own. If no thread can be started, it waits for ever.
 pub fn play_all<R: Threads + Wait + Sync>(
     rt: &R,
     alloc: Global,

@@ -15,9 +15,9 @@ const MOST_ACTS: u64 = 1 << 62;
 
 /// What came at a spot that takes two labels.
 pub enum Came<M: Spot, V: Payload, N: Spot, W: Payload> {
-    /// A value with the first label, and the spot behind it.
+    /// A value with the first label, and the spot after it.
     First(V, At<M>),
-    /// A value with the second label, and the spot behind it.
+    /// A value with the second label, and the spot after it.
     Second(W, At<N>),
 }
 

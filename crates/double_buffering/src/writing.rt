@@ -3,12 +3,12 @@
 ghost use Rattle.std.specs.Prelude.{◌≡◌};
 ghost use Rattle.rs_session.specs.Stages.{IsEnded};
 ghost use Rattle.rs_typed.specs.Endpoints.{IsEndpoint};
-ghost use Rattle.buffering.specs.Machines as spec;
-ghost use Rattle.buffering.specs.declared.names.TheConstants.{SINK_ROLE};
+ghost use Rattle.double_buffering.specs.Machines as spec;
+ghost use Rattle.double_buffering.specs.declared.names.TheConstants.{SINK_ROLE};
 
 use crate::played::Played;
+use crate::sink::{Ready, Waiting};
 use crate::waiting::{Came, receive_two, send};
-use buffering::sink::{Ready, Waiting};
 use rs_session::Session;
 use rs_typed::At;
 use std::sync::Wait;

@@ -1,5 +1,5 @@
 use Rattle.rs_typed.specs.Endpoints.{IsEndpoint}
-use Rattle.buffering.specs.Machines.{kernel}
+use Rattle.double_buffering.specs.Machines.{kernel}
 use Rattle.double_buffering.proofs.copying.play_kernel.Given as goal
 
 abbrev pub invariant-loop : goal.invariant-loop

@@ -1,5 +1,5 @@
 use Rattle.rs_typed.specs.Endpoints.{IsEndpoint}
-use Rattle.buffering.specs.Machines.{source}
+use Rattle.double_buffering.specs.Machines.{source}
 use Rattle.double_buffering.proofs.reading.play_source.Given as goal
 
 abbrev pub invariant-loop : goal.invariant-loop

@@ -1,5 +1,5 @@
 use Rattle.rs_typed.specs.Endpoints.{IsEndpoint}
-use Rattle.buffering.specs.Machines.{sink}
+use Rattle.double_buffering.specs.Machines.{sink}
 use Rattle.double_buffering.proofs.writing.play_sink.Given as goal
 
 abbrev pub invariant-loop : goal.invariant-loop

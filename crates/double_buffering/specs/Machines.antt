@@ -1,10 +1,10 @@
--- Public: the machines of kernel, source and sink.
+-- Steps: the machines of kernel, source and sink.
 use Rattle.std.specs.Prelude.{ℕ, [], ◌∷◌, List}
 use Rattle.rs_model.specs.Data.{Machine_data}
 use Rattle.rs_model.specs.declared.graph.Arm.{Arm}
 use Rattle.rs_model.specs.declared.machines.State.TheVariants.{Done, Puts, Takes}
 use Rattle.rs_model.specs.declared.values.Sort.TheVariants as sort
-use Rattle.buffering.specs.declared.names.TheConstants.{KERNEL_ROLE, SOURCE_ROLE, SINK_ROLE}
+use Rattle.double_buffering.specs.declared.names.TheConstants.{KERNEL_ROLE, SOURCE_ROLE, SINK_ROLE}
 
 -- the arm `ready()`, which leads to that state
 abbrev pub ready_then : ℕ → Arm

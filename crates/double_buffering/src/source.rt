@@ -1,7 +1,7 @@
 //! The source S, whose machine is `rec X. K?ready(). K!{copy(bytes). X, stop(). K?ready(). end}`.
 
 ghost use Rattle.std.specs.Prelude.{refl};
-ghost use Rattle.buffering.specs.Machines.{source};
+ghost use Rattle.double_buffering.specs.Machines.{source};
 
 use crate::names::{CopyMessage, KERNEL_ROLE, KernelParty, ReadyMessage, SOURCE_ROLE, StopMessage};
 use crate::states::{receives_one, sends_two};

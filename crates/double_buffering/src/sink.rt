@@ -1,7 +1,7 @@
 //! The sink T, whose machine is `rec X. K!ready(). K?{copy(bytes). X, stop(). end}`.
 
 ghost use Rattle.std.specs.Prelude.{refl};
-ghost use Rattle.buffering.specs.Machines.{sink};
+ghost use Rattle.double_buffering.specs.Machines.{sink};
 
 use crate::names::{CopyMessage, KERNEL_ROLE, KernelParty, ReadyMessage, SINK_ROLE, StopMessage};
 use crate::states::{receives_two, sends_one};

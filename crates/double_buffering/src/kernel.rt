@@ -2,7 +2,7 @@
 //! `S!ready(). rec X. S!ready(). T?ready(). S?{copy(bytes). T!copy(bytes). X, stop(). T!stop(). end}`.
 
 ghost use Rattle.std.specs.Prelude.{refl};
-ghost use Rattle.buffering.specs.Machines.{kernel};
+ghost use Rattle.double_buffering.specs.Machines.{kernel};
 
 use crate::names::{
     CopyMessage, KERNEL_ROLE, ReadyMessage, SINK_ROLE, SOURCE_ROLE, SinkParty, SourceParty,

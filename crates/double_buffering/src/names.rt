@@ -27,5 +27,5 @@ pub type ReadyMessage = Message<0, ()>;
 /// `copy(bytes)`.
 pub type CopyMessage = Message<1, Octets>;
 
-/// `stop()`, behind which no copies come.
+/// `stop()`, after which no copies come.
 pub type StopMessage = Message<2, ()>;
