@@ -7,7 +7,7 @@ MOST_SECONDS = 20
 
 
 class Run:
-    """A run on this input with so many MB of addresses, which is killed after 20 seconds. Where a signal ended it, its status is
+    """A run on this input with so many MB of addresses, which is killed after 20 seconds. If a signal ended it, its status is
     below 0."""
 
     def __init__(self, words, data, megabytes):
