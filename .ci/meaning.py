@@ -158,7 +158,7 @@ class Document:
 
 
 class Projection:
-    """The projection of a protocol onto a role. A member is a node's number, or the number behind that of the end for Done."""
+    """The projection of a protocol onto a role. A member is a node's number, or the number after that of the end for Done."""
 
     def __init__(self, protocol, role):
         self.nodes, self.end, self.role = protocol.nodes, protocol.end, role

@@ -26,7 +26,7 @@ class Token:
 
 
 def token_at(text, place):
-    """The token behind the blanks and comments at the place; a faulty one is no token."""
+    """The token after the blanks and comments at the place; a faulty one is no token."""
     at = GAP.match(text, place).end()
     found = TOKEN.match(text, at)
     if found is None:
@@ -148,7 +148,7 @@ class Reader:
                     return
 
     def brace_behind(self, is_machine):
-        """The brace behind the arrow and its role, or behind the mark of a machine; None where one arm stands without braces."""
+        """The brace after the arrow and its role, or after the mark of a machine; None if there is one arm without braces."""
         if is_machine and self.peek().kind == 'word':
             return None
         if is_machine:
@@ -163,7 +163,7 @@ class Reader:
         self.mark('.')
 
     def read_act(self, wanted, count):
-        """An act with so many before it in its list."""
+        """An act with that number of acts before it in its list."""
         token = self.want(wanted, Token.is_name)
         self.known(token)
         if count == MOST_PENDING:
@@ -204,14 +204,14 @@ class Reader:
             self.number()
 
     def has_further(self, wanted, count, most):
-        """The number of a further node or row, behind so many, or the end of all."""
+        """The number of a further node or row, after that number of them, or the end of all."""
         token = self.want(wanted + ' or }' if count else wanted, lambda token: count and token.kind == '}' or token.kind == 'number' and int(token.text) == count)
         if token.kind == 'number' and count == most:
             raise Fault('nodes', token.at)
         return token.kind == 'number'
 
     def read_nodes(self, lists=None):
-        """The nodes of format 1, or those of format 2 behind so many lists and the number of the first node."""
+        """The nodes of format 1, or those of format 2 after that number of lists and the number of the first node."""
         count = 0
         while True:
             if (lists is None or count) and not self.has_further('node', count, MOST_NODES):
