@@ -48,7 +48,7 @@ pub full_on : (rings : Rings_data) (pass pass' : Pass_data) (capacity p q s n : 
 full_on rings pass pass' capacity p q s n x sent taken back at table full =
     changed rings pass pass' p s n s n (part_with_room q taken (part_of pass.view p)) at table full.changed at.at at.many
 
--- the one arm of a state that takes tells where a take leads
+-- the one arm of a state that takes says where a take leads
 pub takes_on : (rings : Rings_data) (pass pass' : Pass_data) (capacity q s n next : ℕ) (p : Role) (x : Parcel) → PassStands rings pass q s n → pass'.table ≡ pass.table
     → TakesOne rings.machines q p s next → ParcelIsTaken rings.machines capacity q p.0 x pass.view pass'.view → PassStands rings pass' q next (n + 1)
 takes_on rings pass pass' capacity q s n next p x at table one taken =
@@ -95,7 +95,7 @@ pub stand_first : (ms machines : List Machine_data) (rings : Rings_data) (pass :
     → (r : ℕ) → r < length machines → PassStands rings pass r (start_of (slice_get machines r)) 0
 stand_first ms machines rings pass same stand = subst (λ (z : List Machine_data). (r : ℕ) → r < length z → PassStands rings pass r (start_of (slice_get z r)) 0) same stand
 
--- both of two roles stand at their start
+-- both of two roles are at their start
 pub both_stand_first : (ms machines : List Machine_data) (rings : Rings_data) (pass : Pass_data) → ms ≡ machines → length machines ≡ 2
     → ((r : ℕ) → r < length ms → PassStands rings pass r (start_of (slice_get ms r)) 0)
     → PassStands rings pass 0 (start_of (slice_get machines 0)) 0 × PassStands rings pass 1 (start_of (slice_get machines 1)) 0

@@ -9,7 +9,7 @@ use Rattle.rs_rings.specs.Passes.{Rings_data, Pass_data}
 use Rattle.rs_rings.specs.Views.{SpeaksFor, state_in, history_in}
 use Rattle.benches.specs.declared.ring_players.RingPlayer.{RingPlayer}
 
--- the pass of these rings speaks for the role, which stands in that state and has made so many acts
+-- the pass of these rings speaks for the role, which is in that state and has made that number of acts
 pub record PassStands (rings : Rings_data) (pass : Pass_data) (role state acts : ℕ) : Type 0 where
   pub table : pass.table ≡ rings.table
   pub speaks : SpeaksFor pass.view role

@@ -13,7 +13,7 @@ one_more count = min (count + 1) (2 ^ 64 - 1)
 abbrev pub actor_behind_act : WorkingActor → ℕ → WorkingActor
 actor_behind_act x draws = record { draws = draws; number = after_many x.rounds x.number; rounds = x.rounds; acts = one_more x.acts }
 
--- it chooses by its draws, and works where it is asked and where a message comes
+-- it chooses by its draws, and works when it is asked and when a message comes
 abbrev pub by_working : Behaviour WorkingActor
 by_working = record {
   chooses = λ x arms. by_draws.chooses x.draws arms;

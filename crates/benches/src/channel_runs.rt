@@ -18,7 +18,7 @@ fn feed_channel<R: Wait>(rt: &R, sender: &Sender<Parcel, Global>, count: u64) {
     }
 }
 
-/// Takes so many parcels out of the channel, and tells how many of them were the next number in order.
+/// Takes `count` parcels out of the channel. Returns how many of them were the next number in order.
 fn drain_channel<R: Wait>(rt: &R, receiver: &Receiver<Parcel, Global>, count: u64) -> u64 {
     let mut right: u64 = 0;
     for n in 0..count {
@@ -32,7 +32,7 @@ fn drain_channel<R: Wait>(rt: &R, receiver: &Receiver<Parcel, Global>, count: u6
     right
 }
 
-/// Sends the numbers below `count` through a channel of that capacity, on so many threads, one or two: how many came in order.
+/// Sends the numbers below `count` through a channel of that capacity, on one thread or two. Returns how many came in order.
 pub fn stream_by_channel<R: Threads + Wait + Sync>(
     rt: &R,
     alloc: Global,

@@ -11,7 +11,7 @@ use rs_typed::{At, Nat, TypedOne, TypedSent};
 /// So many acts a role makes at most.
 const MOST_ACTS: u64 = 1 << 62;
 
-/// A sends the number where its ring has room.
+/// A sends the number if its ring has room.
 fn feed(session: &Session, at: At<Feeding>, number: Nat) -> At<Feeding>
     requires { IsEndpoint session.now feeder at }
     ensures { IsEndpoint session.now feeder result }
@@ -30,7 +30,7 @@ fn feed(session: &Session, at: At<Feeding>, number: Nat) -> At<Feeding>
     }
 }
 
-/// B receives a value, where one has come: whether it's the number.
+/// B receives a value, if there is one. Returns whether it's the number.
 fn drain(session: &Session, at: At<Draining>, number: u64) -> (bool, At<Draining>)
     requires { IsEndpoint session.now drainer at }
     ensures { IsEndpoint session.now drainer result.1 }

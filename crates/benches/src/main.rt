@@ -2,8 +2,8 @@
 //! at each act: how many parcels came in order and how far the workers came; with the word `rings` how many parcels came in a
 //! second, and with the word `workers` how many acts were made. With the word `opening`, `stages` or `endpoints` it plays a
 //! session of no acts, by stages or by endpoints. With the word `watched1` to `watched4` it makes sends through a monitor of a
-//! machine of so many labels, and with `unwatched` it goes through the same loop without one. Without a word it ends with 1 where one of some further sessions
-//! doesn't go as it should.
+//! machine with that number of labels, and with `unwatched` it runs the same loop without a monitor. Without a word it ends
+//! with status 1 if one of some further sessions doesn't go as it should.
 #![tactic(auto)]
 
 mod act_sessions;
@@ -57,15 +57,15 @@ enum Asked {
     RingTimes,
     /// How fast workers make acts.
     WorkerTimes,
-    /// A session of so many numbers, played in that way.
+    /// A session of that number of numbers, played in that way.
     Acts(Way, u32),
-    /// So many sends through a monitor of a machine of so many labels.
+    /// The second number of sends through a monitor of a machine with the first number of labels.
     Watched(u16, u32),
-    /// The loop of so many sends alone.
+    /// The loop of that number of sends, without a monitor.
     Unwatched(u32),
 }
 
-/// What the first word behind the program's name asks for.
+/// What the first word after the program's name asks for.
 fn what_is_asked<R: Env + Alloc<A = Global>>(rt: &R) -> io::Result<Asked> {
     for (place, word) in env::args(rt)?.enumerate() {
         if place == 1 {
@@ -104,7 +104,7 @@ fn what_is_asked<R: Env + Alloc<A = Global>>(rt: &R) -> io::Result<Asked> {
     Ok(Asked::Trials)
 }
 
-/// Tells how many parcels came in order.
+/// Prints how many parcels came in order.
 fn tell_orders<R: Threads + Wait + Sync + Print + Alloc<A = Global>>(rt: &R) -> io::Result<()> {
     for (threads, capacity) in ROWS {
         let right = told(ring_sessions::stream(rt, rt.alloc(), threads, capacity, 1000))?;
@@ -125,7 +125,7 @@ fn told<T>(right: Result<T, NoMemory>) -> io::Result<T> {
     }
 }
 
-/// Tells what the role that came first to 1,000 acts has worked out.
+/// Prints what the role that first made 1,000 acts has worked out.
 fn tell_numbers<R: Threads + Wait + Sync + Print + Alloc<A = Global>>(rt: &R) -> io::Result<()> {
     for session in SESSIONS {
         for workers in WORKERS {
@@ -146,7 +146,7 @@ fn tell_numbers<R: Threads + Wait + Sync + Print + Alloc<A = Global>>(rt: &R) ->
     Ok(())
 }
 
-/// Tells how many numbers came in order in a session that is played in that way.
+/// Prints how many numbers came in order in a session that is played in that way.
 fn tell_acts<R: Print + Alloc<A = Global>>(rt: &R, way: Way, count: u32) -> io::Result<()> {
     let by = match way {
         Way::Stages => "stages",
@@ -158,13 +158,13 @@ fn tell_acts<R: Print + Alloc<A = Global>>(rt: &R, way: Way, count: u32) -> io::
     }
 }
 
-/// Tells how many sends the monitor let through.
+/// Prints how many sends the monitor let through.
 fn tell_watched<R: Print + Alloc<A = Global>>(rt: &R, labels: u16, count: u32) -> io::Result<()> {
     let through = told(monitor_acts::let_through(rt.alloc(), labels, count))?;
     println!(rt; "labels {labels}: {through} of {count} sends were let through")
 }
 
-/// Tells how many parcels came in a second: by the rings of a session, by the kit's channel, and by its ring of two threads.
+/// Prints how many parcels came in a second: by the rings of a session, by the kit's channel, and by its ring of two threads.
 fn tell_ring_times<R: Threads + Wait + Sync + Clock + Print + Alloc<A = Global>>(
     rt: &R,
 ) -> io::Result<()> {
@@ -177,7 +177,7 @@ fn tell_ring_times<R: Threads + Wait + Sync + Clock + Print + Alloc<A = Global>>
     Ok(())
 }
 
-/// Tells how many acts were made in a second.
+/// Prints how many acts were made in a second.
 fn tell_worker_times<R: Threads + Wait + Sync + Clock + Print + Alloc<A = Global>>(
     rt: &R,
 ) -> io::Result<()> {

@@ -7,7 +7,7 @@ use std::alloc::Global;
 /// To whom all messages go.
 const PEER: Role = Role(1);
 
-/// A machine that sends numbers for ever, each by one of so many labels.
+/// A machine that sends numbers for ever, each by one of `labels` labels.
 fn sender(alloc: Global, labels: u16) -> Result<Machine, NoMemory> {
     let mut arms = Arms::new(alloc);
     for number in 0..labels {
@@ -26,7 +26,7 @@ fn sender(alloc: Global, labels: u16) -> Result<Machine, NoMemory> {
     })
 }
 
-/// How many of so many sends the monitor of that machine lets through, up to the first that it refuses. The labels take turns.
+/// How many of `count` sends the monitor of that machine lets through, up to the first that it refuses. The labels take turns.
 pub fn let_through(alloc: Global, labels: u16, count: u32) -> Result<u64, NoMemory> {
     let mut monitor = Monitor::new(sender(alloc, labels)?);
     let mut label = 0;

@@ -64,7 +64,7 @@ pub fn stream(alloc: Global) -> Result<Vec<Machine>, NoMemory>
     Ok(vec![in alloc; a, b]?)
 }
 
-/// B sends C a number, C sends B one back, and B tells A, for ever.
+/// B sends C a number, C sends B one back, and B reports it to A, for ever.
 pub fn relay(alloc: Global) -> Result<Vec<Machine>, NoMemory>
     ensures { IfOk result (λ m. m.items ≡ machines_of_relay) }
 {

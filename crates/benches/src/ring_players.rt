@@ -16,7 +16,7 @@ use std::alloc::Global;
 use std::sync::Wait;
 use std::thread;
 
-/// A role of a session over rings: its pass, the state in which it stands, and how many acts it has made.
+/// A role of a session over rings: its pass, the state that it is in, and how many acts it has made.
 pub struct RingPlayer {
     pub pass: Pass,
     pub role: Role,
@@ -24,7 +24,7 @@ pub struct RingPlayer {
     pub acts: u64,
 }
 
-/// The rings of these machines, and the pass of all roles, each of which stands in its start state.
+/// The rings of these machines, and the pass of all roles, each of which is in its start state.
 pub fn begin(alloc: Global, machines: &[Machine], capacity: u16) -> Result<(Rings, Pass), NoMemory>
     requires roles { (2 ≤ length machines.now) × (length machines.now ≤ MOST_ROLES) }
     requires capacity { IsCapacity capacity }
@@ -36,7 +36,7 @@ pub fn begin(alloc: Global, machines: &[Machine], capacity: u16) -> Result<(Ring
     Rings::begin(alloc, machines, capacity)
 }
 
-/// Cuts off the player of a role that stands in its start state.
+/// Cuts off the player of a role that is in its start state.
 pub fn player_of(rings: &Rings, pass: &mut Pass, role: Role, start: u32) -> RingPlayer
     requires stands { PassStands rings.now pass.old role.0 start 0 }
     ensures at { IsAt rings.now result }
@@ -52,7 +52,7 @@ pub fn player_of(rings: &Rings, pass: &mut Pass, role: Role, start: u32) -> Ring
     }
 }
 
-/// The players A and B of a session of two roles, which stand in their start states.
+/// The players A and B of a session of two roles, which are in their start states.
 pub fn pair_of(rings: &Rings, pass: Pass) -> (RingPlayer, RingPlayer)
     requires stand { PassStands rings.now pass 0 0 0 × PassStands rings.now pass 1 0 0 }
     ensures at { IsAt rings.now result.0 × IsAt rings.now result.1 }
@@ -71,7 +71,7 @@ pub fn pair_of(rings: &Rings, pass: Pass) -> (RingPlayer, RingPlayer)
     (a, b)
 }
 
-/// Puts the parcel and goes on to the state `next`, or gives it back where the ring is full.
+/// Puts the parcel and goes on to the state `next`, or gives it back if the ring is full.
 pub fn try_send(
     rings: &Rings,
     player: &mut RingPlayer,
@@ -127,7 +127,7 @@ pub fn send<R: Wait>(
     unreachable!()
 }
 
-/// Takes a parcel from a role that sends it one label alone, and goes on to the state `next`; none where the ring is empty.
+/// Takes a parcel from a role that sends it one label alone, and goes on to the state `next`; none if the ring is empty.
 pub fn try_receive(
     rings: &Rings,
     player: &mut RingPlayer,

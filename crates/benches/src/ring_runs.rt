@@ -50,7 +50,7 @@ pub fn feed<R: Wait>(rt: &R, rings: &Rings, player: &mut RingPlayer, count: u64)
     }
 }
 
-/// B takes so many parcels, and tells how many of them were the next number in order.
+/// B takes `count` parcels. Returns how many of them were the next number in order.
 #[tactic(auto, using(crate::proofs::Sends::stream_takes))]
 pub fn drain<R: Wait>(rt: &R, rings: &Rings, player: &mut RingPlayer, count: u64) -> u64
     requires machines { rings.now.machines ≡ machines_of_stream }
@@ -71,7 +71,7 @@ pub fn drain<R: Wait>(rt: &R, rings: &Rings, player: &mut RingPlayer, count: u64
     right
 }
 
-/// A puts a number and B takes it, on one thread, for each number below `count`; it tells how many came in order.
+/// A puts a number and B takes it, on one thread, for each number below `count`. Returns how many came in order.
 #[tactic(auto, using(crate::proofs::Sends::stream_fits, crate::proofs::Sends::stream_puts, crate::proofs::Sends::stream_takes))]
 pub fn in_turn(rings: &Rings, a: &mut RingPlayer, b: &mut RingPlayer, count: u64) -> u64
     requires machines { rings.now.machines ≡ machines_of_stream }
@@ -95,8 +95,8 @@ pub fn in_turn(rings: &Rings, a: &mut RingPlayer, b: &mut RingPlayer, count: u64
     right
 }
 
-/// In each of `count` rounds the player sends the round's number to its peer and then takes the peer's; it tells how many
-/// came in order.
+/// In each of `count` rounds the player sends the round's number to its peer and then takes the peer's. Returns how
+/// many came in order.
 #[tactic(auto, using(crate::proofs::Sends::rounds_fit, crate::proofs::Sends::rounds_puts, crate::proofs::Sends::rounds_takes))]
 pub fn talk<R: Wait>(rt: &R, rings: &Rings, player: &mut RingPlayer, peer: Role, count: u64) -> u64
     requires machines { rings.now.machines ≡ machines_of_rounds }
@@ -120,7 +120,8 @@ pub fn talk<R: Wait>(rt: &R, rings: &Rings, player: &mut RingPlayer, peer: Role,
     right
 }
 
-/// B asks C in each of `count` rounds from the round `first` on, takes its answer, and tells A of the round; it tells how many answers were right.
+/// B asks C in each of `count` rounds from the round `first` on, takes its answer, and reports the round to A. Returns how
+/// many answers were right.
 #[tactic(auto, using(crate::proofs::Sends::relay_fits, crate::proofs::Sends::ask_puts, crate::proofs::Sends::ask_takes, crate::proofs::Sends::tell_puts))]
 pub fn ask<R: Wait>(rt: &R, rings: &Rings, player: &mut RingPlayer, first: u64, count: u64) -> u64
     requires machines { rings.now.machines ≡ machines_of_relay }
@@ -144,7 +145,7 @@ pub fn ask<R: Wait>(rt: &R, rings: &Rings, player: &mut RingPlayer, first: u64, 
     right
 }
 
-/// C takes a number and answers with the round's, in each of `count` rounds; it tells how many came in order.
+/// C takes a number and answers with the round's, in each of `count` rounds. Returns how many came in order.
 #[tactic(auto, using(crate::proofs::Sends::relay_fits, crate::proofs::Sends::answer_takes, crate::proofs::Sends::answer_puts))]
 pub fn answer<R: Wait>(
     rt: &R,
@@ -173,7 +174,7 @@ pub fn answer<R: Wait>(
     right
 }
 
-/// A takes what it was told of so many rounds, and tells how many came in order.
+/// A takes what B reported of `count` rounds. Returns how many came in order.
 #[tactic(auto, using(crate::proofs::Sends::hear_takes))]
 pub fn hear<R: Wait>(rt: &R, rings: &Rings, player: &mut RingPlayer, first: u64, count: u64) -> u64
     requires machines { rings.now.machines ≡ machines_of_relay }

@@ -13,7 +13,7 @@ use std::alloc::Global;
 use std::sync::Wait;
 use std::thread::Threads;
 
-/// A sends B the numbers below `count` by rings of that capacity, on so many threads, one or two: how many came in order.
+/// A sends B the numbers below `count` by rings of that capacity, on one thread or two. Returns how many came in order.
 #[tactic(auto, using(crate::proofs::Safe::is_stream_safe, crate::proofs::Safe::is_stream_fits))]
 pub fn stream<R: Threads + Wait + Sync>(
     rt: &R,
@@ -61,9 +61,9 @@ pub fn rounds<R: Threads + Wait + Sync>(
     Ok(right)
 }
 
-/// B and C go through one round, of which A is told. Then this thread holds A's pass in the middle of its session, while B
-/// and C go through so many rounds more, each on a thread of its own; at last A takes what it was told of them. It tells
-/// how many parcels came in order.
+/// B and C make one round, and B reports it to A. Then this thread holds A's pass in the middle of its session, while B and
+/// C make `rounds` rounds more, each on a thread of its own. At last A takes what B reported of them. Returns how many
+/// parcels came in order.
 #[tactic(auto, using(crate::proofs::Safe::is_relay_safe, crate::proofs::Safe::is_relay_fits, crate::proofs::Plays::all_of_three))]
 pub fn held<R: Threads + Wait + Sync>(rt: &R, alloc: Global, rounds: u64) -> Result<u64, NoMemory>
     requires bounded { rounds ≤ MOST_CAPACITY }

@@ -42,7 +42,7 @@ fn stream<R: Threads + Wait + Sync + Alloc<A = Global>>(
     }
 }
 
-/// How many parcels go from A to B in a second, on so many threads: the best of five streams.
+/// How many parcels go from A to B in a second, on that number of threads: the best of five streams.
 pub fn of_stream<R: Threads + Wait + Sync + Clock + Alloc<A = Global>>(
     rt: &R,
     carrier: Carrier,

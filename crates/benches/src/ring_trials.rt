@@ -118,7 +118,7 @@ fn is_loose(loose: &Loose, sender: u8, receiver: u8, label: u16) -> bool {
         && matches!(loose.parcel.value, Value::Unit)
 }
 
-/// Whether both labels are handed out where A and B are left.
+/// Whether both labels are handed out if A and B are left.
 fn labels_are_left<R: Wait>(rt: &R, alloc: Global) -> Result<bool, NoMemory> {
     let loose = loose_labels(rt, alloc)?;
     match loose.as_slice() {

@@ -10,7 +10,7 @@ use rs_typed::Nat;
 /// So many acts a role makes at most.
 const MOST_ACTS: u64 = 1 << 62;
 
-/// A sends the number where its ring has room.
+/// A sends the number if its ring has room.
 fn feed(session: &Session, stage: Stage, number: Nat) -> Stage
     requires { Plays session.now feeder stage }
     ensures { Plays session.now feeder result }
@@ -34,7 +34,7 @@ fn feed(session: &Session, stage: Stage, number: Nat) -> Stage
     }
 }
 
-/// B receives a value, where one has come: whether it's the number.
+/// B receives a value, if there is one. Returns whether it's the number.
 fn drain(session: &Session, stage: Stage, number: u64) -> (bool, Stage)
     requires { Plays session.now drainer stage }
     ensures { Plays session.now drainer result.1 }

@@ -8,7 +8,7 @@ use rs_core::{Actor, SeededActor};
 use rs_model::{Arm, NoMemory, Value};
 use std::alloc::Global;
 
-/// It chooses what its role sends by draws. At each act it puts its number through so many rounds.
+/// An actor that chooses at random what its role sends, and works at each act: it puts its number through `rounds` rounds.
 #[derive(Drop)]
 pub struct WorkingActor {
     pub draws: SeededActor,
@@ -23,7 +23,7 @@ fn after(number: u32) -> u32
     ((u64::from(number) * 1_103_515_245 + 12_345) % (1 << 31)) as u32
 }
 
-/// What so many rounds of a linear congruential generator make of the number.
+/// The number after `rounds` rounds of a linear congruential generator.
 fn rounds_behind_act(rounds: u32, number: u32) -> u32
     ensures { result ≡ after_many rounds number }
 {

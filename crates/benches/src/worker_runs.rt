@@ -51,7 +51,7 @@ fn actors_of(alloc: Global, roles: usize, rounds: u32) -> Result<Vec<WorkingActo
     Ok(actors)
 }
 
-/// How far the run came: none where no role was stopped at its limit.
+/// How far the run came: none if no role was stopped at its limit.
 fn end_of(run: &Run<WorkingActor>) -> Option<WorkDone> {
     let Outcome::Stopped(role) = run.outcome else {
         return None;
@@ -68,7 +68,7 @@ fn end_of(run: &Run<WorkingActor>) -> Option<WorkDone> {
     })
 }
 
-/// How far an accepted session comes: none where it needs more room than the rings have, or memory was refused.
+/// How far an accepted session comes: none if it needs more room than the rings have, or memory ran out.
 fn accepted_run<R: Threads + Wait + Sync>(
     rt: &R,
     alloc: Global,
@@ -98,8 +98,8 @@ fn accepted_run<R: Threads + Wait + Sync>(
     }
 }
 
-/// How far the text's session comes with that load: none where it is refused, needs more room than the rings have or comes to
-/// an end, or where memory was refused.
+/// How far the text's session gets with that load: none if it is refused, needs more room than the rings have, or ends, or
+/// if memory ran out.
 pub fn run_of<R: Threads + Wait + Sync>(
     rt: &R,
     alloc: Global,

@@ -13,7 +13,7 @@ use std::time::{Clock, Instant};
 /// How many acts a role may make in each measured run.
 const LIMIT: u32 = 200_000;
 
-/// How many acts all roles of the text's session make in a second, with so many rounds of work at each: the best of three runs.
+/// How many acts all roles of the text's session make in a second, with that number of rounds of work at each: the best of three runs.
 pub fn acts_a_second<R: Threads + Wait + Sync + Clock + Alloc<A = Global>>(
     rt: &R,
     text: &[u8],

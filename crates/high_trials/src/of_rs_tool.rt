@@ -18,7 +18,7 @@ struct Told {
     closed: bool,
 }
 
-/// The words, with a blank between each two; none where there is no byte.
+/// The words, with a blank between each two; none if there is no byte.
 fn strings(alloc: Global, words: &str) -> Result<Vec<String>, Fail> {
     let mut strings = Vec::new(alloc);
     if !words.is_empty() {
@@ -316,7 +316,7 @@ fn reads_and_writes_that_fail_are_told(rt: HostRuntime) -> Result<(), Fail> {
 const BUFFERING_REPORT: &[u8] =
     b"accepted\nK: nodes 13 pending 3 rank 3\nS: nodes 6 pending 1 rank 0\nT: nodes 5 pending 1 rank 0\nroom 16\n";
 
-/// What `check` answers to double buffering, which is read by seven bytes, where this read fails.
+/// What `check` answers to double buffering, which is read by seven bytes, if this read fails.
 fn answer_by_sevens<R: Threads + Wait + Sync>(
     rt: &R,
     alloc: Global,
@@ -327,7 +327,7 @@ fn answer_by_sevens<R: Threads + Wait + Sync>(
     answer(rt, alloc, "check", source, sink, &NoGate)
 }
 
-/// What `check` answers to it, where the report is written by three bytes, and this write fails.
+/// What `check` answers to it, if the report is written by three bytes, and this write fails.
 fn answer_by_threes<R: Threads + Wait + Sync>(
     rt: &R,
     alloc: Global,
@@ -340,7 +340,7 @@ fn answer_by_threes<R: Threads + Wait + Sync>(
 
 #[test]
 fn each_read_that_fails_is_told(rt: HostRuntime) -> Result<(), Fail> {
-    // 35 reads give 245 bytes, and the next one tells the end
+    // 35 reads give 245 bytes, and the next one finds the end
     for failing in 1..37 {
         let told = answer_by_sevens(&rt, rt.alloc(), failing)?;
         assert!(rt; told.status == Status::ReadFault);

@@ -22,7 +22,7 @@ fn fault_of(alloc: Global, bytes: &[u8]) -> Result<Option<TextFault>, NoMemory> 
     Ok(None)
 }
 
-/// A derivation of so many nodes, without its last brace.
+/// A derivation of `nodes` nodes, without its last brace.
 fn long_text(alloc: Global, nodes: u64) -> Result<Text, NoMemory> {
     let mut text = Text::new(alloc);
     text.push(b"derivation K bound 1 {")?;
@@ -49,7 +49,7 @@ fn counts_nodes(rt: HostRuntime) -> Result<(), Fail> {
     Ok(())
 }
 
-/// A node at which so many receives from the role 0 are pending.
+/// A node at which `pending` receives from the role 0 are pending.
 fn node(alloc: Global, pending: u16, state: u32, rank: u32, above: u32) -> Result<DNode, NoMemory> {
     let mut acts = Pending::new(alloc);
     for label in 0..pending {
@@ -81,7 +81,7 @@ fn figures(derivation: &Derivation) -> Option<(u32, u32)> {
     }
 }
 
-/// What is told of a derivation of the machine that is at its end from itself.
+/// What is written of a derivation of the machine that is at its end from itself.
 fn verdict(alloc: Global, derivation: &Derivation) -> Result<Option<DeriveFault>, NoMemory> {
     let mut states = Vec::new(alloc);
     states.push(State::Done)?;

@@ -77,7 +77,7 @@ fn memory_takes_pieces(rt: HostRuntime) -> Result<(), Fail> {
     Ok(())
 }
 
-/// What reading `abc` up to the limit gives, or why it stops, where one call fails.
+/// What reading `abc` up to the limit gives, or why it stops, if one call fails.
 fn tell_all(text: &mut Text, alloc: Global, limit: usize, failing: u32) -> Result<(), NoMemory>
     requires { limit < 100 }
 {
@@ -134,7 +134,7 @@ impl Source for Watched {
     }
 }
 
-/// Whether so many bytes are read by pieces up to the limit, how many were given, in how many calls, and up to which place.
+/// Whether that number of bytes is read by pieces up to the limit, how many were given, in how many calls, and up to which place.
 fn tell_watched(
     text: &mut Text,
     alloc: Global,
@@ -183,7 +183,7 @@ fn no_turn_is_idle_or_asks_past_the_limit(rt: HostRuntime) -> Result<(), Fail> {
     Ok(())
 }
 
-/// What is taken of a text by pieces of ten bytes, where one call fails, and whether all of it was.
+/// What is taken of a text by pieces of ten bytes, if one call fails, and whether all of it was.
 fn tell_written(text: &mut Text, alloc: Global, failing: u32) -> Result<(), NoMemory> {
     let mut sink = MemSink::new(alloc, 100, 10, [failing].to_vec(alloc)?)?;
     text.push(match write_all(&mut sink, b"accepted\nK 2") {

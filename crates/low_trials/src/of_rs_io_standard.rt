@@ -5,7 +5,7 @@ use std::io;
 use std::io::{ErrorKind, Read, Write};
 use std::test::Fail;
 
-/// A reader and writer at which so many calls are interrupted, and the later ones are fine.
+/// A reader and writer whose first `calls` calls are interrupted, and the later ones are fine.
 #[derive(Drop)]
 struct Interrupted {
     calls: u32,

@@ -21,7 +21,7 @@ pub(crate) fn three_roles(alloc: Global) -> Result<Names, NoMemory> {
     Ok(names)
 }
 
-/// Whether the machine that a text spells is text-shaped with this start, and with one more end behind it.
+/// Whether the machine that a text spells is text-shaped with this start, and with one more end after it.
 fn is_shaped(alloc: Global, bytes: &[u8], start: u32, more: bool) -> Result<bool, NoMemory> {
     let mut names = three_roles(alloc)?;
     if sound(&names) && names.roles.len() <= 16 && names.labels.len() <= 256 {
@@ -60,7 +60,7 @@ fn arm(label: u16, next: u32) -> Arm {
     }
 }
 
-/// Whether so many sends are text-shaped, each in the first arm of the one before, with a second arm to the end where `braces`
+/// Whether `count` sends are text-shaped, each in the first arm of the one before, with a second arm to the end where `braces`
 /// says so.
 fn is_row_shaped(alloc: Global, count: u32, braces: bool) -> Result<bool, NoMemory> {
     let mut states = Vec::new(alloc);

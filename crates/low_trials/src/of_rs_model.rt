@@ -53,7 +53,7 @@ const TWICE_FIVE: MachineFault = MachineFault::TwiceLabel {
     label: Label(5),
 };
 
-/// The role, the start and the states of machines, and what is told of them among three roles.
+/// The role, the start and the states of machines, and what is written of them among three roles.
 const CHECKS: [(u8, u32, &str, Result<(), MachineFault>); 19] = [
     (1, 0, RIGHT, Ok(())),
     (1, 2, RIGHT, Ok(())),

@@ -91,7 +91,7 @@ const DOUBLE_BUFFER: &str = "0>1:0u1 2>0:0u2 1>0:1b3,2u4 0>2:1b0 0>1:0u5 0>2:2u6
 const BACK_INTO_A_RUN: &str =
     "0>1:0u1 0>1:0u2,1u3 0>1:0u4 1>0:0u4 0>2:0u0,1u1,2u2,3u3,4u5 0>2:0u0,1u2,2u6 end";
 
-/// Talks that lead back into a run that ends at a choice of others, behind which role 2 meets one of two talks.
+/// Talks that lead back into a run that ends at a choice of others, after which role 2 meets one of two talks.
 const BACK_BEFORE_A_CHOICE: &str =
     "0>1:0u1 0>1:0u2,1u3 0>2:0u4 0>2:1u5 0>2:0u0,1u1,2u6 0>2:0u1,1u6 end";
 
@@ -111,7 +111,7 @@ fn states_stand_for_talks(rt: HostRuntime) -> Result<(), Fail> {
     Ok(())
 }
 
-/// Whether the role 0 isn't told of the end of a round at that node.
+/// Whether role 0 doesn't learn of the end of a round at that node.
 fn is_unreached(alloc: Global, protocol: &Protocol, node: u32) -> bool {
     let wanted = ProjFault::Unreached {
         role: Role(0),
@@ -120,7 +120,7 @@ fn is_unreached(alloc: Global, protocol: &Protocol, node: u32) -> bool {
     projected(alloc, protocol, 0).err() == Some(wanted)
 }
 
-/// So many messages from role 1 to role 2, and then a round of one more, behind which role 0 has one.
+/// `before` messages from role 1 to role 2, and then a loop of one more, after which role 0 has one.
 fn round_behind(alloc: Global, before: u16) -> Result<Protocol, NoMemory> {
     let before = u32::from(before);
     let mut nodes = Vec::new(alloc);

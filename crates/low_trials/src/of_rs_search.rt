@@ -67,7 +67,7 @@ fn sends_ahead(alloc: Global) -> Result<Machine, NoMemory>
 }
 
 /// There are six candidates, and all their moves together have five results: two where A guesses what it will tell B, one where
-/// it tells C behind either guess, and one where it tells B y. So the search takes at most 2 * 5 + 6 steps.
+/// it tells C after either guess, and one where it tells B y. So the search takes at most 2 * 5 + 6 steps.
 fn searched<L: Ledger>(
     alloc: Global,
     sub: &Machine,
@@ -101,7 +101,7 @@ fn derived(alloc: Global) -> Result<Derivation, SearchFault> {
 
 /// The states of the machine and of the projection, how many acts are owed, the rank and the next nodes, of each node.
 const NODES: [(u32, u32, usize, u32, &'static [u32]); 4] = [
-    // A guesses y: behind x it can't go on
+    // A guesses y: after x it can't go on
     (0, 0, 0, 0, &[1]),
     (0, 2, 1, 1, &[2]),
     (1, 3, 1, 0, &[3]),

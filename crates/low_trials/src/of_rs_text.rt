@@ -38,7 +38,7 @@ fn word_of(kind: FaultKind) -> &'static str {
     }
 }
 
-/// Writes the next token with its offsets, or the fault, and tells whether it is the last.
+/// Writes the next token with its offsets, or the fault, and returns whether it is the last.
 fn show_next(text: &mut Text, lexer: &mut Lexer) -> Result<bool, NoMemory> {
     match lexer.next() {
         Ok(token) => {

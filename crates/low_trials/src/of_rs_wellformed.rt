@@ -7,7 +7,7 @@ use std::alloc::Global;
 use std::test::Fail;
 
 /// A graph by signs, a word a node: `end`, or a talk as `0>2:1a4,2b0`, from role 0 to role 2, whose arms are label 1 with
-/// sort `a` and node 4 behind it, and label 2 with sort `b` and node 0. Sort `u` is unit, `b` bytes, `n` nat.
+/// sort `a` and node 4 after it, and label 2 with sort `b` and node 0. Sort `u` is unit, `b` bytes, `n` nat.
 pub(crate) fn protocol(
     alloc: Global,
     roles: u8,
@@ -71,7 +71,7 @@ const TWICE: WfFault = WfFault::TwiceLabel {
     label: Label(4),
 };
 
-/// Graphs of three roles that no text spells, from their roots, and what is told of them.
+/// Graphs of three roles that no text spells, from their roots, and what is written of them.
 const FAULTS: [(u32, &str, Result<(), WfFault>); 14] = [
     (1, "end 2>0:4u0,5u1", Ok(())),
     (0, "", Err(WfFault::BadNext { node: 0 })),
@@ -164,7 +164,7 @@ fn right_shapes(alloc: Global, rows: &[(u8, &str, u32, bool)]) -> Result<u32, No
     Ok(right)
 }
 
-/// Whether so many talks are text-shaped, each in the first arm of the one before, with a second arm to the end where
+/// Whether `count` talks are text-shaped, each in the first arm of the one before, with a second arm to the end where
 /// `braces` says so.
 fn is_row_shaped(alloc: Global, count: u32, braces: bool) -> Result<bool, NoMemory> {
     let mut nodes = Vec::new(alloc);
@@ -188,7 +188,7 @@ fn is_row_shaped(alloc: Global, count: u32, braces: bool) -> Result<bool, NoMemo
     }))
 }
 
-/// Whether a talk with so many labels is text-shaped.
+/// Whether a talk with `count` labels is text-shaped.
 fn is_talk_shaped(alloc: Global, count: u16) -> Result<bool, NoMemory> {
     let mut arms = Arms::new(alloc);
     for label in 0..count {

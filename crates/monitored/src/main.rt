@@ -215,7 +215,7 @@ fn log_of(alloc: Global, words: Words) -> Result<Vec<ProgramAct>, Fault> {
     Ok(log)
 }
 
-/// Prints where that log departs from the screen's machine.
+/// Prints at which act that log departs from the screen's machine.
 fn depart<R: Print + Alloc<A = Global>>(
     rt: &R,
     document: &Document,

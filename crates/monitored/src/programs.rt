@@ -71,6 +71,7 @@ pub struct Queue {
 }
 
 impl Queue {
+    /// Makes an empty queue. It has no bound.
     pub fn new(alloc: Global) -> Queue {
         Queue {
             messages: VecDeque::new(alloc),
@@ -105,6 +106,7 @@ pub struct Camera {
 }
 
 impl Camera {
+    /// Makes the camera that sends these frames. The monitor is that of its role.
     pub fn new(monitor: TracedMonitor, film: Vec<Octets>) -> Camera {
         Camera {
             monitor,
@@ -112,6 +114,7 @@ impl Camera {
         }
     }
 
+    /// The monitor that keeps its acts.
     pub fn monitor(&self) -> &TracedMonitor {
         &self.monitor
     }
@@ -148,10 +151,12 @@ pub struct Screen {
 }
 
 impl Screen {
+    /// Makes the screen. The monitor is that of its role.
     pub fn new(monitor: Monitor) -> Screen {
         Screen { monitor }
     }
 
+    /// The monitor that keeps its acts.
     pub fn monitor(&self) -> &Monitor {
         &self.monitor
     }

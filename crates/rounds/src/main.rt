@@ -61,7 +61,7 @@ fn round(endpoints: &mut [Option<Endpoint>]) -> u32 {
     received
 }
 
-/// How many messages were received in all rounds; None where memory was refused.
+/// How many messages were received in all rounds; None if memory ran out.
 fn play(alloc: Global, session: &OpenSession) -> Option<u32> {
     let mut endpoints = begin(alloc, session.accepted(), session.capacity()).ok()?;
     let mut received = 0u32;

@@ -15,8 +15,8 @@ pub record PastLeadsTo (machines : List Machine_data) (events : List Event) (c :
   pub starts : StartsAt machines first
   pub steps : Steps machines first events c
 
--- the past leads to a configuration in which this message stands at the place of the queue from the sender to the receiver.
--- From there the events take what stands at the place, and the last of them is the receive of this very message. What they
+-- the past leads to a configuration in which this message is at the place of the queue from the sender to the receiver.
+-- From there the events take what is at the place, and the last of them is the receive of this very message. What they
 -- send are empty values
 pub record IsContinued (machines : List Machine_data) (past : List Event) (sender receiver : Role) (place : ℕ) (events : List Event) : Type 0 where
   pub at : Configuration
@@ -36,8 +36,8 @@ pub record IsNoPast (machines : List Machine_data) (past : List Event) (place : 
   pub leads : PastLeadsTo machines (take place past) at
   pub no_step : (d : Configuration) → Step machines at event d → ⊥
 
--- the past leads to a configuration in which the queue from the sender to the receiver has so many messages, and none
--- stands at the place
+-- the past leads to a configuration in which the queue from the sender to the receiver has n messages, and none
+-- is at the place
 pub record HasNoMessage (machines : List Machine_data) (past : List Event) (sender receiver : Role) (place many : ℕ) : Type 0 where
   pub at : Configuration
   pub leads : PastLeadsTo machines past at
@@ -50,7 +50,7 @@ PastTells machines past sender receiver place (fault.NotAPast at) = IsNoPast mac
 PastTells machines past sender receiver place (fault.NoMessage len) = HasNoMessage machines past sender receiver place len
 PastTells machines past sender receiver place fault.NoMemory = Unit {0}
 
--- the same states of the first so many roles, and the same messages under way
+-- the same states of the first n roles, and the same messages under way
 pub record AgreeFor (roles : ℕ) (c d : Configuration) : Type 0 where
   pub at : (p : ℕ) → p < roles → c.at p ≡ d.at p
   pub queue : (p q : ℕ) → c.queue p q ≡ d.queue p q

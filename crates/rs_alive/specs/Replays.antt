@@ -7,7 +7,7 @@ use Rattle.rs_alive.specs.Pasts.{IsNoPast}
 use Rattle.rs_alive.specs.declared.taking.AliveFault.{AliveFault}
 use Rattle.rs_alive.specs.declared.taking.AliveFault.TheVariants as fault
 
--- the event, which stands at that place, leads nowhere; or memory is wanted
+-- the event at that place leads nowhere; or memory runs out
 abbrev pub IsStepFault : List Machine_data → Configuration → Event → ℕ → AliveFault → Type 0
 IsStepFault machines c event place (fault.NotAPast at) = (at ≡ place) × ((d : Configuration) → Step machines c event d → ⊥)
 IsStepFault machines c event place (fault.NoMessage len) = ⊥

@@ -1,4 +1,4 @@
--- Steps: who acts next so that a receiver comes to its message: the receiver itself where it can, or else the role for
+-- Steps: who acts next so that a receiver reaches its message: the receiver itself if it can, and otherwise the role for
 -- which it waits, or the role for which that one waits, and so on.
 use Rattle.std.specs.Prelude.{◌≡◌, ℕ, zero, suc, ◌<◌, Bool, false, nat_eq, nat_lt, ◌&&◌, List, [], ◌∷◌, Option, Some, None, length, if◌then◌else◌}
 use Rattle.rs_model.specs.Data.{Machine_data}
@@ -14,7 +14,7 @@ use Rattle.rs_core.specs.declared.messages.Message.{Message}
 use Rattle.rs_core.specs.Configurations.{Configuration, Step, state_at}
 use Rattle.rs_core.specs.Safety.{CanMove}
 
--- for whom a role in that state waits: for the state's peer, where nothing of it is there
+-- for whom a role in that state waits: for the state's peer, if there is no message from it
 abbrev pub waits_by : Option State → (ℕ → List Message) → Option Role
 waits_by None back = None
 waits_by (Some Done) back = None
@@ -25,7 +25,7 @@ waits_by (Some (Takes peer arms)) back = if nat_lt 0 (length (back peer.0)) then
 abbrev pub waits_for : List Machine_data → Configuration → ℕ → Option Role
 waits_for machines c p = waits_by (state_at machines c p) (λ q. c.queue q p)
 
--- so many waits lead from one role to another, which doesn't wait
+-- n waits lead from one role to another, which doesn't wait
 abbrev pub Chain : List Machine_data → Configuration → ℕ → ℕ → ℕ → Type 0
 Chain machines c zero p last = (waits_for machines c p ≡ None) × (p ≡ last)
 Chain machines c (suc many) p last = (peer : Role) × (waits_for machines c p ≡ Some peer) × Chain machines c many peer.0 last
@@ -61,7 +61,7 @@ takes_by (Some (Takes peer arms)) sender = nat_eq peer.0 sender.0
 abbrev pub takes_from : List Machine_data → Configuration → Role → Role → Role → Bool
 takes_from machines c role sender receiver = nat_eq role.0 receiver.0 && takes_by (state_at machines c role.0) sender
 
--- the event leads from c to d, and is the act of the role to which the waits lead from the receiver; it is told whether it
+-- the event leads from c to d, and is the act of the role to which the waits lead from the receiver; it is said whether it
 -- takes a message of the sender to the receiver
 pub record Advances (machines : List Machine_data) (sender receiver : Role) (c d : Configuration) (event : Event) (takes : Bool) : Type 0 where
   pub role : Role

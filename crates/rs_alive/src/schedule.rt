@@ -1,4 +1,4 @@
-//! The schedule by which a message comes to be taken: from its receiver along the waits, to the role that can go on.
+//! The schedule by which a message is taken in the end: from its receiver along the waits, to the role that can go on.
 ghost use Rattle.std.specs.Prelude.{◌≡◌, ◌<◌, IfOk, List, MatchOption, None, Some, length};
 ghost use Rattle.rs_core.specs.Configurations.{state_at};
 ghost use Rattle.rs_core.specs.Core.{configuration_of};
@@ -84,7 +84,7 @@ fn waits_for(machines: &[Machine], core: &Core, role: Role) -> Option<Role>
     }
 }
 
-/// The state in which the role's machine stands.
+/// The state of the role's machine.
 fn here<'a>(machines: &'a [Machine], core: &Core, role: Role) -> Option<&'a State>
     requires machines { machines.now ≡ core.now.machines }
     requires well_formed { AreWellFormed machines.now }

@@ -1,4 +1,4 @@
-//! The events that lead to the receive of a stated message, behind a stated past.
+//! The events that lead to the receive of a given message, after a given past.
 ghost use Rattle.std.specs.Prelude.{◌≡◌, ◌≢◌, ◌<◌, ◌≤◌, ◌^◌, ◌*◌, ◌+◌, ◌++◌, ◌∷◌, [], IfOk, IfErr, OnOk, length};
 ghost use Rattle.rs_alive.specs.Pasts.{IsContinued, PastLeadsTo, PastTells};
 ghost use Rattle.rs_alive.specs.Replays.{IsReplayFault, IsStepFault};
@@ -18,7 +18,7 @@ use std::alloc::Global;
 pub enum AliveFault {
     /// The past isn't one of the machines': the event at that place is the first that is no step.
     NotAPast { at: u32 },
-    /// The queue has so many messages, and none at the place that is asked for.
+    /// The queue has this number of messages, and none at the place that is asked for.
     NoMessage { len: u32 },
     /// Memory that was asked for was refused.
     NoMemory,
@@ -34,7 +34,7 @@ impl From<NoMemory> for AliveFault {
     }
 }
 
-/// Events that continue `past`, of which the last one takes the message that stands at the place, counted from 0, of the
+/// Events that continue `past`, of which the last one takes the message at the place, counted from 0, of the
 /// queue from the sender to the receiver: at most twice the number of roles times the number of the protocol's nodes times
 /// the sum of the sender's own events in the past and three times the room.
 ///
@@ -98,7 +98,7 @@ fn replayed(alloc: Global, accepted: &Accepted, past: &[Event]) -> Result<Core, 
     Ok(core)
 }
 
-/// Makes the step of the event that stands at that place of the past.
+/// Makes the step of the event at that place of the past.
 fn replay(
     alloc: Global,
     core: &mut Core,

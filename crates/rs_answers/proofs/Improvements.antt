@@ -117,7 +117,7 @@ module _ (role : List ℕ) (bound asked : ℕ) (bytes : List ℕ) (d : Document_
       was.shows.shown was.shows.canonical in
       record { document = _; spells = v.0; projections = s.projections; machines = v.1.0; verified = v.1.1 }
 
--- behind the line stands a document that is verified
+-- after the line stands a document that is verified
 pub behind_is_verified : (role : List ℕ) (bound asked : ℕ) (bytes : List ℕ) (d : Document_data) (a : Answer_data) → IsBound bound → SpellsDocument bytes d → Improves role bound asked d a → a.verdict ≡ Fine
     → (improved : Improved_data) × (shown : List ℕ) × (a.text ≡ swaps_line role improved ++ shown) × SpellsVerified shown
 behind_is_verified role bound asked bytes d a within doc h fine =

@@ -47,7 +47,7 @@ first_ones protocol wf (suc count) le = go (first_ones protocol wf count (omega 
         AllProject (projections ++ p.0 ∷ []) (subst (λ (n : ℕ). AreFirstProjections protocol n (projections ++ p.0 ∷ [])) one (next_projection protocol count projections p.0 h p.1))
     go (AllProject projections h) (inr f) = OneDoesnt (record { 0 = count }) f.0 (record { known = omega arith; earlier = projections; projected = h; refused = f.1 })
 
--- what the search finds for the first so many roles
+-- what the search finds for the first n roles
 pub data Searched (bound : ℕ) (ms : List Machine_data) (ps : List Projection_data) (count : ℕ) : Type 0 where
   AllFound : (derivations : List Derivation_data) → AreFirstCanonical bound ms ps count derivations → Searched bound ms ps count
   OneIsnt : (role : Role) (fault : SearchFault) → IsUnderivable bound ms ps role fault → Searched bound ms ps count

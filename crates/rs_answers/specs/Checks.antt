@@ -16,7 +16,7 @@ use Rattle.rs_answers.specs.declared.refusals.Refusal.{Refusal}
 abbrev pub with_derivations : Document_data → List Derivation_data → Document_data
 with_derivations d derivations = record d { derivations = map Some derivations }
 
--- what is told of an accepted session: the report of the derivations that were found; or, where they are asked for, the
+-- what is printed of an accepted session: the report of the derivations that were found; or, if they are asked for, the
 -- document with them
 abbrev pub TellsAccepted : Bool → Document_data → List Derivation_data → Answer_data → Type 0
 TellsAccepted false d derivations answer = answer ≡ report d.names.roles derivations

@@ -8,7 +8,7 @@ use Rattle.rs_search.specs.Canonical.{IsCanonical, SearchRefuses}
 use Rattle.rs_search.specs.declared.faults.SearchFault.{SearchFault}
 use Rattle.rs_search.specs.declared.faults.SearchFault.TheVariants as search
 
--- the canonical derivations within the bound of the first so many roles' machines from their projections, in role order
+-- the canonical derivations within the bound of the first n roles' machines from their projections, in role order
 pub record AreFirstCanonical (bound : ℕ) (machines : List Machine_data) (projections : List Projection_data) (count : ℕ) (derivations : List Derivation_data) : Type 0 where
   pub many : length derivations ≡ count
   pub each : (p : ℕ) (m : Machine_data) (j : Projection_data) (d : Derivation_data) → slice_get machines p ≡ Some m → slice_get projections p ≡ Some j

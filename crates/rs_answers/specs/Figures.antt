@@ -16,7 +16,7 @@ pub record HasFigures (sub above : Machine_data) (bound : ℕ) (figures : Figure
   pub canonical : IsCanonical sub above bound derivation
   pub are : figures ≡ figures_of derivation
 
--- those of the first so many roles' machines, in role order
+-- those of the first n roles' machines, in role order
 pub record AreFirstFigures (bound : ℕ) (machines : List Machine_data) (projections : List Projection_data) (count : ℕ) (figures : List Figures) : Type 0 where
   pub derivations : List Derivation_data
   pub canonical : AreFirstCanonical bound machines projections count derivations

@@ -57,7 +57,7 @@ machine_if_swapped improved = if improved.swaps == 0 then None else Some improve
 abbrev pub improved_document : Document_data → ℕ → List Derivation_data → Improved_data → Document_data
 improved_document d place derivations improved = with_derivations (with_own d place (machine_if_swapped improved)) (slice_set derivations place improved.derivation)
 
--- the line on the swaps, and behind it the canonical text of the document
+-- the line on the swaps, and after it the canonical text of the document
 pub record ShowsBehind (line : List ℕ) (d : Document_data) (answer : Answer_data) : Type 0 where
   pub shown : List ℕ
   pub canonical : IsCanonicalDocument d shown
@@ -74,7 +74,7 @@ pub record IsImprovedSession (bound asked : ℕ) (d : Document_data) (place : �
   pub projects : slice_get projections place ≡ Some projection
   pub is_improved : IsImproved projection.machine bound asked improved
 
--- where so many swaps of the role's machine are asked, and derivations are searched within the bound: one of these applies
+-- if n swaps of the role's machine are asked for, and derivations are searched within the bound: one of these applies
 pub data Improves (role : List ℕ) (bound asked : ℕ) (d : Document_data) (answer : Answer_data) : Type 0 where
   -- the document has no such role
   HasNoRole : place_of role d.names.roles ≡ None → answer ≡ unknown_role → Improves role bound asked d answer

@@ -21,7 +21,7 @@ pub record IsSessionWithout (bound : ℕ) (d : Document_data) (place : ℕ) (ses
   pub has : HasMachines d session.projections.items session.machines.items
   pub canonical : AreCanonical bound session.machines.items session.projections.items session.derivations.items
 
--- the improved machine of the role is told, and shown in the document
+-- the improved machine of the role is reported, and shown in the document
 pub record TellsImproved (role : List ℕ) (bound asked : ℕ) (d : Document_data) (place : ℕ) (derivations : List Derivation_data) (answer : Answer_data) : Type 0 where
   pub improved : Improved_data
   pub session : IsImprovedSession bound asked d place derivations improved

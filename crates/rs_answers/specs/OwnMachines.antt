@@ -4,7 +4,7 @@ use Rattle.rs_model.specs.Data.{Machine_data}
 use Rattle.rs_model.specs.Faults.{first_fault}
 use Rattle.rs_answers.specs.Sessions.{MachineRefusal, refusal_or}
 
--- the first own machine that isn't well formed among so many roles
+-- the first machine in the document of one of the first n roles that isn't well formed
 abbrev pub first_own_refusal : ℕ → List (Option Machine_data) → Option MachineRefusal
 first_own_refusal roles [] = None
 first_own_refusal roles (None ∷ own) = first_own_refusal roles own

@@ -26,7 +26,7 @@ use Rattle.rs_answers.specs.declared.verdicts.Verdict.TheVariants as verdict
 use Rattle.rs_answers.specs.declared.verifying.Blame.{Blame}
 use Rattle.rs_answers.specs.declared.verifying.Blame.TheVariants as blame
 
--- what is said, behind the words that tell its kind, and the end of the line
+-- what is said, after the words that name its kind, and the end of the line
 abbrev pub line_of_answer : List ℕ → List ℕ → Verdict → Answer_data
 line_of_answer kind what verdict = record { text = joined_texts (kind ∷ what ∷ codes "\n" ∷ []); verdict = verdict }
 

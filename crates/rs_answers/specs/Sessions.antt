@@ -28,7 +28,7 @@ pub record HasProjections (d : Document_data) (projections : List Projection_dat
   pub well_formed : of_protocols.first_fault d.protocol ≡ None
   pub projected : AreNumberedProjections d.protocol projections
 
--- the first machine among so many roles that isn't well formed: its role and its first fault
+-- the first machine of the first n roles that isn't well formed: its role and its first fault
 pub record MachineRefusal : Type 0 where
   pub role : Role
   pub fault : MachineFault
@@ -38,7 +38,7 @@ abbrev pub refusal_or : Option MachineFault → Role → Option MachineRefusal �
 refusal_or (Some fault) role later = Some (record { role = role; fault = fault })
 refusal_or None role later = later
 
--- the first of these machines that isn't well formed among so many roles
+-- the first of these machines of the first n roles that isn't well formed
 abbrev pub first_refusal : ℕ → List Machine_data → Option MachineRefusal
 first_refusal roles [] = None
 first_refusal roles (machine ∷ machines) = refusal_or (first_fault machine roles) machine.role (first_refusal roles machines)

@@ -10,10 +10,10 @@ abbrev pub piece_bytes : Piece → List ℕ
 piece_bytes (piece.Words text) = text.now
 piece_bytes (piece.Number n) = decimal n
 
--- the pieces, one behind the other
+-- the pieces, one after the other
 abbrev pub pieces_text : List Piece → List ℕ
 pieces_text pieces = flat_map piece_bytes pieces
 
--- texts, one behind the other
+-- texts, one after the other
 abbrev pub joined_texts : List (List ℕ) → List ℕ
 joined_texts texts = flat_map (λ text. text) texts

@@ -31,7 +31,7 @@ pub struct RefusedDocument {
 }
 
 impl RefusedDocument {
-    /// What is answered to it; nothing where memory was refused.
+    /// The answer to it; no answer if memory ran out.
     pub fn answer(self, alloc: Global) -> Result<Answer, NoMemory>
         ensures answer { IfOk result (λ a. a ≡ spec.refusal_answer self.names self.refusal) }
         ensures memory { OnOk result (self.refusal ≡ Refusal.NoMemory → ⊥) }
@@ -57,7 +57,7 @@ fn accept_derived(protocol: Protocol, session: DerivedSession) -> Accepted
     }
 }
 
-/// Accepts the session of the document, with the canonical derivations of its machines within the bound; or tells the first
+/// Accepts the session of the document, with the canonical derivations of its machines within the bound; or gives the first
 /// reason why it isn't.
 pub fn accept_document(
     alloc: Global,

@@ -16,8 +16,8 @@ use rs_documents::Document;
 use rs_model::{Bound, NoMemory};
 use std::alloc::Global;
 
-/// What `check` answers to a document, with a search within the bound: the first reason to refuse it, else the report of
-/// its session, with the figures of its derivations.
+/// Returns what `check` answers to a document, with a search within the bound: the first reason to refuse it, or, if there is
+/// none, the report of its session, with the figures of its derivations.
 pub fn check(alloc: Global, document: &Document, bound: Bound) -> Result<Answer, NoMemory>
     requires ready { DocumentIsReady document.now }
     ensures { IfOk result (Checks bound false document.now) }
@@ -43,8 +43,8 @@ pub(crate) fn one_for_each_role(
     Ok(own)
 }
 
-/// What `check --derivations` answers to a document, with a search within the bound: the first reason to refuse it, else
-/// the document with the derivations that were found, in place of its own.
+/// Returns what `check --derivations` answers to a document, with a search within the bound: the first reason to refuse it,
+/// or, if there is none, the document with the derivations that were found, in place of its own.
 pub fn check_with_derivations(
     alloc: Global,
     mut document: Document,

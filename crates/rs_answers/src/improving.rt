@@ -43,7 +43,7 @@ fn ceased_text(alloc: Global, ceased: Ceased) -> Result<Text, NoMemory>
     }
 }
 
-/// The comment that tells how many swaps were made, and this reason why no more.
+/// The comment that says how many swaps were made, and gives this reason why no more.
 fn comment_on_swaps<'a>(
     alloc: Global,
     role: &'a [u8],
@@ -66,7 +66,7 @@ fn comment_on_swaps<'a>(
     )
 }
 
-/// The comment that tells how many swaps were made, and why no more.
+/// The comment that says how many swaps were made, and why no more.
 fn swaps_line(alloc: Global, role: &[u8], improved: &Improved) -> Result<Text, NoMemory>
     ensures { IfOk result (λ line. line ≡ spec.swaps_line role.now improved.now) }
 {
@@ -98,7 +98,7 @@ fn improved_document(
     Ok(document)
 }
 
-/// Shows the document behind the line.
+/// Shows the document after the line.
 fn show_behind(alloc: Global, mut line: Text, document: &Document) -> Result<Answer, NoMemory>
     requires { CanBeShown document.now }
     ensures { IfOk result (ShowsBehind line document.now) }
@@ -131,7 +131,7 @@ fn improve_projection(
     }
 }
 
-/// Improves the projection of the role with the place, and shows the document with the machine that comes of it.
+/// Improves the projection of the role with the place, and shows the document with the resulting machine.
 fn improve_session(
     alloc: Global,
     document: Document,
@@ -168,7 +168,7 @@ fn without_own(mut document: Document, place: usize) -> Document
 }
 
 /// What `improve` answers to a document: it has no such role, or is refused without the role's own machine, as `check`
-/// refuses it; else it is shown with the projection of the role improved by at most so many swaps, where one could be made,
+/// refuses it; otherwise it is shown with the projection of the role improved by at most this number of swaps, if one could be made,
 /// and with the derivations of all machines.
 pub fn improve_role(
     alloc: Global,

@@ -51,7 +51,7 @@ pub fn printed_derivations_are_verified()
         → Checks bound false d told → told.verdict ≡ Fine → (e : Document_data) × SpellsDocument printed.text e × verifying.Verifies e told }
 {}
 
-/// The answer of `migrate` to a document is fine exactly where that of `verify` is, and else both answers are one.
+/// The answer of `migrate` to a document is fine if and only if that of `verify` is, and otherwise both answers are the same.
 pub fn migrate_refuses_as_verify_does()
     ensures fine { (d : Document_data) (migrated told : Answer_data) → Migrates d migrated → verifying.Verifies d told → (migrated.verdict ≡ Fine) ↔ (told.verdict ≡ Fine) }
     ensures refused { (d : Document_data) (migrated told : Answer_data) → Migrates d migrated → verifying.Verifies d told → (told.verdict ≡ Fine → ⊥) → migrated ≡ told }
@@ -69,7 +69,7 @@ pub fn migrated_text_is_read_again()
         → (e : Document_data) → SpellsDocument printed.text e → Migrates e printed }
 {}
 
-/// The answer of `improve` to a document that has the role is fine exactly where that of `check` to the document without the
+/// The answer of `improve` to a document that has the role is fine if and only if that of `check` to the document without the
 /// role's own machine is, and else both answers are one.
 pub fn improve_refuses_as_check_does()
     ensures fine { (role : List ℕ) (bound swaps place : ℕ) (derivations : Bool) (d : Document_data) (improved told : Answer_data) → place_of role d.names.roles ≡ Some place
@@ -78,7 +78,7 @@ pub fn improve_refuses_as_check_does()
         → Improves role bound swaps d improved → Checks bound derivations (with_own d place None) told → (told.verdict ≡ Fine → ⊥) → improved ≡ told }
 {}
 
-/// What `improve` prints of a document that was read is the line on the swaps, and behind it a document that is verified: its
+/// What `improve` prints of a document that was read is the line on the swaps, and after it a document that is verified: its
 /// own derivations show that its machines may stand for their projections. The line is a comment: the whole text spells that
 /// document.
 pub fn improved_text_is_verified()

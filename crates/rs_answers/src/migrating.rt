@@ -12,8 +12,8 @@ use rs_documents::Document;
 use rs_model::NoMemory;
 use std::alloc::Global;
 
-/// What `migrate` answers to a document: the first reason why its own derivations don't show that its machines may stand
-/// for their projections, else the document with these derivations. The text is made first, since a session that is accepted
+/// Returns what `migrate` answers to a document: the first reason why the derivations in it don't show that its machines may
+/// stand for their projections, or, if there is none, the document with these derivations. The text is made first, since a session that is accepted
 /// has taken the document apart.
 pub fn migrate(alloc: Global, document: Document) -> Result<Answer, NoMemory>
     requires ready { DocumentIsReady document }

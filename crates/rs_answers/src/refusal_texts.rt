@@ -21,7 +21,7 @@ use rs_text::{Text, TextFault, TextKind, place};
 use rs_wellformed::WfFault;
 use std::alloc::Global;
 
-/// The pieces, behind the words that tell their kind, and the end of the line.
+/// The pieces, after the words that name their kind, and the end of the line.
 pub fn line_of_answer(
     alloc: Global,
     kind: &[u8],
@@ -105,7 +105,7 @@ fn refused_answer<'a>(alloc: Global, role: &'a [u8], what: &'a [u8]) -> Result<A
     )
 }
 
-/// What is said, behind line and column of the offset.
+/// What is said, after line and column of the offset.
 fn text_at_place(alloc: Global, bytes: &[u8], at: usize, what: &[u8]) -> Result<Answer, NoMemory>
     requires { at ≤ length bytes.now }
     ensures { IfOk result (λ a. a ≡ spec.text_at_place bytes.now at what.now) }
@@ -152,7 +152,7 @@ fn fault_answer(alloc: Global, bytes: &[u8], fault: TextFault) -> Result<Answer,
     }
 }
 
-/// The answer to a text at fault; nothing where memory was refused.
+/// The answer to a text at fault; no answer if memory ran out.
 pub fn answer_to_fault(alloc: Global, bytes: &[u8], fault: TextFault) -> Result<Answer, NoMemory>
     requires { fault.at ≤ length bytes.now }
     ensures answer { IfOk result (λ a. a ≡ spec.fault_answer bytes.now fault.kind fault.at) }
@@ -254,7 +254,7 @@ fn clash_text(alloc: Global, a: u32, b: Option<u32>) -> Result<Text, NoMemory>
     }
 }
 
-/// What is answered to a protocol that has no projection onto a role; nothing where memory was refused.
+/// The answer to a protocol that has no projection onto a role; no answer if memory ran out.
 pub fn proj_answer(alloc: Global, names: &Names, fault: ProjFault) -> Result<Answer, NoMemory>
     ensures answer { IfOk result (λ a. a ≡ spec.proj_answer names.now fault) }
     ensures memory { OnOk result (fault ≡ ProjFault.NoMemory → ⊥) }
@@ -348,7 +348,7 @@ pub(crate) fn cut_text(cut: bool) -> &'static [u8]
     }
 }
 
-/// What is answered where the search finds no derivation of the role's machine; nothing where memory was refused.
+/// The answer if the search finds no derivation of the role's machine; no answer if memory ran out.
 pub fn search_answer(
     alloc: Global,
     names: &Names,

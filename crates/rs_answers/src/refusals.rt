@@ -80,7 +80,7 @@ impl From<Underivable> for Refusal {
     }
 }
 
-/// What is answered to a document that is refused; nothing where memory was.
+/// The answer to a document that is refused; no answer if memory ran out.
 pub fn refusal_answer(alloc: Global, names: &Names, refusal: Refusal) -> Result<Answer, NoMemory>
     ensures answer { IfOk result (λ a. a ≡ spec.refusal_answer names.now refusal) }
     ensures memory { OnOk result (refusal ≡ Refusal.NoMemory → ⊥) }

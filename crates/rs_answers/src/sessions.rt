@@ -42,7 +42,7 @@ pub fn projections_of(alloc: Global, protocol: &Protocol) -> Result<Vec<Projecti
     Ok(projections)
 }
 
-/// The role's own machine, else its projection.
+/// The role's machine in the document, or its projection if the document has none.
 fn machine_or(
     alloc: Global,
     own: &Option<Machine>,
@@ -71,7 +71,7 @@ pub fn machines_of(
     Ok(machines)
 }
 
-/// The first of the roles' own machines that isn't well formed among so many roles: its role and its first fault. The machines of
+/// The first machine in the document of one of the first n roles that isn't well formed: its role and its first fault. The machines of
 /// the other roles are projections, and need no test.
 fn first_refusal(own: &[Option<Machine>], roles: u8) -> Option<(Role, MachineFault)>
     requires { All (λ held. IfSome held (λ m. length m.states < 2 ^ 32)) own.now }

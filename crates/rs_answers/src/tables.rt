@@ -28,7 +28,7 @@ fn tables_text(alloc: Global, names: &Names, projections: &[Projection]) -> Resu
     Ok(text)
 }
 
-/// What `project` answers to a document: why it has no projections, else their tables.
+/// Returns what `project` answers to a document: why it has no projections, or their tables.
 pub fn project_all(alloc: Global, document: &Document) -> Result<Answer, NoMemory>
     requires { DocumentIsReady document.now }
     ensures { IfOk result (Projects document.now) }

@@ -23,7 +23,7 @@ fn push_piece(text: &mut Text, piece: Piece) -> Result<(), NoMemory>
     }
 }
 
-/// Appends the pieces, one behind the other.
+/// Appends the pieces, one after the other.
 pub fn push_pieces(text: &mut Text, pieces: &[Piece]) -> Result<(), NoMemory>
     ensures { OnOk result (text.new ≡ text.old ++ pieces_text pieces.now) }
 {
@@ -33,7 +33,7 @@ pub fn push_pieces(text: &mut Text, pieces: &[Piece]) -> Result<(), NoMemory>
     Ok(())
 }
 
-/// The pieces, one behind the other.
+/// The pieces, one after the other.
 pub fn text_of(alloc: Global, pieces: &[Piece]) -> Result<Text, NoMemory>
     ensures { IfOk result (λ text. text ≡ pieces_text pieces.now) }
 {

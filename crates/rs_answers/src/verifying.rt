@@ -116,7 +116,7 @@ fn session_with_own(alloc: Global, document: &Document) -> Result<ProjectedSessi
     }
 }
 
-/// Accepts the session by the derivations, one of each role; or tells the first role whose own is refused.
+/// Accepts the session by the derivations, one of each role; or names the first role whose own is refused.
 fn accept_session(
     alloc: Global,
     protocol: Protocol,
@@ -144,7 +144,7 @@ fn accept_session(
     }
 }
 
-/// Accepts the session of the document by the document's own derivations; or tells the first reason why it isn't. Nothing is
+/// Accepts the session of the document by the document's own derivations; or gives the first reason why it isn't. Nothing is
 /// searched.
 pub fn accept_by_own(alloc: Global, document: Document) -> Result<AcceptedDocument, RefusedDocument>
     requires ready { DocumentIsReady document }
@@ -176,8 +176,8 @@ fn report_of(alloc: Global, accepted: &AcceptedDocument) -> Result<Answer, NoMem
     report(alloc, names.roles.as_slice(), session.derivations())
 }
 
-/// What `verify` answers to a document: the first reason why its own derivations don't show that its machines may stand
-/// for their projections, else the report of its session, with the figures of these derivations.
+/// Returns what `verify` answers to a document: the first reason why the derivations in it don't show that its machines may
+/// stand for their projections, or, if there is none, the report of its session, with the figures of these derivations.
 pub fn verify(alloc: Global, document: Document) -> Result<Answer, NoMemory>
     requires ready { DocumentIsReady document }
     ensures { IfOk result (Verifies document) }

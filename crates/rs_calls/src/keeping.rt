@@ -9,7 +9,7 @@ use rs_io::{Failed, Sink};
 use std::alloc::Global;
 use std::marker::Model;
 
-/// A sink that keeps all bytes that are written to it. It fails only where memory is refused.
+/// A sink that keeps all bytes that are written to it. It fails only if memory runs out.
 #[derive(Drop)]
 pub struct KeptBytes {
     bytes: Vec<u8>,

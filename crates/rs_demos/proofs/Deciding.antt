@@ -30,7 +30,7 @@ digits_or_not (d ∷ ds) = elim (less_or_not (digit_value d) 10) [
   | inr h ↦ inr (λ both. h both.0)
 ]
 
--- the digits, behind their sign, write a number
+-- the digits, after their sign, write a number
 record Write (minus : Bool) (ds : List ℕ) : Type 0 where
   numeral : IsNumeral 10 ds
   bounded : length ds ≤ 20

@@ -132,7 +132,7 @@ Queues n h = (a b : ℕ) → a < n → b < n → a ≢ b → (q : List Message) 
 abbrev pub Stage : ℕ → List ℕ → (ℕ → ℕ) → (ℕ → ℤ) → (ℕ → History) → (ℕ → DemoTalker) → Type 0
 Stage n ss b a h y = (i : ℕ) → i < n → AtRole ss (b i) (a i) i (h i) (y i)
 
--- the bits and the numbers behind a round
+-- the bits and the numbers after a round
 
 abbrev pub bits_behind : (ℕ → ℕ) → ℕ → ℕ
 bits_behind b i = b i / 2
@@ -175,7 +175,7 @@ round n s ss b a h y q g st i lt =
       silent = still_silent ss s i (a i) (st i lt).trades.came (st i lt).before (g i lt).apart (st i lt).silent.2;
     }
 
--- the number behind these rounds
+-- the number after these rounds
 abbrev pub held_at_end : List ℕ → (ℕ → ℕ) → (ℕ → ℤ) → ℕ → ℤ
 held_at_end [] b a i = a i
 held_at_end (s ∷ ss) b a i = held_at_end ss (bits_behind b) (held_behind s b a) i

@@ -93,7 +93,7 @@ got_next m s x a q r l v t y st p =
 at : (m : Machine_data) (s s' : ℕ) (x : DemoTalker) (h : History) (t : ℕ) (y : DemoTalker) → s ≡ s' → Plays m s' x h t y → Plays m s x h t y
 at m s s' x h t y e p = moved m s s' x x h t y e refl p
 
--- bytes behind a piece
+-- bytes after a piece
 fewer : (n : ℕ) (bytes : List ℕ) → length bytes ≤ 4096 * suc n → length (behind_piece bytes) ≤ 4096 * n
 fewer n bytes h = let e = length-drop 4096 bytes in omega (arith, h, e)
 

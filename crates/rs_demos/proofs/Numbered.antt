@@ -11,7 +11,7 @@ use Rattle.rs_graph.specs.Order.{Numbered, NoMore, Known, New, Worked, AllDone, 
 use Rattle.rs_safety.proofs.Computed.{is_projection, projection_is}
 use Rattle.rs_text.proofs.Naming.{bytes_same}
 
--- how many are known behind a row
+-- how many are known after a row
 abbrev behind_row : ℕ → List ℕ → ℕ
 behind_row known [] = known
 behind_row known (n ∷ ns) = if nat_lt n known then behind_row known ns else behind_row (suc known) ns

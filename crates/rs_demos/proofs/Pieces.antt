@@ -1,4 +1,4 @@
--- What is left behind a piece.
+-- What is left after a piece.
 use Rattle.std.proofs.Common.{◌≡◌, ℕ, ◌+◌, ◌≤◌, List, length, take, drop, [], ◌∷◌, zero, suc, refl, sym, ap, ◌∙◌, arith, length-drop}
 use Rattle.std.proofs.lemmas.List.{drop-drop, length-take}
 

@@ -78,7 +78,7 @@ first_butterfly : (n : ℕ) (m : Machine_data) → 2 ≤ n → slice_get (demo_m
 first_butterfly zero m low e = absurd (omega arith)
 first_butterfly (suc n) m low e = cc (e)
 
--- R0 in a butterfly of so many roles
+-- R0 in a butterfly of n roles
 butterfly_at : (n rounds : ℕ) (m : Machine_data) (k : ℕ) → is_numbered_projection (demo_protocol demo.Butterfly n) (n + 2) (role 0) (butterfly_projection n rounds) ≡ true → k ≡ n → 2 ≤ n
     → slice_get (demo_machines demo.Butterfly k) 0 ≡ Some m → IsTheirs demo.Butterfly k 0 m
 butterfly_at n rounds m k t e low s =

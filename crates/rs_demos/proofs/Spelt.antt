@@ -132,7 +132,7 @@ word_is (b ∷ bs) behind h e =
     ap (λ (t : Bool). cond t (1 + prefix_len no_blank (bs ++ behind)) 0) a.0 in
     omega (arith, on, word_is bs behind a.1 e)
 
--- behind the bytes before the first blank stands a blank, or nothing
+-- after the bytes before the first blank stands a blank, or nothing
 word_stops : (bytes : List ℕ) → EndsNumber (drop (word_len bytes) bytes)
 word_stops [] = tt
 word_stops (b ∷ bs) = go (word_stops bs) (is_blank b) refl
@@ -218,7 +218,7 @@ word_there (b ∷ bs) st some =
     let on : word_len (b ∷ bs) ≡ 1 + word_len bs = ap (λ (t : Bool). cond (not t) (1 + prefix_len no_blank bs) 0) st in
     omega (arith, on)
 
--- the bytes behind the first word, without blanks, are fewer
+-- the bytes after the first word, without blanks, are fewer
 pub fewer : (bytes : List ℕ) → StartsAWord bytes → 0 < length bytes → length (behind_blanks (drop (word_len bytes) bytes)) < length bytes
 fewer bytes st some =
     let w = word_there bytes st some in

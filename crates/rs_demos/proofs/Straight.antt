@@ -279,7 +279,7 @@ two_or_more zero h = absurd (omega arith)
 two_or_more (suc zero) h = absurd (omega arith)
 two_or_more (suc (suc k)) h = Some' k refl
 
--- the demo of so many roles, of which there are two at least
+-- the demo of n roles, of which there are two at least
 abbrev tests : (ℕ → List Exchange) → (ℕ → ℕ → List Exchange) → ℕ → Bool
 tests exchanges pairs n = are_within n (exchanges n) && list_all (λ (i : ℕ). are_within n (pairs n i)) (range_with_len 0 n)
 

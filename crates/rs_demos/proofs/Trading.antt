@@ -52,14 +52,14 @@ script_sent e x = Sent (role e.0) (record { 0 = 0 }) (value.Whole (held x))
 abbrev pub script_got : Exchange → Value → Action
 script_got e v = Got (role e.1) (record { 0 = 0 }) v
 
--- one pair of acts, and what comes behind it
+-- one pair of acts, and what comes after it
 pub record Trade (e : Exchange) (Behind : DemoTalker → History → Type 0) (x : DemoTalker) (h : History) : Type 0 where
   pub came : Value
   pub later : History
   pub history_is : h ≡ script_sent e x ∷ script_got e came ∷ later
   pub rest : Behind (talker_behind_value x came) later
 
--- the history has these pairs of acts, one behind the other, and leads from actor x to y
+-- the history has these pairs of acts, one after the other, and leads from actor x to y
 abbrev pub Trades : List Exchange → DemoTalker → DemoTalker → History → Type 0
 Trades [] y x h = (h ≡ []) × (x ≡ y)
 Trades (e ∷ es) y x h = Trade e (λ z k. Trades es y z k) x h

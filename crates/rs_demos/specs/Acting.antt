@@ -1,4 +1,4 @@
--- Public: what the talkers of the demos have at hand, and what they become.
+-- Public: what the talkers of the demos would send next, and what they become.
 use Rattle.std.specs.Prelude.{ℕ, ◌/◌, ◌%◌, ◌^◌, ℤ, pos, ◌+ℤ◌, ◌-ℤ◌, List, [], ◌∷◌, ◌++◌, take, drop, ◌==◌, nat_lt, if◌then◌else◌, Option, Some, None}
 use Rattle.rs_demos.specs.declared.parts.TheConstants.{PIECE_BYTES}
 use Rattle.rs_model.specs.declared.values.Value.{Value}
@@ -15,7 +15,7 @@ use Rattle.rs_demos.specs.declared.parts.ButterflyMember.{ButterflyMember}
 abbrev pub piece_of : List ℕ → List ℕ
 piece_of bytes = take PIECE_BYTES bytes
 
--- what stands behind it
+-- what follows it
 abbrev pub behind_piece : List ℕ → List ℕ
 behind_piece bytes = drop PIECE_BYTES bytes
 
@@ -29,7 +29,7 @@ abbrev pub next_piece : List ℕ → Option (List ℕ)
 next_piece [] = None
 next_piece (b ∷ bytes) = Some (piece_of (b ∷ bytes))
 
--- what a talker has at hand: a source its next piece, or the unit where no bytes are left; a kernel the piece that it
+-- what a talker would send next: a source its next piece, or the unit if no bytes are left; a kernel the piece that it
 -- holds, or the unit where it holds none; a sink the unit; a member of a ring or of a butterfly the number that it holds
 abbrev pub value_at_hand : DemoTalker → Value
 value_at_hand (actor.Source bytes) = octets_or_unit (next_piece bytes)
@@ -38,43 +38,43 @@ value_at_hand (actor.Sink bytes) = value.Unit
 value_at_hand (actor.RingMember m) = value.Whole m.last
 value_at_hand (actor.ButterflyMember m) = value.Whole m.held
 
--- what a talker is when it has sent what it had at hand
+-- what a talker is when it has sent that
 abbrev pub after_sending : DemoTalker → DemoTalker
 after_sending (actor.Source bytes) = actor.Source (behind_piece bytes)
 after_sending (actor.Kernel k) = actor.Kernel (record { piece = None })
 after_sending x = x
 
--- the number that a value of the sort `int` tells, also where it is a natural number; any other value tells none
+-- the number of a value of the sort `int`, also if it is a natural number; any other value has none
 abbrev pub number_told : Value → Option ℤ
 number_told (value.Whole c) = Some c
 number_told (value.Natural n) = if nat_lt n (2 ^ 63) then Some (pos n) else None
 number_told v = None
 
--- a number comes to a member of a ring: it is the last one, and is added to the sum
+-- a member of a ring receives a number: it is the last one, and is added to the sum
 abbrev pub ring_told : RingMember → ℤ → RingMember
 ring_told m c = record { last = c; sum = in_64_bits (m.sum +ℤ c) }
 
--- a member of a ring where a value came that tells this number, if any
+-- a member of a ring that received a value with this number, if any
 abbrev pub ring_behind : RingMember → Option ℤ → RingMember
 ring_behind m (Some c) = ring_told m c
 ring_behind m None = m
 
--- a number c comes to a member of a butterfly that holds a: where this round's bit of its role is clear, it then holds
+-- a member of a butterfly that holds a receives a number c: if this round's bit of its role is clear, it then holds
 -- a + c, and c - a where the bit is set
 abbrev pub butterfly_sum : ButterflyMember → ℤ → ℤ
 butterfly_sum m c = if m.bits % 2 == 0 then in_64_bits (m.held +ℤ c) else in_64_bits (c -ℤ m.held)
 
--- a member that is told a number: it has the sum or the difference, and the next bit is that of the next round
+-- a member that receives a number: it has the sum or the difference, and the next bit is that of the next round
 abbrev pub butterfly_told : ButterflyMember → ℤ → ButterflyMember
 butterfly_told m c = record { bits = m.bits / 2; held = butterfly_sum m c }
 
--- a member of a butterfly where a value came that tells this number, if any
+-- a member of a butterfly that received a value with this number, if any
 abbrev pub butterfly_behind : ButterflyMember → Option ℤ → ButterflyMember
 butterfly_behind m (Some c) = butterfly_told m c
 butterfly_behind m None = m
 
 -- what a talker becomes when a value comes: a kernel holds the piece, each byte inverted; a sink joins the pieces; a
--- member is told the number
+-- member receives the number
 abbrev pub talker_behind_value : DemoTalker → Value → DemoTalker
 talker_behind_value (actor.Kernel k) (value.Octets bytes) = actor.Kernel (record { piece = Some (inverse_bytes bytes) })
 talker_behind_value (actor.Sink bytes) (value.Octets piece) = actor.Sink (bytes ++ piece)

@@ -34,12 +34,12 @@ pub record IsNumber (bytes : List ℕ) (z : ℤ) : Type 0 where
   pub value : z ≡ with_sign minus (digits_value 10 digits)
   pub fits : FitsSigned w64 z
 
--- behind a number stands a blank or nothing
+-- a number is followed by a blank or by nothing
 abbrev pub EndsNumber : List ℕ → Type 0
 EndsNumber [] = Unit {0}
 EndsNumber (b ∷ bs) = is_blank b ≡ true
 
--- the bytes are blanks, the number, and what stands behind it
+-- the bytes are blanks, the number, and what follows it
 pub record BeginsWith (z : ℤ) (Behind : List ℕ → Type 0) (bytes : List ℕ) : Type 0 where
   pub blanks : List ℕ
   pub word : List ℕ
@@ -50,12 +50,12 @@ pub record BeginsWith (z : ℤ) (Behind : List ℕ → Type 0) (bytes : List ℕ
   pub ends : EndsNumber behind
   pub later : Behind behind
 
--- the bytes spell the numbers, in order: with one or more blanks between each two, and blanks before and behind allowed
+-- the bytes spell the numbers, in order: with one or more blanks between each two, and blanks before and after them allowed
 abbrev pub SpellsNumbers : List ℤ → List ℕ → Type 0
 SpellsNumbers [] bytes = AreBlanks bytes
 SpellsNumbers (z ∷ zs) bytes = BeginsWith z (SpellsNumbers zs) bytes
 
--- whether a demo takes so many numbers
+-- whether a demo takes this number of numbers
 abbrev pub takes_numbers : Demo → ℕ → Bool
 takes_numbers demo.Ring n = nat_le 2 n && nat_le n MOST_ROLES
 takes_numbers demo.Butterfly n = ((n == 2) || (n == 4)) || ((n == 8) || (n == 16))

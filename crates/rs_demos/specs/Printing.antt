@@ -1,4 +1,4 @@
--- Steps: how results are printed, one behind the other.
+-- Steps: how results are printed, one after the other.
 use Rattle.std.specs.Prelude.{ℕ, ℤ, List, [], ◌∷◌, ◌++◌}
 use Rattle.std.specs.List.{flat_map}
 use Rattle.std.specs.Fmt.{signed_decimal}

@@ -11,7 +11,7 @@ use Rattle.rs_demos.specs.declared.faults.DemoFault.TheVariants as fault
 abbrev pub blanks_before : List ℕ → ℕ
 blanks_before bytes = prefix_len is_blank bytes
 
--- what stands behind them
+-- what follows them
 abbrev pub behind_blanks : List ℕ → List ℕ
 behind_blanks bytes = drop (blanks_before bytes) bytes
 

@@ -15,7 +15,7 @@ use Rattle.rs_model.specs.declared.demos.Demo.{Demo}
 use Rattle.rs_model.specs.declared.demos.Demo.TheVariants as demo
 use Rattle.rs_demos.specs.Numbers.{takes_numbers}
 
--- a demo has a session for so many roles; the counts of double buffering and of the stream mean nothing
+-- a demo has a session for n roles; the counts of double buffering and of the stream mean nothing
 abbrev pub has_session : Demo → ℕ → Bool
 has_session demo.Double n = true
 has_session demo.Stream n = true
@@ -116,7 +116,7 @@ stream_sink = machine 1
 
 -- the ring and the butterfly: the role Ri is role i, and each message is v(int)
 
--- so many numbers, of which the first is this
+-- n numbers, of which the first is this
 abbrev pub numbers_from : ℕ → ℕ → List ℕ
 numbers_from first many = range_with_len first many
 
@@ -124,16 +124,16 @@ numbers_from first many = range_with_len first many
 abbrev pub Exchange : Type 0
 Exchange = ℕ × ℕ
 
--- a protocol of exchanges, one behind the other
+-- a protocol of exchanges, one after the other
 abbrev pub nodes_from : ℕ → List Exchange → List Node
 nodes_from n [] = Finished ∷ []
 nodes_from n (x ∷ xs) = Talk (role x.0) (role x.1) (arm 0 sort.Whole (suc n) ∷ []) ∷ nodes_from (suc n) xs
 
--- a protocol of exchanges among n roles, one behind the other
+-- a protocol of exchanges among n roles, one after the other
 abbrev pub protocol_of : ℕ → List Exchange → Protocol_data
 protocol_of n xs = record { roles = n; nodes = nodes_from 0 xs; root = 0 }
 
--- a machine that sends to the first of each pair, and receives from the second, one pair behind the other:
+-- a machine that sends to the first of each pair, and receives from the second, one pair after the other:
 -- `Rs!v(int). Rr?v(int).`
 abbrev pub states_from : ℕ → List Exchange → List State
 states_from s [] = Done ∷ []
@@ -144,7 +144,7 @@ states_from s (x ∷ xs) =
 
 -- the ring: in a round each role sends to the next one
 
--- the role behind role i
+-- the role after role i
 abbrev pub next_in_ring : ℕ → ℕ → ℕ
 next_in_ring n i = (i + 1) % n
 

@@ -6,7 +6,7 @@ use Rattle.rs_documents.specs.Parts.{no_parts}
 use Rattle.rs_demos.specs.Sessions.{demo_names, demo_protocol, written_machines}
 use Rattle.rs_model.specs.declared.demos.Demo.{Demo}
 
--- the document of a demo for so many roles
+-- the document of a demo for n roles
 abbrev pub document_of : Demo → ℕ → Document_data
 document_of kind count = record { names = demo_names kind count; protocol = demo_protocol kind count; machines = written_machines kind count; derivations = no_parts (demo_names kind count).roles }
 

@@ -7,7 +7,7 @@ use Rattle.rs_demos.specs.Sessions.{Exchange, demo_role_name, numbers_from, ring
 abbrev pub exchange_text : Exchange → List ℕ
 exchange_text x = demo_role_name x.0 ++ (codes "->" ++ (demo_role_name x.1 ++ codes ":v(int). "))
 
--- `Rs->Rr:v(int). ` for each exchange, one behind the other
+-- `Rs->Rr:v(int). ` for each exchange, one after the other
 abbrev pub exchanges_text : List Exchange → List ℕ
 exchanges_text xs = flat_map exchange_text xs
 
@@ -15,7 +15,7 @@ exchanges_text xs = flat_map exchange_text xs
 abbrev pub exchange_acts_text : Exchange → List ℕ
 exchange_acts_text x = demo_role_name x.0 ++ (codes "!v(int). " ++ (demo_role_name x.1 ++ codes "?v(int). "))
 
--- `Rs!v(int). Rr?v(int). ` for each pair, one behind the other
+-- `Rs!v(int). Rr?v(int). ` for each pair, one after the other
 abbrev pub pairs_text : List Exchange → List ℕ
 pairs_text xs = flat_map exchange_acts_text xs
 

@@ -22,7 +22,7 @@ pub enum DemoTalker {
 /// What chooses for a role of a demo.
 pub type DemoActor = TalkingActor<DemoTalker>;
 
-/// The number that a value of the sort `int` tells.
+/// The number of a value of the sort `int`.
 fn number_told(value: &Value) -> Option<i64>
     ensures { result ≡ number_told value.now }
 {

@@ -18,7 +18,7 @@ const DOUBLE: &[u8] =
 const STREAM: &[u8] =
     b"roles S, T\nprotocol rec X0. T->S:ready(). S->T{value(bytes). X0, stop(). end}\nmachine S: T!value(bytes). rec X1. T?ready(). T!{value(bytes). X1, stop(). T?ready(). end}\n";
 
-/// The document of a demo for so many roles: its protocol, and the machines that aren't projections.
+/// The document of a demo for this number of roles: its protocol, and the machines that aren't projections.
 ///
 /// A ring has 2 to 16 roles, and a butterfly 2, 4, 8 or 16; for the others the count means nothing. The one error is
 /// that memory was refused.

@@ -45,7 +45,7 @@ impl PieceSource {
         self.bytes.as_slice().split_at(self.sent).1
     }
 
-    /// The next piece, which is left behind.
+    /// Takes the next piece off, and returns a copy of it. If memory runs out, it fails, and nothing is taken.
     pub(crate) fn send_piece(&mut self, alloc: Global) -> Result<Octets, NoMemory>
         ensures ok { IfOk result (λ o. o ≡ piece_of self.old) }
         ensures left { OnOk result (self.new ≡ behind_piece self.old) }
@@ -90,7 +90,7 @@ impl Model for PieceSink {
 }
 
 impl PieceSink {
-    // With room for so many bytes.
+    // With room for n bytes.
     pub(crate) fn with_capacity(alloc: Global, capacity: usize) -> Result<PieceSink, NoMemory>
         ensures { IfOk result (λ s. s ≡ []) }
     {
@@ -99,7 +99,7 @@ impl PieceSink {
         })
     }
 
-    /// Appends a piece; where memory is refused nothing changes.
+    /// Appends a piece. If memory runs out, it fails, and nothing changes.
     pub(crate) fn append(&mut self, piece: &[u8]) -> Result<(), NoMemory>
         ensures ok { OnOk result (self.new ≡ self.old ++ piece.now) }
         ensures err { OnErr result (self.new ≡ self.old) }
@@ -128,7 +128,7 @@ pub struct RingMember {
     pub sum: i64,
 }
 
-/// A role of the butterfly: the bits of its number, lowest first, without those of the rounds behind it, and the number
+/// A role of the butterfly: the bits of its number, lowest first, without those of the rounds that are over, and the number
 /// that it holds.
 #[derive(Clone, Copy, Debug, PartialEq, Eq)]
 pub struct ButterflyMember {

@@ -21,7 +21,7 @@ use rs_model::{
 use rs_text::Text;
 use std::alloc::Global;
 
-/// The document of a demo for so many roles, which [`demo_document`](crate::demo_document) writes as a text. For a demo whose
+/// The document of a demo for this number of roles, which [`demo_document`](crate::demo_document) writes as a text. For a demo whose
 /// roles are fixed the count means nothing. The one error is that memory was refused.
 pub fn demo_session_document(alloc: Global, kind: Demo, count: u8) -> Result<Document, NoMemory>
     requires { has_session kind count ≡ true }
@@ -235,7 +235,7 @@ fn number_arm(alloc: Global, next: u32) -> Result<Arms, NoMemory>
     one_arm(alloc, arm(0, Sort::Whole, next))
 }
 
-/// A protocol of exchanges, each a sender and a receiver, one behind the other.
+/// A protocol of exchanges, each a sender and a receiver, one after the other.
 fn protocol_of(alloc: Global, roles: u8, exchanges: &[(u8, u8)]) -> Result<Protocol, NoMemory>
     requires { length exchanges.now ≤ 256 }
     ensures { IfOk result (λ protocol. protocol ≡ spec.protocol_of roles exchanges.now) }
@@ -255,7 +255,7 @@ fn protocol_of(alloc: Global, roles: u8, exchanges: &[(u8, u8)]) -> Result<Proto
     })
 }
 
-/// A send to a role and a receive from a role, where so many states stand before them.
+/// A send to a role and a receive from a role, after n other states.
 fn push_pair(
     alloc: Global,
     states: &mut Vec<State>,
@@ -272,7 +272,7 @@ fn push_pair(
     Ok(())
 }
 
-/// A machine that sends to the first of each pair, and receives from the second, one pair behind the other.
+/// A machine that sends to the first of each pair, and receives from the second, one pair after the other.
 fn machine_of(alloc: Global, role: u8, pairs: &[(u8, u8)]) -> Result<Machine, NoMemory>
     requires { length pairs.now ≤ 256 }
     ensures { IfOk result (λ machine. machine ≡ spec.machine role (spec.states_from 0 pairs.now)) }

@@ -17,7 +17,7 @@ use std::alloc::Global;
 
 /// The actors of a demo, in role order: each starts with the input's part of its role, and with nothing else.
 ///
-/// `BadNumbers` comes exactly where the demo asks for numbers and the bytes aren't those.
+/// `BadNumbers` is returned if and only if the demo asks for numbers and the bytes don't spell them.
 pub fn demo_actors(alloc: Global, kind: Demo, bytes: &[u8]) -> Result<Vec<DemoActor>, DemoFault>
     ensures ok { IfOk result (λ actors. StartsWithActors kind bytes.now actors.items) }
     ensures err { IfErr result (λ e. StartRefuses kind bytes.now e) }

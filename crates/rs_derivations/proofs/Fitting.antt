@@ -132,7 +132,7 @@ length_few (suc n) h = all_both is_few (up_to n) (suc n ∷ []) (length_few n (o
 abbrev pub IsShort : List ActTree → Type 0
 IsShort acts = length acts ≤ MOST_BOUND
 
--- no act stands behind 64 of its list exactly where no list has more
+-- no act stands after 64 of its list exactly where no list has more
 pub few_lists : (lists : List (List ActTree)) → AreFew (ordinals_of lists) → All IsShort lists
 few_lists [] h = All-nil IsShort
 few_lists (acts ∷ more) h =

@@ -93,7 +93,7 @@ act_grows acts (behind_label p k l) t = if is_open_paren t then Some (in_act act
 act_grows acts (behind_paren p k l) t = sort_step acts p k l (plain_text t) (is_close_paren t)
 act_grows acts (behind_sort p k l q) t = if is_close_paren t then Some (acted acts (act_tree p k l (Some q))) else None
 
--- behind the lists of format 2
+-- after the lists of format 2
 
 abbrev pub first_step : Head Two → Option ℕ → Option Cut
 first_step h None = None
@@ -376,9 +376,9 @@ to_acts : (home : ActsHome) (c : ActsCut) (t : Sign) (o : Option ActsCut) → Is
 to_acts home c t None right h = tt
 to_acts home c t (Some d) right h = acts_on home c d t right h
 
--- ---- behind acts
+-- ---- after acts
 
--- a token behind all lists
+-- a token after all lists
 begins_on : (c : Cut) (h : Head Two) (t : Sign) (o : Option ℕ) → number_value t ≡ o → cut_signs c ≡ signs_before_nodes Two h → IsBegun Two h [] → IfSome (first_step h o) (GoesOn c t)
 begins_on c h t None v e right = tt
 begins_on c h t (Some n) v e right =
@@ -452,7 +452,7 @@ node_on : (f : Format) (h : Head f) (ns : List (NodeTree f)) (p q : NodeCut f) (
 node_on f h ns p q t right own e =
     (ap (λ z. signs_before_node f h ns ++ z) e ∙ sym (append_assoc (signs_before_node f h ns) (node_cut_signs f (length ns) p) (t ∷ [])), (right, own))
 
--- a node behind its pending acts
+-- a node after its pending acts
 on_pending : (f : Format) (n s : ℕ) (p : PendingTree f) (more : List Sign) (t : Sign) → node_behind_pending f n s p ++ (more ++ t ∷ []) ≡ (node_behind_pending f n s p ++ more) ++ t ∷ []
 on_pending f n s p more t = sym (append_assoc (node_behind_pending f n s p) more (t ∷ []))
 
@@ -462,7 +462,7 @@ nexted_signs f n s p a r [] k = sym (append_assoc (node_before_nexts f n s p a r
 nexted_signs f n s p a r (x ∷ xs) k =
     ap (λ z. node_before_nexts f n s p a r ++ z) (one_more number_signs x xs k) ∙ sym (append_assoc (node_before_nexts f n s p a r) (elements_with_commas number_signs (x ∷ xs)) (number k ∷ []))
 
--- a node as far as behind its last next, and "]"
+-- a node as far as after its last next, and "]"
 node_whole : (f : Format) (n s : ℕ) (p : PendingTree f) (a r : ℕ) (next : List ℕ)
     → node_signs f n (node_tree f s p a r next) ≡ (node_before_nexts f n s p a r ++ numbers_signs next) ++ close_bracket ∷ []
 node_whole f n s p a r next =
@@ -609,7 +609,7 @@ format_place x t (Some n) e = if_place (n == 2) (behind_format x) _
 bound_of : (n : ℕ) → is_bound n ≡ true → IsBound n
 bound_of n h = let k = both (nat_le 1 n) (nat_le n 64) h in (leb-true 1 n k.0, leb-true n 64 k.1)
 
--- the head behind its format
+-- the head after its format
 on_format : (f : Format) (x : List ℕ) (more : List Sign) (t : Sign)
     → plain (codes "derivation") ∷ plain x ∷ (format_signs f ++ (more ++ t ∷ [])) ≡ (plain (codes "derivation") ∷ plain x ∷ (format_signs f ++ more)) ++ t ∷ []
 on_format f x more t = ap (λ z. plain (codes "derivation") ∷ plain x ∷ z) (sym (append_assoc (format_signs f) more (t ∷ [])))
@@ -638,7 +638,7 @@ list_place h t (Some n) right e = if_place (n == suc (length h.lists)) (at_list_
   right,
 ))
 
--- a place goes on by the token to the place behind it
+-- a place goes on by the token to the place after it
 pub goes_on : (c : Cut) (t : Sign) → IsPlace c → IsProper t → IfSome (grows c t) (GoesOn c t)
 goes_on at_begin t right proper = if_place (is_keyword (codes "derivation") t) at_role _ (λ k. (ap (λ z. z ∷ []) (sym (keyword_is (codes "derivation") t k)), tt))
 goes_on at_role t right proper = role_place t (plain_text t) refl

@@ -56,7 +56,7 @@ pub number_kept : (xs ys : List (List Act)) (n : ℕ) (acts : List Act) → is_o
 number_kept [] ys n acts h = absurd (cc h)
 number_kept (x ∷ xs) ys n acts h = kept_by (same_acts x acts) x xs ys n acts refl h (λ k. number_kept xs ys (suc n) acts k)
 
--- a list that isn't there has the number that it has behind
+-- a list that isn't there has the number that it has after
 pub number_behind : (xs ys : List (List Act)) (n : ℕ) (acts : List Act) → is_one_of xs acts ≡ false → number_from n (xs ++ ys) acts ≡ number_from (length xs + n) ys acts
 number_behind [] ys n acts h = ap (λ (z : ℕ). number_from z ys acts) (omega arith)
 number_behind (x ∷ xs) ys n acts h =

@@ -115,7 +115,7 @@ path_parts home acts p k l (Some q) =
 path_act : (home : ActsHome) (acts : List ActTree) (a : ActTree) → Path (in_acts home (at_act acts)) (act_signs a) (in_acts home (acted acts a))
 path_act home acts a = path_parts home acts a.peer a.kind a.label a.sort
 
--- further acts behind the first ones
+-- further acts after the first ones
 path_later : (more : List ActTree) (home : ActsHome) (y : ActTree) (ys : List ActTree)
     → Path (in_acts home (behind_act y ys)) (with_separators (comma ∷ []) act_signs more) (in_acts home (behind_act y (ys ++ more)))
 path_later [] home y ys = ap (λ z. Some (in_acts home (behind_act y z))) (sym (append-nil ys))
@@ -265,7 +265,7 @@ path_lists ((a ∷ later) ∷ more) c h t d some behind apart g =
 path_head : (x : List ℕ) (b : ℕ) → IsBound b → Path at_begin (head_signs x Two b) (at_lists x b)
 path_head x b right = path_on (at_bound Two x) (at_brace Two x b) (at_lists x b) (number b) (open_brace ∷ []) (bounded Two x b right) refl
 
--- as far as a token behind the lists
+-- as far as a token after the lists
 path_behind_lists : (h : Head Two) (t : Sign) (d : Cut) → IsBound h.bound → HaveActs Two h.lists → is_comma t ≡ false → begin_step h t ≡ Some d → Path at_begin (signs_before_nodes Two h ++ t ∷ []) d
 path_behind_lists h t d bound lists apart g =
     subst (λ (z : List Sign). Path at_begin z d) (sym (append_assoc (head_signs h.role Two h.bound) (lists_signs_from 1 h.lists) (t ∷ [])))
@@ -403,7 +403,7 @@ one_place c d p q e = some_cut c d (sym (path c p) ∙ ap (λ z. along (Some at_
 abbrev Completes : Cut → Type 0
 Completes c = Begins (cut_signs c)
 
--- where the place goes on, and the place behind can be completed
+-- where the place goes on, and the place after can be completed
 by_next : (c d : Cut) (t : Sign) → GoesOn c t d → Completes d → Completes c
 by_next c d t g h = (h.0, t ∷ h.1, h.2, h.3 ∙ ap (λ z. z ++ h.1) g.0 ∙ append_assoc (cut_signs c) (t ∷ []) h.1)
 
@@ -583,7 +583,7 @@ stuck c t right h b =
     let q : along (Some at_begin) (cut_signs c ++ (t ∷ b.1)) ≡ along (grows c t) b.1 = along_both (Some at_begin) (cut_signs c) (t ∷ b.1) ∙ ap (λ z. along z (t ∷ b.1)) (path c right) in
     absurd (cc (sym p ∙ q ∙ ap (λ z. along z b.1) h))
 
--- and no place stands behind the end
+-- and no place stands after the end
 pub no_further : (tree : DerivationTree) (t : Sign) (ys : List Sign) (d : Cut) → IsFormed tree → IsPlace d → cut_signs d ≡ derivation_signs tree ++ (t ∷ ys) → ⊥
 no_further tree t ys d formed right e =
     let q : along (Some at_begin) (derivation_signs tree ++ (t ∷ ys)) ≡ None = along_both (Some at_begin) (derivation_signs tree) (t ∷ ys) ∙ ap (λ z. along z (t ∷ ys)) (path (at_end tree) formed) in

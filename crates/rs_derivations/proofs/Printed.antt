@@ -98,7 +98,7 @@ acts_written (a ∷ acts) behind h =
 
 -- ---- numbers
 
--- behind a number in a list no digit stands
+-- after a number in a list no digit stands
 no_digit : (ns : List ℕ) (behind : List ℕ) → begins is_digit behind ≡ false → begins is_digit (with_separators (codes ", ") decimal ns ++ behind) ≡ false
 no_digit [] behind h = h
 no_digit (n ∷ ns) behind h = refl

@@ -34,7 +34,7 @@ use Rattle.rs_derivations.specs.Feeding.{feed_pending_number, feed_acts_end, fee
 use Rattle.rs_derivations.specs.Feeding.{feed_behind_next, feed_outside, feed_at, feeding, is_bound, is_some_of, is_none_of, mark_kind, names_read}
 use Rattle.rs_text.specs.TokenTests.{is_comma, is_close_bracket, is_close_brace}
 
--- names that are still sound, with further labels behind the old ones
+-- names that are still sound, with further labels after the old ones
 pub record GoodNames (old : Names_data) (roles labels : List (List ℕ)) : Type 0 where
   pub roles_are : roles ≡ old.roles
   pub labels_good : GoodLabels old.labels labels
@@ -198,7 +198,7 @@ good_keeps old r g = record { later = g.labels_good.later; roles = g.roles_are; 
 good_behind : (o : Reader_data) (bytes : List ℕ) (at : ℕ) (found : Names_data) → IsSound (names_read o) → (b : AreNamesBehind feeding names_read o bytes at found) → Good (names_read o) b.reader
 good_behind o bytes at found s b = kept_behind feeding (Good (names_read o)) (good_kept (names_read o)) names_read o bytes at found (good_first o s) b
 
--- the names are sound behind any first tokens
+-- the names are sound after any first tokens
 pub sound_behind : (o : Reader_data) (bytes : List ℕ) (at : ℕ) (found : Names_data) → IsSound (names_read o) → AreNamesBehind feeding names_read o bytes at found → IsSound found
 sound_behind o bytes at found s b = subst IsSound (sym b.names_are) (good_sound (names_read o) b.reader s (good_behind o bytes at found s b))
 

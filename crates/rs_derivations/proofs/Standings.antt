@@ -216,7 +216,7 @@ acted_stands old home (y ∷ ys) a = ap (λ z. with_act old home z (y ∷ ys) a)
 
 -- ---- lists
 
--- at a place behind the lists
+-- at a place after the lists
 abbrev behind_lists : Names_data → Head Two → Mode → Reader_data
 behind_lists old h m = standing (with_new_labels old (labels_so Two h [] [])) Two h [] no_node m
 
@@ -427,7 +427,7 @@ home_nodes_kept old labels w (of_list h) k = refl
 abbrev labels_there : Names_data → ActsHome → List ActTree → List (List ℕ)
 labels_there old home acts = names_with old.labels (labels_of_acts (acts_before home) ++ labels_of_acts acts)
 
--- the reader behind a label, where the names have these labels
+-- the reader after a label, where the names have these labels
 abbrev at_label : Names_data → ActsHome → List ActTree → List ℕ → ActKind → List ℕ → List (List ℕ) → Reader_data
 at_label old home acts p k w labels =
     home_standing (having old labels) home (acts_read (having old labels) acts) (mode.InMessage (role_named old p) k (place.Paren (label_named (having old labels) w)))
@@ -690,7 +690,7 @@ rank_told : (old : Names_data) (f : Format) (h : Head f) (ns : List (NodeTree f)
 rank_told old f h ns s p a at None = refl
 rank_told old f h ns s p a at (Some n) = refl
 
--- the reader behind a node, where its labels were read
+-- the reader after a node, where its labels were read
 abbrev node_there : Names_data → (f : Format) → Head f → List (NodeTree f) → NodeTree f → List ActTree → Reader_data
 node_there old f h ns n acts = with_nodes old f h ns (labels_so f h ns acts) n
 

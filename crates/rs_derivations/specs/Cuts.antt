@@ -23,7 +23,7 @@ pub data ActCut : Type 0 where
   behind_paren : (peer : List ℕ) → (kind : ActKind) → (label : List ℕ) → ActCut
   behind_sort : (peer : List ℕ) → (kind : ActKind) → (label : List ℕ) → (sort : Sort) → ActCut
 
--- acts cut off at a place: where a further act begins, within it, or behind it
+-- acts cut off at a place: where a further act begins, within it, or after it
 pub data ActsCut : Type 0 where
   at_act : (acts : List ActTree) → ActsCut
   in_act : (acts : List ActTree) → (cut : ActCut) → ActsCut
@@ -54,7 +54,7 @@ pub data ActsHome : Type 0 where
   of_node : (head : Head One) → (nodes : List (NodeTree One)) → (state : ℕ) → ActsHome
   of_list : (head : Head Two) → ActsHome
 
--- a derivation cut off at a place. Behind the lists of format 2 the place is behind the last act, or behind the "{"
+-- a derivation cut off at a place. After the lists of format 2 the place is after the last act, or after the "{"
 pub data Cut : Type 0 where
   at_begin : Cut
   at_role : Cut
@@ -80,7 +80,7 @@ act_cut_signs (behind_label p k l) = plain p ∷ mark_sign k ∷ word_sign l ∷
 act_cut_signs (behind_paren p k l) = plain p ∷ mark_sign k ∷ word_sign l ∷ open_paren ∷ []
 act_cut_signs (behind_sort p k l s) = plain p ∷ mark_sign k ∷ word_sign l ∷ open_paren ∷ plain (sort_text s) ∷ []
 
--- a list as far as the place of a further element: nothing, or elements with a comma behind each
+-- a list as far as the place of a further element: nothing, or elements with a comma after each
 abbrev pub elements_with_commas : {A : Type 0} → (A → List Sign) → List A → List Sign
 elements_with_commas signs [] = []
 elements_with_commas signs (x ∷ xs) = list_with_separators (comma ∷ []) signs (x ∷ xs) ++ comma ∷ []
@@ -91,11 +91,11 @@ acts_cut_signs (at_act acts) = elements_with_commas act_signs acts
 acts_cut_signs (in_act acts a) = elements_with_commas act_signs acts ++ act_cut_signs a
 acts_cut_signs (behind_act x xs) = acts_signs (x ∷ xs)
 
--- a node as far as behind its pending acts
+-- a node as far as after its pending acts
 abbrev pub node_behind_pending : (f : Format) → ℕ → ℕ → PendingTree f → List Sign
 node_behind_pending f n s p = number n ∷ colon ∷ number s ∷ pending_signs f p
 
--- a node as far as behind the "[" of its nexts
+-- a node as far as after the "[" of its nexts
 abbrev pub node_before_nexts : (f : Format) → ℕ → ℕ → PendingTree f → ℕ → ℕ → List Sign
 node_before_nexts f n s p a r = node_behind_pending f n s p ++ (number a ∷ plain (codes "rank") ∷ number r ∷ plain (codes "next") ∷ open_bracket ∷ [])
 
@@ -163,7 +163,7 @@ act_wanted One [] = wanted.ActOrCloseBracket
 act_wanted One (x ∷ xs) = wanted.Role
 act_wanted Two acts = wanted.Role
 
--- what is wanted behind an act
+-- what is wanted after an act
 abbrev pub wanted_behind_act : Format → Wanted
 wanted_behind_act One = wanted.CommaOrCloseBracket
 wanted_behind_act Two = wanted.CommaPendingOrNode
@@ -184,12 +184,12 @@ wanted_in_acts f (at_act acts) = act_wanted f acts
 wanted_in_acts f (in_act acts a) = wanted_in_act a
 wanted_in_acts f (behind_act x xs) = wanted_behind_act f
 
--- what is wanted behind a node's state
+-- what is wanted after a node's state
 abbrev pub wanted_behind_state : Format → Wanted
 wanted_behind_state One = wanted.OpenBracket
 wanted_behind_state Two = wanted.With
 
--- what is wanted within a node behind these nodes
+-- what is wanted within a node after these nodes
 abbrev pub wanted_in_node : (f : Format) → List (NodeTree f) → NodeCut f → Wanted
 wanted_in_node f nodes at_number = node_wanted nodes
 wanted_in_node f nodes at_colon = wanted.Colon
@@ -227,7 +227,7 @@ pub record IsBegun (f : Format) (h : Head f) (nodes : List (NodeTree f)) : Type 
   pub lists : HaveActs f h.lists
   pub numbers : All (λ n. HasItsList f h.lists n.pending) nodes
 
--- where a node's number may stand, or the end: in format 2 behind a node, since the first node begins behind the lists
+-- where a node's number may stand, or the end: in format 2 after a node, since the first node begins after the lists
 abbrev pub IsAtNode : (f : Format) → List (NodeTree f) → Type 0
 IsAtNode One nodes = Unit {0}
 IsAtNode Two nodes = 1 ≤ length nodes

@@ -21,7 +21,7 @@ abbrev pub acts_of_number : {A : Type 0} → List (List A) → ℕ → List A
 acts_of_number lists zero = []
 acts_of_number lists (suc k) = slice_index_or lists k []
 
--- the pending acts that a node has behind these lists
+-- the pending acts that a node has after these lists
 abbrev pub acts_of_pending : (f : Format) → ListsTree f → PendingTree f → List ActTree
 acts_of_pending One none acts = acts
 acts_of_pending Two lists n = acts_of_number lists n
@@ -56,7 +56,7 @@ act_of_kind act.Receive peer label sort = Takes peer label sort
 abbrev pub act_of_tree : Names_data → ActTree → Act
 act_of_tree names a = act_of_kind a.kind (role_named names a.peer) (label_named names a.label) (sort_or_unit a.sort)
 
--- the node that a tree spells behind these lists, with these names
+-- the node that a tree spells after these lists, with these names
 abbrev pub node_of_tree : Names_data → (f : Format) → ListsTree f → NodeTree f → DNode_data
 node_of_tree names f lists t = record { state = t.state; pending = map (act_of_tree names) (acts_of_pending f lists t.pending); above = t.above; rank = t.rank; next = t.next }
 

@@ -33,6 +33,6 @@ end_refused _ at r = tt
 end_stops : (m : Mode) (at : ℕ) (r d : Reader_data) → feed_at m finish at r ≡ Ok d → ⊥
 end_stops m at r d h = subst IsRefused h (end_refused m at r)
 
--- the end is never taken, and nothing behind it counts
+-- the end is never taken, and nothing after it counts
 pub at_end_stops : StopsAtEnd feeding
 at_end_stops = record { never = λ at n r d h. end_stops r.mode at r d h; same = λ at n k r. refl }

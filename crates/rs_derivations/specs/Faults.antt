@@ -26,7 +26,7 @@ abbrev pub fault_of_node : ℕ → Option ℕ → Option TextKind
 fault_of_node count None = None
 fault_of_node count (Some n) = if n == count then (if nat_le MOST_CANDIDATES count then Some kind.TooManyNodes else None) else None
 
--- the peer of an act is known, and there is room for the act behind so many of its list
+-- the peer of an act is known, and there is room for the act after so many of its list
 abbrev pub fault_of_peer : Names_data → ℕ → Option (List ℕ) → Option TextKind
 fault_of_peer old count None = None
 fault_of_peer old count (Some name) = if is_among name old.roles then (if nat_le MOST_BOUND count then Some kind.TooManyActs else None) else Some kind.UnknownRole
@@ -58,7 +58,7 @@ fault_of old _ t = None
 abbrev pub Begins : List Sign → Type 0
 Begins signs = (tree : DerivationTree) × (rest : List Sign) × IsFormed tree × (derivation_signs tree ≡ signs ++ rest)
 
--- the place is within the derivation, not behind it
+-- the place is within the derivation, not after it
 abbrev pub IsInDerivation : Cut → Type 0
 IsInDerivation (at_end t) = ⊥
 IsInDerivation _ = Unit {0}
@@ -89,7 +89,7 @@ pub record IsBroken (before : List Sign) (t : Sign) (kind : FaultKind) : Type 0 
   pub place : Cut
   pub stands : StandsAt before place
 
--- the faults of a token, with the names that were there and the tokens before it. The one behind it doesn't matter
+-- the faults of a token, with the names that were there and the tokens before it. The one after it doesn't matter
 abbrev pub FaultAt : (old : Names_data) → (before : List Sign) → (t next : Sign) → TextKind → Type 0
 FaultAt old before t next k = ((w : Wanted) × (k ≡ kind.Expected w) × IsUnexpected before t w) ⊎ (IsMisplaced old before t k ⊎ ((j : FaultKind) × (k ≡ kind_of j) × IsBroken before t j))
 

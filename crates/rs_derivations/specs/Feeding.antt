@@ -53,7 +53,7 @@ is_bound n = nat_le 1 n && nat_le n MOST_BOUND
 
 -- ---- steps
 
--- the reader behind a token, or the fault of the token
+-- the reader after a token, or the fault of the token
 abbrev pub Fed : Type 0
 Fed = Result Reader_data TextFault
 
@@ -97,17 +97,17 @@ abbrev pub feed_bound : Option ℕ → ℕ → Reader_data → Fed
 feed_bound None at r = expected wanted.BoundNumber at
 feed_bound (Some n) at r = if is_bound n then Ok (record r { bound = n; mode = mode.AtBrace }) else expected wanted.BoundNumber at
 
--- the mode behind the open brace
+-- the mode after the open brace
 abbrev pub behind_brace : Format → Mode
 behind_brace One = mode.AtNode
 behind_brace Two = mode.AtLists
 
--- the mode behind a token by which the first node of format 2 begins
+-- the mode after a token by which the first node of format 2 begins
 abbrev pub first_node : Option ℕ → Option Mode
 first_node None = None
 first_node (Some n) = if n == 0 then Some mode.AtColon else None
 
--- the mode behind a token by which a list or the first node of format 2 begins
+-- the mode after a token by which a list or the first node of format 2 begins
 abbrev pub beginning : Sign → Option Mode
 beginning t = if is_keyword (codes "pending") t then Some mode.AtListNumber else first_node (number_value t)
 
@@ -127,7 +127,7 @@ feed_node (Some n) closes at r =
     if n == length r.nodes then (if nat_le MOST_CANDIDATES (length r.nodes) then fault kind.TooManyNodes at else in_mode mode.AtColon r) else expected (node_wanted r.nodes) at
 feed_node None closes at r = passes (closes && is_some_of r.nodes) (node_wanted r.nodes) mode.Behind at r
 
--- the mode behind the state
+-- the mode after the state
 abbrev pub behind_state : Format → Mode
 behind_state One = mode.AtActs
 behind_state Two = mode.AtWith
@@ -171,7 +171,7 @@ feed_mark p (Some k) at r = in_mode (mode.InMessage p k place.Label) r
 abbrev pub feed_pending : Role → ActKind → Label → Sort → Reader_data → Fed
 feed_pending p m l s r = Ok (record r { acts = r.acts ++ act_of_kind m p l s ∷ []; mode = mode.BehindAct })
 
--- a message of an act, behind a token
+-- a message of an act, after a token
 abbrev pub in_message : Role → ActKind → Result MessageFed TextFault → Reader_data → Fed
 in_message p m (Err f) r = Err f
 in_message p m (Ok (goes_on labels x)) r = Ok (record r { labels = labels; mode = mode.InMessage p m x })
@@ -182,12 +182,12 @@ abbrev pub feed_list_end : Option Mode → ℕ → Reader_data → Fed
 feed_list_end None at r = expected wanted.CommaPendingOrNode at
 feed_list_end (Some m) at r = Ok (record r { lists = r.lists ++ r.acts ∷ []; acts = []; mode = m })
 
--- what stands behind the last act: the end of the acts of a node, or what begins behind a list
+-- what stands after the last act: the end of the acts of a node, or what begins after a list
 abbrev pub feed_behind_acts : Format → Sign → ℕ → Reader_data → Fed
 feed_behind_acts One t at r = if is_close_bracket t then feed_acts_end r else expected wanted.CommaOrCloseBracket at
 feed_behind_acts Two t at r = feed_list_end (beginning t) at r
 
--- the comma before a further act, or what stands behind the last one
+-- the comma before a further act, or what stands after the last one
 abbrev pub feed_behind_act : Sign → ℕ → Reader_data → Fed
 feed_behind_act t at r = if is_comma t then in_mode mode.AtAct r else feed_behind_acts r.format t at r
 
@@ -254,7 +254,7 @@ feed_at m t at r = feed_outside m t at r
 abbrev pub feed_of : Sign → ℕ → Reader_data → Fed
 feed_of t at r = feed_at r.mode t at r
 
--- the mode behind the whole derivation
+-- the mode after the whole derivation
 abbrev pub is_behind : Mode → Bool
 is_behind mode.Behind = true
 is_behind _ = false
@@ -263,7 +263,7 @@ is_behind _ = false
 abbrev pub is_read : Reader_data → Bool
 is_read r = is_behind r.mode
 
--- the reader of derivations. What stands behind a token doesn't matter
+-- the reader of derivations. What stands after a token doesn't matter
 abbrev pub feeding : Automaton Reader_data
 feeding = record { feed = λ t at next r. feed_of t at r; is_read = λ r. is_read r }
 

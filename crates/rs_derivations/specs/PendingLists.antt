@@ -9,12 +9,12 @@ use Rattle.rs_derive.specs.Targets.{same_acts}
 abbrev pub is_one_of : List (List Act) → List Act → Bool
 is_one_of lists acts = list_any (λ x. same_acts x acts) lists
 
--- these lists, with one more behind them where it has acts and isn't there
+-- these lists, with one more after them where it has acts and isn't there
 abbrev pub with_list : List (List Act) → List Act → List (List Act)
 with_list lists [] = lists
 with_list lists (a ∷ later) = if is_one_of lists (a ∷ later) then lists else lists ++ (a ∷ later) ∷ []
 
--- these lists, with further ones behind them in order of their first places
+-- these lists, with further ones after them in order of their first places
 abbrev pub with_lists : List (List Act) → List (List Act) → List (List Act)
 with_lists lists [] = lists
 with_lists lists (x ∷ xs) = with_lists (with_list lists x) xs

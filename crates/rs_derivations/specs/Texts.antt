@@ -46,7 +46,7 @@ abbrev pub pending_text : (f : Format) → PendingTree f → List ℕ
 pending_text One acts = codes "[" ++ (acts_text acts ++ codes "]")
 pending_text Two n = codes "with " ++ (decimal n ++ codes " above")
 
--- what stands behind the pending acts of a node
+-- what stands after the pending acts of a node
 abbrev pub rest_text : {f : Format} → NodeTree f → List ℕ
 rest_text t = decimal t.above ++ (codes " rank " ++ (decimal t.rank ++ (codes " next [" ++ (numbers_text t.next ++ codes "]\n"))))
 

@@ -84,11 +84,11 @@ abbrev pub pending_signs : (f : Format) → PendingTree f → List Sign
 pending_signs One acts = open_bracket ∷ (acts_signs acts ++ close_bracket ∷ [])
 pending_signs Two n = plain (codes "with") ∷ number n ∷ plain (codes "above") ∷ []
 
--- behind the pending acts of a node: NUM "rank" NUM "next" "[" numbers "]"
+-- after the pending acts of a node: NUM "rank" NUM "next" "[" numbers "]"
 abbrev pub rest_signs : {f : Format} → NodeTree f → List Sign
 rest_signs t = number t.above ∷ plain (codes "rank") ∷ number t.rank ∷ plain (codes "next") ∷ open_bracket ∷ (numbers_signs t.next ++ close_bracket ∷ [])
 
--- NUM ":" NUM, the pending acts, and what stands behind them: the node with the number n
+-- NUM ":" NUM, the pending acts, and what stands after them: the node with the number n
 abbrev pub node_signs : (f : Format) → ℕ → NodeTree f → List Sign
 node_signs f n t = number n ∷ colon ∷ number t.state ∷ (pending_signs f t.pending ++ rest_signs t)
 

@@ -14,10 +14,10 @@ use rs_text::{TextFault, read_tokens};
 use std::alloc::Global;
 use std::mem;
 
-/// Reads a derivation part from the offset `at` on, and gives the derivation and the offset of the first byte behind it
+/// Reads a derivation part from the offset `at` on, and gives the derivation and the offset of the first byte after it
 /// that is neither a blank nor in a comment, or the length. The names are sound, with at most 16 roles and 256 labels.
 ///
-/// In format 1 each node has its pending acts. A text with `format 2` behind the role has lists of acts before the
+/// In format 1 each node has its pending acts. A text with `format 2` after the role has lists of acts before the
 /// nodes, numbered from 1 on, and a node has the number of its list, or 0 for no acts; lists may be repeated or unused.
 ///
 /// Nodes stand in order of their numbers, from 0 on. New labels are added to the names in order of text, and nothing

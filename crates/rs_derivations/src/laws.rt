@@ -16,7 +16,7 @@ ghost use Rattle.rs_derivations.specs.PendingLists.{AllNew, is_one_of, lists_of}
 ghost use Rattle.rs_derivations.specs.Printable.{IsPrintable};
 ghost use Rattle.rs_derivations.specs.Spells.{SpellsDerivation};
 
-/// A text spells one derivation at most, with one list of names and one offset behind it.
+/// A text spells one derivation at most, with one list of names and one offset after it.
 pub fn text_spells_one_derivation()
     ensures { (old new other : Names_data) (bytes : List ℕ) (at until stop : ℕ) (d e : Derivation_data) → SpellsDerivation bytes at old new d until → SpellsDerivation bytes at old other e stop
         → (new ≡ other) × (d ≡ e) × (until ≡ stop) }

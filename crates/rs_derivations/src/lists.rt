@@ -78,7 +78,7 @@ impl<'a> ListTable<'a> {
         number_along(self.lists.as_slice(), &self.links, head, acts)
     }
 
-    // Puts a list behind the others where it has acts and isn't there.
+    // Puts a list after the others where it has acts and isn't there.
     fn add(&mut self, acts: &'a [Act]) -> Result<(), NoMemory>
         ensures { OnOk result (self.new ≡ with_list self.old acts.now) }
     {

@@ -65,7 +65,7 @@ fn push_role(text: &mut Text, names: &Names, role: Role) -> Result<(), NoMemory>
     push_name(text, names.roles.as_slice(), usize::from(role.0))
 }
 
-/// What stands behind the role in the first line.
+/// What stands after the role in the first line.
 fn push_bound(text: &mut Text, bound: u8) -> Result<(), NoMemory>
     ensures { OnOk result (text.new ≡ text.old ++ spec.bound_text bound) }
 {
@@ -117,7 +117,7 @@ fn push_node(text: &mut Text, number: u64, node: &DNode, list: u64) -> Result<()
     push_rest(text, node)
 }
 
-/// What stands behind the pending acts.
+/// What stands after the pending acts.
 fn push_rest(text: &mut Text, node: &DNode) -> Result<(), NoMemory>
     ensures { OnOk result (text.new ≡ text.old ++ (decimal node.now.above ++ (codes " rank " ++ (decimal node.now.rank ++ (codes " next [" ++ (spec.numbers_text node.now.next ++ codes "]\n")))))) }
 {

@@ -45,7 +45,7 @@ pub(crate) enum Mode {
     AtLists,
     AtListNumber,
     AtListColon,
-    /// At a node's number, or at the end behind a node.
+    /// At a node's number, or at the end after a node.
     AtNode,
     AtColon,
     AtState,
@@ -56,7 +56,7 @@ pub(crate) enum Mode {
     AtPendingNumber,
     /// At `above`.
     AtAboveWord,
-    /// At an act, or right behind `[` at `]` as well.
+    /// At an act, or right after `[` at `]` as well.
     AtAct,
     AtMark {
         peer: Role,
@@ -76,10 +76,10 @@ pub(crate) enum Mode {
     AtNextWord,
     /// At the `[` of the nexts.
     AtNexts,
-    /// At a next, or right behind `[` at `]` as well.
+    /// At a next, or right after `[` at `]` as well.
     AtNext,
     BehindNext,
-    /// Behind the derivation.
+    /// After the derivation.
     Behind,
 }
 
@@ -159,7 +159,7 @@ fn is_bound(number: u32) -> bool
     number >= 1 && number as usize <= MOST_BOUND
 }
 
-/// The mode behind a token by which a list or the first node of format 2 begins.
+/// The mode after a token by which a list or the first node of format 2 begins.
 fn beginning(token: &TextToken) -> Option<Mode>
     ensures { result ≡ spec.beginning token.now.sign }
 {
@@ -533,7 +533,7 @@ impl<'a> Reader<'a> {
         }
     }
 
-    /// The list is read, where something begins behind it.
+    /// The list is read, where something begins after it.
     fn end_list(&mut self, mode: Option<Mode>, at: usize) -> Result<(), Stop>
         ensures { spec.Feeds result (spec.feed_list_end mode at self.old) self.old self.new }
     {

@@ -1,4 +1,4 @@
--- Elements of a list behind a function.
+-- Elements of a list after a function.
 use Rattle.std.proofs.Common.{◌≡◌, ℕ, zero, suc, List, [], ◌∷◌, map, slice_get, Some, refl, ap}
 use Rattle.std.proofs.lemmas.Option.{none-some, same_Some}
 

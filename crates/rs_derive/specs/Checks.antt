@@ -49,12 +49,12 @@ nexts_fault nodes keeps rank i (d ∷ ds) [] k = Some (WrongNext i k)
 nexts_fault nodes keeps rank i (d ∷ ds) (j ∷ js) k =
     or_later (edge_fault keeps rank i k d (slice_get nodes j)) (nexts_fault nodes keeps rank i ds js (k + 1))
 
--- node i has no move, or else the first fault of its edges
+-- node i has no move; if it has one, the first fault of its edges
 abbrev pub move_fault : List DNode_data → ℕ → DNode_data → Option Due → Option DeriveFault
 move_fault nodes i n None = Some (NoMove i)
 move_fault nodes i n (Some d) = nexts_fault nodes d.keeps n.rank i d.nexts n.next 0
 
--- node i stands at a state that isn't there
+-- node i names a state that the machine or its projection doesn't have
 abbrev pub state_fault : Machine_data → Machine_data → ℕ → DNode_data → Option DeriveFault
 state_fault sub above i n =
     if nat_lt n.state (length sub.states) && nat_lt n.above (length above.states) then None else Some (BadState i)

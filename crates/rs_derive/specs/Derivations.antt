@@ -21,7 +21,7 @@ NameResults nodes [] (r ∷ rs) = ⊥
 NameResults nodes (j ∷ js) [] = ⊥
 NameResults nodes (j ∷ js) (r ∷ rs) = ((m : DNode_data) × (slice_get nodes j ≡ Some m) × (spot_of m ≡ r)) × NameResults nodes js rs
 
--- the node stands at states, owes no more than the bound, and names the results of a move that it has
+-- the node names states of both machines, owes no more than the bound, and names the results of a move that it has
 pub record NodeFits (nodes : List DNode_data) (bound : ℕ) (sub above : Machine_data) (n : DNode_data) : Type 0 where
   pub state : n.state < length sub.states
   pub present : n.above < length above.states

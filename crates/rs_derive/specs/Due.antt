@@ -15,7 +15,7 @@ pub record Due : Type 0 where
   pub keeps : Bool
   pub nexts : List (List Spot)
 
--- the spot behind an arm that both send
+-- the spot after an arm that both send
 abbrev pub both_at : List Act → Arm → Option Arm → List Spot
 both_at pending a None = []
 both_at pending a (Some b) = spot a.next pending b.next ∷ []

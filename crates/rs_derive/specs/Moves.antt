@@ -22,7 +22,7 @@ pub record Spot : Type 0 where
 abbrev pub spot : ℕ → List Act → ℕ → Spot
 spot s pending t = record { state = s; pending = pending; above = t }
 
--- the arm with the label; it is the only one, since a label stands once
+-- the arm with the label; there is one at most, since no state has a label twice
 abbrev pub arm_of : List Arm → Label → Option Arm
 arm_of [] l = None
 arm_of (a ∷ later) l = if a.label.0 == l.0 then Some a else arm_of later l

@@ -1,4 +1,4 @@
--- Public: whether a node stands at one of the spots, and whether a derivation begins at the start.
+-- Public: whether a node is at one of the spots, and whether a derivation begins at the start.
 use Rattle.std.specs.Prelude.{List, [], ◌∷◌, length, Bool, false, ◌==◌, ◌&&◌}
 use Rattle.std.specs.List.{list_any}
 use Rattle.rs_model.specs.Data.{Machine_data}

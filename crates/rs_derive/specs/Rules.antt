@@ -1,4 +1,4 @@
--- Public: the table of moves, row by row: the rule that applies where the machine stands at one state and the projection at another.
+-- Public: the table of moves, row by row: the rule that applies when the machine is at one state and the projection at another.
 use Rattle.std.specs.Prelude.{ℕ, ◌<◌, ◌≡◌, List, [], ◌∷◌, length, slice_get, Bool, true, false, ◌==◌, ◌&&◌, nat_lt, if◌then◌else◌, Option, Some, None}
 use Rattle.std.specs.List.{list_all}
 use Rattle.rs_model.specs.Serving.{serves}
@@ -81,7 +81,7 @@ arms_at Done = []
 arms_at (Puts q arms) = arms
 arms_at (Takes q arms) = arms
 
--- the arms of a state, where there is one
+-- the arms of a state, if there is a state
 abbrev pub arms_of : Option State → List Arm
 arms_of None = []
 arms_of (Some s) = arms_at s
@@ -98,7 +98,7 @@ keeps_head pending Stops = false
 keeps_head pending (Pays place a) = nat_lt 0 place
 keeps_head pending _ = nat_lt 0 (length pending)
 
--- what a rule that applies tells: an act is owed at its place, and the projection has each arm of the machine
+-- what holds if a rule applies: an act is owed at its place, and the projection has each arm of the machine
 abbrev pub RuleFits : List Act → List Arm → List Arm → Rule → Type 0
 RuleFits pending arms theirs (Pays place a) = place < length pending
 RuleFits pending arms theirs SendsBoth = all_serve theirs arms ≡ true

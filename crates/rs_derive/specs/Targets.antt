@@ -27,7 +27,7 @@ same_acts (a ∷ as') (b ∷ bs) = same_act a b && same_acts as' bs
 abbrev pub same_spot : Spot → Spot → Bool
 same_spot p q = (p.state == q.state) && ((p.above == q.above) && same_acts p.pending q.pending)
 
--- what is owed behind the change, where these acts were owed
+-- what is owed after the change, if these acts were owed before
 abbrev pub owed_behind : List Act → Change → List Act
 owed_behind pending Same = pending
 owed_behind pending (Without place) = without pending place

@@ -17,12 +17,12 @@ use crate::{DNode, Derivation, DeriveFault, Rule};
 use rs_model::{Arm, Machine, State};
 
 /// Tests that the derivation shows how the machine `sub` may replace its projection `above`, and that nothing owed is
-/// forgotten: that it starts at both starts with nothing pending, that each node stands at states, owes no more than
+/// forgotten: that it starts at both starts with nothing pending, that each node names states, owes no more than
 /// the bound, has a move and names the move's results in order, and that the rank falls on each edge that keeps the
 /// oldest pending act.
 ///
 /// The error is the first fault in this order: the start; then node by node the states, the length, the move, and arm
-/// by arm the next and the rank. Takes no memory, and reads each node and edge once.
+/// by arm the next and the rank. Allocates nothing, and reads each node and edge once.
 pub fn check(derivation: &Derivation, sub: &Machine, above: &Machine) -> Result<(), DeriveFault>
     requires sub { IsProper sub.now }
     requires above { IsProper above.now }
@@ -93,7 +93,7 @@ fn node_fault(
     next_fault(&derivation.nodes, number, node, state, there)
 }
 
-// The node stands at these states.
+// The node names these states.
 #[inline(always)]
 fn next_fault(
     nodes: &[DNode],

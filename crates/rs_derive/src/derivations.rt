@@ -11,10 +11,15 @@ use std::marker::Model;
 /// the numbers of the nodes that its move leads to.
 #[derive(Drop, Debug)]
 pub struct DNode {
+    /// The number of the machine's state.
     pub state: u32,
+    /// The acts that the machine owes: acts of its projection that were passed and not yet made, the oldest first.
     pub pending: Pending,
+    /// The number of the projection's state.
     pub above: u32,
+    /// The rank: it falls along each edge that keeps the oldest pending act.
     pub rank: u32,
+    /// The numbers of the nodes to which the node's move leads, one for each arm.
     pub next: NodeRow,
 }
 
@@ -26,12 +31,15 @@ impl Model for DNode {
     ghost view = { λ n. record { state = n.state; pending = n.pending; above = n.above; rank = n.rank; next = n.next } };
 }
 
-/// How the machine of a role follows its projection: nodes, numbered by their places. Node 0 is the start. No node
-/// owes more acts than the bound.
+/// A certificate that the machine of a role may stand for its projection: nodes, numbered by their places. Node 0 is the
+/// start. `IsDerivation` and `Remembers` define what makes it one; `check` tests both.
 #[derive(Drop, Debug)]
 pub struct Derivation {
+    /// The role whose machine it is for.
     pub role: Role,
+    /// The greatest number of acts that a node may owe.
     pub bound: u8,
+    /// The nodes, by their numbers.
     pub nodes: Vec<DNode>,
 }
 
@@ -43,7 +51,7 @@ impl Model for Derivation {
     ghost view = { λ d. record { role = d.role; bound = d.bound; nodes = d.nodes.items } };
 }
 
-/// The greatest number of acts that are pending at a node, and 0 for no nodes.
+/// Returns the greatest number of acts that are pending at a node, and 0 if there is no node.
 pub fn longest(derivation: &Derivation) -> u32
     requires { All (λ n. length n.pending < 2 ^ 32) derivation.now.nodes }
     ensures { IsGreatest (map (λ n. length n.pending) derivation.now.nodes) result }
@@ -55,7 +63,7 @@ pub fn longest(derivation: &Derivation) -> u32
     greatest
 }
 
-/// The greatest rank of a node, and 0 for no nodes.
+/// Returns the greatest rank of a node, and 0 if there is no node.
 pub fn top_rank(derivation: &Derivation) -> u32
     ensures { IsGreatest (map (λ n. n.rank) derivation.now.nodes) result }
 {

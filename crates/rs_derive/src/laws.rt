@@ -8,15 +8,15 @@ ghost use Rattle.rs_derive.specs.Faults.{Blames, first_fault};
 ghost use Rattle.rs_derive.specs.declared.faults.DeriveFault.{DeriveFault};
 ghost use Rattle.rs_derive.specs.Moves.{HasMove, Spot};
 
-/// A derivation passes all its tests exactly where it is one and forgets nothing, and the fault of the first test that
-/// it doesn't pass says what is wrong.
+/// A list of nodes passes all tests if and only if it is a derivation and forgets nothing, and the fault of the first test
+/// that it doesn't pass says what is wrong.
 pub fn faults_of_derivations()
     ensures none { (d : Derivation_data) (sub above : Machine_data) → (first_fault d sub above ≡ None) ↔ (IsDerivation d sub above × Remembers d sub above) }
     ensures some { (d : Derivation_data) (sub above : Machine_data) (fault : DeriveFault) → first_fault d sub above ≡ Some fault → Blames d sub above fault }
 {}
 
-/// The moves that are computed are those of the table: results are those of a move exactly where they are chosen from
-/// what is due, and the edges are told to keep their head exactly where they do.
+/// The moves that are computed are those of the table: results are those of a move if and only if they are chosen from
+/// what is due, and `keeps` is true if and only if the edges of the move keep their head.
 pub fn moves_are_computed()
     ensures due { (sub above : Machine_data) (p : Spot) (makes : Option ℕ) (results : List Spot) → HasMove sub above p makes results
         → (d : Due) × (due sub above p ≡ Some d) × Chosen d.nexts results × ((d.keeps ≡ true) ↔ KeepsItsHead p.pending makes) }

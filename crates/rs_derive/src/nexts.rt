@@ -14,15 +14,19 @@ use crate::targets::{Change, EdgeTarget, is_guessed, is_target};
 use crate::{DNode, DeriveFault};
 use rs_model::{Act, Arm, Role};
 
-// The node that edges leave, by its number, and whether these edges keep its head.
+/// The node that edges leave, as far as the test of an edge needs it.
 #[derive(Clone, Copy)]
 pub struct EdgeSource {
+    /// The node's number.
     pub node: u32,
+    /// The node's rank. An edge that keeps the head must lead to a lower one.
     pub rank: u32,
+    /// Whether the node's edges keep its head: the oldest act that is owed is passed over.
     pub keeps: bool,
 }
 
-// One next, which must name the target.
+/// Tests the nexts of a node whose move has one result. Returns the first fault (`nexts_fault`), or none if there is one
+/// next, and it names the target.
 #[inline(always)]
 pub fn one_fault(
     nodes: &[DNode],
@@ -44,7 +48,8 @@ pub fn one_fault(
     }
 }
 
-// One next, which must name what passing one of the projection's sends leads to.
+/// Tests the nexts of a node that passes a send of its projection, to `peer` with these arms. Returns the first fault
+/// (`nexts_fault`), or none if there is one next, and it names a node that owes the send of one of the arms.
 #[inline(always)]
 pub fn guess_fault(
     nodes: &[DNode],
@@ -66,7 +71,8 @@ pub fn guess_fault(
     }
 }
 
-// A next for each arm of the projection's receive, which is owed from there on.
+/// Tests the nexts of a node that passes a receive of its projection, from `peer` with these arms. Returns the first
+/// fault (`nexts_fault`), or none if there is one next for each arm, in order, which owes the receive of that arm.
 #[inline(always)]
 pub fn follow_fault(
     nodes: &[DNode],
@@ -87,7 +93,9 @@ pub fn follow_fault(
     count_fault(source, due as u32, arms.len(), node.next.as_slice().len())
 }
 
-// A next for each arm of the machine's send, which the projection makes too.
+/// Tests the nexts of a node at which the machine and its projection make the same send. `arms` are the machine's, and
+/// `theirs` the projection's. Returns the first fault (`nexts_fault`), or none if there is one next for each arm of the
+/// machine, in order, and it names where both lead.
 pub fn both_fault(
     nodes: &[DNode],
     source: EdgeSource,
@@ -237,7 +245,7 @@ fn count_fault(source: EdgeSource, arm: u32, arms: usize, nexts: usize) -> Optio
     }
 }
 
-// More nexts than are due.
+/// Returns the fault `WrongNext` at `arm` if `rest`, the nexts after those that are due, isn't empty.
 pub fn spare_fault(source: EdgeSource, arm: u32, rest: &[u32]) -> Option<DeriveFault>
     ensures { result ≡ spare source.node arm rest.now }
 {

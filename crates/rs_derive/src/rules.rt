@@ -47,8 +47,8 @@ impl Rule {
     }
 }
 
-/// The rule that applies where so much is owed, the machine stands at a state, and the projection stands there; none
-/// where there is no move. Takes no memory.
+/// Returns the rule that applies when these acts are owed, the machine is at `state`, and the projection is at `there`;
+/// none if there is no move. Allocates nothing.
 #[inline(always)]
 pub fn rule_at(pending: &Pending, state: &State, there: &State) -> Option<Rule>
     ensures rule { result ≡ rule_at pending.now state.now (Some there.now) }

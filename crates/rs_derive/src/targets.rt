@@ -1,4 +1,4 @@
-//! Where an edge leads, told by what changes, so that no list is made to compare a node with it.
+//! Where an edge leads, described by what changes, so that a node is compared with it without making a list.
 ghost use Rattle.std.specs.Prelude.{◌≡◌, ◌↔◌, IsTrue, ◌<◌, ◌≤◌, ◌∷◌, ◌++◌, [], length, map};
 ghost use Rattle.rs_prefix.specs.Earliest.{without};
 ghost use Rattle.rs_derive.specs.Nodes.{names};
@@ -10,13 +10,14 @@ ghost use Rattle.rs_derive.specs.Within.{IsPlaceWithin};
 use crate::DNode;
 use rs_model::{Act, Arm, Role};
 
-/// What a move does to the pending acts.
+/// What a move does to the pending acts, that is, to those that the machine owes.
 #[derive(Clone, Copy, Debug, PartialEq, Eq)]
 pub enum Change {
+    /// The same acts are owed as before.
     Same,
-    /// It makes the act at the place.
+    /// The act at this place, from 0, is made, and no longer owed.
     Without(usize),
-    /// It adds the act.
+    /// This act is owed, too, after the others.
     With(Act),
 }
 
@@ -24,12 +25,15 @@ pub enum Change {
 /// the projection.
 #[derive(Clone, Copy, Debug, PartialEq, Eq)]
 pub struct EdgeTarget {
+    /// The number of the machine's state.
     pub state: u32,
+    /// What becomes of the pending acts of the node that the edge leaves.
     pub change: Change,
+    /// The number of the projection's state.
     pub above: u32,
 }
 
-/// Whether the node is where the edge leads from one with these pending acts.
+/// Returns whether `next` is the node to which the edge leads from a node with these pending acts. Allocates nothing.
 #[inline(always)]
 pub fn is_target(next: &DNode, pending: &[Act], target: EdgeTarget) -> bool
     requires { IsPlaceWithin (length pending.now) target.change }
@@ -40,7 +44,8 @@ pub fn is_target(next: &DNode, pending: &[Act], target: EdgeTarget) -> bool
         && is_changed(next.pending.as_slice(), pending, target.change)
 }
 
-// Whether the node is where passing one of the projection's sends leads, with that send owed.
+/// Returns whether `next` is a node to which `node` leads if it passes one of the projection's sends to `peer`: one that
+/// owes, in addition, the send of one of the arms.
 pub fn is_guessed(next: &DNode, node: &DNode, peer: Role, arms: &[Arm]) -> bool
     ensures { result ≡ names next.now (map (λ b. owing_send (spot_of node.now) peer b) arms.now) }
 {
@@ -113,7 +118,7 @@ fn is_joined(acts: &[Act], front: &[Act], back: &[Act]) -> bool
     same_acts(ours, front) && same_acts(later, back)
 }
 
-/// Whether both owe the same acts in the same order.
+/// Returns whether both lists have the same acts in the same order.
 pub fn same_acts(acts: &[Act], others: &[Act]) -> bool
     ensures { result ≡ same_acts acts.now others.now }
 {

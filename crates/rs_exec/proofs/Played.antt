@@ -110,7 +110,7 @@ sent_on session b at next old new peer arms place value d stands so below well s
       });
     }
 
--- a send that went, by way of what the player was behind its offer
+-- a send that went, by way of what the player was after its offer
 pub sent_by : {A : Type 0} (session : Rings_data) (b : Behaviour A) (at : Stage_data) (next : Stage) (old mid new : TurnTaker A) (peer : Role) (arms : List Arm) (place : ℕ) (value : Value) (d : Arm)
     → state_of_stage session at ≡ Some (Puts peer arms)
     → IsInTime (Sending at) old → length old.entries.items < old.limit → old.failed ≡ false → IsSent session at place value next → offer_of b old.actor old.kept arms ≡ ((place, value), mid.actor)

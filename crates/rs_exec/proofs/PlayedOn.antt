@@ -26,7 +26,7 @@ module _ {A : Type 0} (b : Behaviour A) where
   plays_more m s x [] t y a u z so act = (u, z, subst (λ (k : ℕ × A). PlaysAction b m k.0 k.1 a u z) (λ i. (sym so.0 i, sym so.1 i)) act, (refl, refl))
   plays_more m s x (c ∷ h) t y a u z so act = (so.0, so.1, so.2, plays_more m so.0 so.1 h t y a u z so.3 act)
 
-  -- what is offered is what the actor behind the history chooses
+  -- what is offered is what the actor after the history chooses
   pub record Chose (mid : A) (arms : List Arm) (choice : Choice) (z : A) : Type 0 where
     pub chooses : b.chooses mid arms ≡ choice
     pub asked : b.asked mid arms ≡ z

@@ -22,7 +22,7 @@ pub record Hand_data : Type 0 where
   pub all : Pass_data
   pub count : ℕ
 
--- the first so many values of f
+-- the first n values of f
 abbrev pub first_values : {X : Type 0} → ℕ → (ℕ → X) → List X
 first_values zero f = []
 first_values (suc n) f = f 0 ∷ first_values n (λ k. f (suc k))
@@ -43,7 +43,7 @@ notes_of v r t = t ≡ transcript_of (history_in v r)
 abbrev pub IsSomewhere : List Machine_data → View → ℕ → Type 0
 IsSomewhere machines v r = IsSome (state_of (slice_get machines r) (state_in v r))
 
--- the hand is of this session and has all its roles, which are so many, and each stands at a state of its machine
+-- the hand is of this session and has all its n roles, and each is at a state of its machine
 pub record IsHeld (session : Rings_data) (all : Pass_data) (count : ℕ) : Type 0 where
   pub table : all.table ≡ session.table
   pub speaks : (r : ℕ) → r < length session.machines → SpeaksFor all.view r

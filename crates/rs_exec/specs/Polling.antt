@@ -1,4 +1,4 @@
--- Public: what a poll of a task tells, and what is known of a task that is lent to an executor.
+-- Public: what a poll of a task returns, and what is known of a task that is lent to an executor.
 use Rattle.std.specs.Prelude.{◌≡◌, ℕ, ◌≤◌, false, length, Option, Some, IfSome}
 use Rattle.rs_model.specs.declared.graph.Role.{Role}
 use Rattle.rs_core.specs.Actors.{Behaviour}
@@ -11,7 +11,7 @@ use Rattle.rs_exec.specs.declared.tasks.Turn.TheVariants as turn
 use Rattle.futures.specs.declared.task.Poll.{Poll}
 use Rattle.futures.specs.declared.task.Poll.TheVariants.{Ready, Pending}
 
--- behind such a turn the task doesn't go on
+-- after such a turn the task doesn't continue
 abbrev pub HasStopped : Turn → Type 0
 HasStopped turn.Moved = ⊥
 HasStopped (turn.Waits why) = ⊥

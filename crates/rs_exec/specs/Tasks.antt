@@ -1,4 +1,4 @@
--- Public: what contracts see of tasks, and what a turn of a task tells.
+-- Public: what contracts see of tasks, and what a turn of a task returns.
 use Rattle.std.specs.Prelude.{◌≡◌, ◌⊎◌, ℕ, ◌<◌, ◌≤◌, true, false, [], ◌∷◌, ◌++◌, length, Option, Some, None, IfSome, slice_get}
 use Rattle.rs_model.specs.Data.{Machine_data}
 use Rattle.rs_model.specs.declared.graph.Role.{Role}
@@ -48,7 +48,7 @@ pub record Gets {A : Type 0} (session : Rings_data) (old new : Task_data A) : Ty
   pub kept : new.kept ≡ old.kept
   pub transcript : new.transcript ≡ old.transcript ++ entry.Got got.by.peer got.by.arm.label value ∷ []
 
--- a value is got, and the actor is told
+-- a value is received, and the actor gets it
 pub record TaskReceives {A : Type 0} (session : Rings_data) (b : Behaviour A) (old new : Task_data A) : Type 0 where
   pub gets : Gets session old new
   pub told : b.told old.actor gets.got.by.arms gets.place gets.value ≡ new.actor
@@ -86,7 +86,7 @@ pub record AsksInVain {A : Type 0} (old new : Task_data A) : Type 0 where
   pub below : length old.transcript < old.limit
   pub same : new ≡ record { stage = old.stage; actor = old.actor; limit = old.limit; kept = None; transcript = old.transcript; failed = true }
 
--- a value was got, and the actor couldn't be told of it
+-- a value was received, and the actor couldn't take it
 pub record TellsInVain {A : Type 0} (session : Rings_data) (old new : Task_data A) : Type 0 where
   pub gets : Gets session old new
   pub below : length old.transcript < old.limit
@@ -94,7 +94,7 @@ pub record TellsInVain {A : Type 0} (session : Rings_data) (old new : Task_data 
   pub limit : new.limit ≡ old.limit
   pub failed : new.failed ≡ true
 
--- want of memory: it was there before; or the actor was asked, or should be told, in vain
+-- memory ran out: before the turn; or when the actor was asked, or when it should take a value
 pub data TaskIsRefused {A : Type 0} (session : Rings_data) (old new : Task_data A) : Type 0 where
   Before : old.failed ≡ true → new ≡ old → TaskIsRefused session old new
   Asked : old.failed ≡ false → AsksInVain old new → TaskIsRefused session old new
@@ -112,7 +112,7 @@ pub record TaskStays {A : Type 0} (old new : Task_data A) : Type 0 where
   pub same : new ≡ old
   pub was : old.failed ≡ false
 
--- what a turn tells
+-- what a turn returns
 abbrev pub TaskTurnTells : {A : Type 0} → Rings_data → Behaviour A → Task_data A → Task_data A → Turn → Type 0
 TaskTurnTells session b old new turn.Moved = TaskGoesOn old new × (TaskSends session b old new ⊎ TaskReceives session b old new)
 TaskTurnTells session b old new (turn.Waits (why.Full peer sent taken)) = TaskGoesOn old new × WaitsToSend session b peer sent taken old new

@@ -9,7 +9,7 @@ use Rattle.rs_session.specs.declared.stages.Stage.TheVariants.{Ended}
 use Rattle.rs_exec.specs.Data.{Task_data}
 use Rattle.rs_exec.specs.declared.tasks.TurnTaker.{TurnTaker}
 
--- the stage, which is there but in the middle of a turn
+-- the stage; it is missing only in the middle of a turn
 abbrev pub stage_in : Option Stage → Stage
 stage_in (Some stage) = stage
 stage_in None = Ended (record { table = record { words = 0; slots = 0; views_name = 0; atom = 0; block = 0; offset = 0; slot_names = [] }; role = role_of_number 0; part = blank_part 0 })

@@ -20,7 +20,7 @@ use std::alloc::Global;
 ///
 /// There is one actor for each role. The outcome, the transcripts and the actors are those of the plain run with this
 /// capacity, and what the roles did in the session is what the actors played. The errors are that no role moved in a round, as
-/// [`RunFault::Full`] tells it, and that memory was refused. At a capacity of at least the room of the session memory is the
+/// [`RunFault::Full`] says so, and that memory ran out. At a capacity of at least the room of the session memory is the
 /// one error.
 pub fn run_inline<A: Actor>(
     alloc: Global,

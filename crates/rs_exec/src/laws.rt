@@ -18,8 +18,8 @@ ghost use Rattle.rs_model.specs.declared.machines.State.TheVariants.{Puts, Takes
 
 use rs_core::Actor;
 
-/// Who plays the history of a task's role, and has become the task's actor, does so after a turn too, unless memory was
-/// refused.
+/// An actor that plays the history of a task's role, and has become the task's actor, does so after a turn too, unless
+/// memory ran out.
 pub fn turns_play_on<A: Actor>()
     ensures turns { (session : Rings_data) (x : A) (old new : Task_data A) (t : Turn) → t ≢ turn.NoMemory → TaskTurnTells session A.behaviour old new t → PlaysTask session A.behaviour x old
         → PlaysTask session A.behaviour x new }
@@ -38,7 +38,7 @@ pub fn new_tasks_began_so<A: Actor>()
         → IsTaskFrom A.behaviour (begun_by session task) task }
 {}
 
-/// Only a task that goes on is pending: one that has ended, has come to its limit or was refused memory is ready when it is
+/// Only a task that continues is pending: one that has ended, has reached its limit or got no memory is ready when it is
 /// polled.
 pub fn only_who_goes_on_is_pending<A: Actor>()
     ensures ended { (session : Rings_data) (old new : Task_data A) → IsPolled session A.behaviour old new Pending → HasEnded old.stage → ⊥ }
@@ -46,7 +46,7 @@ pub fn only_who_goes_on_is_pending<A: Actor>()
     ensures unrefused { (session : Rings_data) (old new : Task_data A) → IsPolled session A.behaviour old new Pending → old.failed ≡ false }
 {}
 
-/// Who waits tells for whom: the peer is the one to whom its state sends, or from whom it receives.
+/// A task that waits says for whom: the peer is the one to whom its state sends, or from whom it receives.
 pub fn who_waits_tells_for_whom<A: Actor>()
     ensures full { (session : Rings_data) (old new : Task_data A) (peer : Role) (sent taken : ℕ) → TaskTurnTells session A.behaviour old new (turn.Waits (why.Full peer sent taken))
         → (arms : List Arm) × (state_of_stage session (sight_of_stage old.stage) ≡ Some (Puts peer arms)) }

@@ -14,7 +14,7 @@ use rs_session::Session;
 use std::alloc::Global;
 use std::marker::{Brand, Model, PhantomData};
 
-/// What a task began with, as types name it. It is there for proofs alone.
+/// What a task began with, as types name it. Only proofs need it.
 pub trait TaskName<A> {
     ghost use Rattle.rs_exec.specs.Polling.{Begun};
 

@@ -4,7 +4,7 @@ use Rattle.rs_graph.specs.Graphs.{Graph_data}
 use Rattle.rs_graph.specs.Removal.{IsInto}
 use Rattle.rs_graph.specs.Graphs.{moves_of}
 
--- the first so many nodes have their moves, the others none
+-- the first n nodes have their moves, the others none
 pub record IsBuilt (anys : List Bool) (rows : List (List ℕ)) (count : ℕ) (g : Graph_data) : Type 0 where
   pub size : length g.outs ≡ length rows
   pub done : (i : ℕ) → i < count → slice_index_or g.outs i [] ≡ moves_of (slice_index_or anys i false) (slice_index_or rows i [])

@@ -4,18 +4,18 @@ use Rattle.rs_graph.specs.Lists.{Among, ArePlacesOf}
 use Rattle.rs_graph.specs.Order.{Once, Numbered, Worked}
 use Rattle.rs_graph.specs.Discovery.{Reached}
 
--- more than so many are reached
+-- more than n are reached
 pub record MoreThan {X : Type 0} (limit : ℕ) (next : X → List X) (start : X) : Type 0 where
   pub some : List X
   pub once : Once some
   pub reached : (i : ℕ) (x : X) → slice_get some i ≡ Some x → Reached next start x
   pub many : limit < length some
 
--- a list after one item was named: it was there, or stands at the end
+-- the list after one item was named: it had the item, or the item is now at its end
 abbrev pub Adds : {X : Type 0} → List X → X → List X → Type 0
 Adds {X} old y new = (new ≡ old) ⊎ ((Among old y → ⊥) × (new ≡ old ++ (y ∷ [])))
 
--- one item was named by this number: it was there, or stands at the end
+-- one item was named by this number: the list had it there, or it is now at the list's end
 pub record IsNamed {X : Type 0} (old : List X) (y : X) (new : List X) (n : ℕ) : Type 0 where
   pub adds : Adds old y new
   pub longer : length old ≤ length new

@@ -18,7 +18,7 @@ pub record Layer : Type 0 where
   pub edges : List ℕ
   pub round : Bool
 
--- the last part stands first here
+-- the last part is first in this list
 abbrev pub path_of : List Layer → List ℕ
 path_of [] = []
 path_of (l ∷ ls) = path_of ls ++ l.nodes
@@ -43,7 +43,7 @@ pub record LayerFits (rows : List (List ℕ)) (marks : List NodeMark) (lower nod
   pub sources : (y : ℕ) → Among edges y → (x : ℕ) × Among nodes x × Edge rows x y
   pub told : (x y : ℕ) → Among nodes x → Edge rows x y → CycleIsKnown marks y ⊎ (Among edges y ⊎ (Among nodes y × (round ≡ true)))
 
--- each part fits behind those before it
+-- each part fits after those before it
 abbrev pub AllFit : List (List ℕ) → List NodeMark → List Layer → Type 0
 AllFit rows marks [] = Unit {0}
 AllFit rows marks (l ∷ ls) = LayerFits rows marks (path_of ls) l.nodes l.edges l.round × AllFit rows marks ls
@@ -71,7 +71,7 @@ pub record Resting (rows : List (List ℕ)) (marks : List NodeMark) (path edges 
   pub searching : Searching rows marks path edges parts
   pub none : path ≡ []
 
--- the last part is taken off the path: it stands from that place of the path and of the edges on
+-- the last part is taken off the path: it begins at that place of the path and of the edges
 pub record Splits (rows : List (List ℕ)) (marks : List NodeMark) (path edges : List ℕ) (parts : List PathPart) (start from : ℕ) : Type 0 where
   pub nodes : List ℕ
   pub last : List ℕ
@@ -83,7 +83,7 @@ pub record Splits (rows : List (List ℕ)) (marks : List NodeMark) (path edges :
   pub from_is : from ≡ length (edges_of layers)
   pub fit : AllFit rows marks layers
 
--- the part was taken off the path, and fits behind what is left of it
+-- the part was taken off the path, and fits after the rest of the path
 pub record TakenOff (rows : List (List ℕ)) (marks : List NodeMark) (path edges : List ℕ) (parts : List PathPart) (part : PathPart) : Type 0 where
   pub splits : Splits rows marks path edges parts part.start part.edges
   pub here : LayerFits rows marks (path_of splits.layers) splits.nodes splits.last part.round
@@ -106,7 +106,7 @@ pub record Leaving (old : List NodeMark) (from : List ℕ) (marks : List NodeMar
   pub on : (x : ℕ) → Among left x → slice_get marks x ≡ Some (Known round)
   pub off : (x : ℕ) → (Among left x → ⊥) → slice_get marks x ≡ slice_get old x
 
--- so many nodes weren't come to yet
+-- n nodes weren't visited yet
 abbrev pub ahead : List NodeMark → ℕ
 ahead [] = 0
 ahead (Ahead ∷ marks) = suc (ahead marks)

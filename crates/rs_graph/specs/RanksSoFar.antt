@@ -7,7 +7,7 @@ pub record RankFits (row : List ℕ) (ranks : List ℕ) (rank : ℕ) : Type 0 wh
   pub falls : (j : ℕ) → Among row j → slice_index_or ranks j 0 < rank
   pub tight : (rank ≡ 0) ⊎ ((j : ℕ) × Among row j × (rank ≡ suc (slice_index_or ranks j 0)))
 
--- the first so many numbers of the order have their ranks
+-- the first n numbers of the order have their ranks
 pub record Ranked (rows : List (List ℕ)) (order ranks : List ℕ) (count : ℕ) : Type 0 where
   pub size : length ranks ≡ length rows
   pub fits : (i n : ℕ) → i < count → slice_get order i ≡ Some n → RankFits (slice_index_or rows n []) ranks (slice_index_or ranks n 0)

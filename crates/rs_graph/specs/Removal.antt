@@ -24,11 +24,11 @@ pub record IsInto (outs : List (List (List ℕ))) (intos : List (List Move)) : T
   pub from : (m : Move) (r : ℕ) → Among (slice_index_or intos r []) m → Leads outs m.node m.place r
   pub count : sum_by (λ (row : List Move). length row) intos ≡ edges_in outs
 
--- where the node stands: at the place of its first move that isn't lost, or behind its last
+-- the place of the node's first move that isn't lost, or the place after its last move
 abbrev pub at : List ℕ → ℕ → ℕ
 at current n = slice_index_or current n 0
 
--- a result of the move stands in the list before that place
+-- a result of the move is in the list before that place
 pub record Behind (outs : List (List (List ℕ))) (order : List ℕ) (n place before : ℕ) : Type 0 where
   pub result : ℕ
   pub leads : Leads outs n place result
@@ -53,6 +53,6 @@ pub record AreLeft (outs : List (List (List ℕ))) (current : List ℕ) : Type 0
   pub start : at current 0 < moves_at outs 0
   pub closed : (n r : ℕ) → at current n < moves_at outs n → Leads outs n (at current n) r → at current r < moves_at outs r
 
--- what telling the news of a node costs
+-- the number of steps that a removed node costs: one for itself, and one for each edge that ends at it
 abbrev pub cost_of : List (List Move) → ℕ → ℕ
 cost_of intos n = suc (length (slice_index_or intos n []))

@@ -10,7 +10,7 @@ use Rattle.rs_graph.specs.Removal.{moves_at, Leads, at, Behind}
 abbrev pub is_lost : List (List Bool) → ℕ → ℕ → Bool
 is_lost lost n place = slice_index_or (slice_index_or lost n []) place false
 
--- what holds in between; a removed node stands in the order, and its news is still to be told to the moves that are left
+-- what holds in between: a removed node is in the order, and the moves that are left and lead to it are still to be marked as lost
 pub record Going (outs : List (List (List ℕ))) (lost : List (List Bool)) (current order : List ℕ) (Left : ℕ → Move → Type 0) : Type 0 where
   pub rows : length lost ≡ length outs
   pub nodes : length current ≡ length outs
@@ -30,7 +30,7 @@ pub record Going (outs : List (List (List ℕ))) (lost : List (List Bool)) (curr
 abbrev pub From : ℕ → ℕ → Move → Type 0
 From k j m = k ≤ j
 
--- the news of the node at that place to these moves, and of those behind it
+-- the node at that place is still to be passed on to these moves, and so are all nodes after it to theirs
 abbrev pub Rest : ℕ → List Move → ℕ → Move → Type 0
 Rest k rest j m = (k < j) ⊎ ((j ≡ k) × Among rest m)
 

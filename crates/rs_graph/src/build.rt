@@ -57,7 +57,7 @@ fn fill(graph: &mut Graph, node: u32, any: bool, row: &[u32]) -> Result<(), NoMe
     }
 }
 
-// A graph of so many nodes without moves.
+// A graph of n nodes without moves.
 fn bare(alloc: Global, count: usize) -> Result<Graph, NoMemory>
     requires { count + 1 < 2 ^ 32 }
     ensures outs { IfOk result (λ g. g.outs ≡ replicate count []) }
@@ -70,7 +70,8 @@ fn bare(alloc: Global, count: usize) -> Result<Graph, NoMemory>
     Ok(graph)
 }
 
-/// The graph in which each node has a move for each number of its row where it may choose, and else one move to all.
+/// Makes the graph of these rows: a node that may choose has one move for each number of its row, any other node has one
+/// move to all of them.
 pub fn graph_of(alloc: Global, anys: &[bool], rows: &[NodeRow]) -> Result<Graph, NoMemory>
     requires nodes { length rows.now + 1 < 2 ^ 32 }
     requires anys { length anys.now ≡ length rows.now }

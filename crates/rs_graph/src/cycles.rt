@@ -17,7 +17,7 @@ use std::alloc::Global;
 pub enum NodeMark {
     /// The search hasn't come to it.
     Ahead,
-    /// It stands on the path, at this place.
+    /// It is on the path, at this place.
     On { place: u32 },
     /// Whether it is on a cycle.
     Known { round: bool },
@@ -84,7 +84,7 @@ fn leave(marks: &mut Vec<NodeMark>, path: &mut Vec<u32>, start: usize, round: bo
     }
 }
 
-// The last parts become one that goes round: those behind the place and the one that has it.
+// The last parts become one that goes round: those after the place and the one that has it.
 fn join(parts: &mut Vec<PathPart>, last: PathPart, place: u32) -> Result<(), NoMemory>
     ensures joined { OnOk result ((rows : List (List ℕ)) (marks : List NodeMark) (path edges : List ℕ) (y : ℕ) → AreRight rows marks path → slice_get marks y ≡ Some (On place)
         → Joining rows marks path edges parts.old.items last.start last.edges y → Searching rows marks path edges parts.new.items) }
@@ -204,7 +204,8 @@ fn begin(alloc: Global, count: usize) -> Result<Search, NoMemory>
     })
 }
 
-/// The least number on a cycle, none of which stands in the order.
+/// Returns the least number that lies on a cycle of the rows, or none if there is no cycle. The numbers in `order` lie on
+/// none; if it has all of them, nothing is searched. Fails if memory runs out.
 pub fn least_on_cycle(
     alloc: Global,
     rows: &[NodeRow],

@@ -11,10 +11,12 @@ use std::default::MadeWith;
 use std::marker::Model;
 use std::sync::ledger::Ledger;
 
-/// A move, by its node and its place among the node's moves.
+/// The name of a move: the node that has it, and its place among that node's moves.
 #[derive(Clone, Copy, Debug, Default, PartialEq, Eq)]
 pub struct Move {
+    /// The number of the node.
     pub node: u32,
+    /// The place among the node's moves, from 0.
     pub place: u32,
 }
 
@@ -39,7 +41,7 @@ impl Model for NodeRow {
 }
 
 impl NodeRow {
-    /// No numbers.
+    /// Makes an empty row.
     #[inline(always)]
     pub fn new(alloc: Global) -> NodeRow
         ensures { result ≡ [] }
@@ -49,7 +51,7 @@ impl NodeRow {
         }
     }
 
-    /// One number, which needs no allocation.
+    /// Makes a row of one number, which needs no allocation.
     #[inline(always)]
     pub fn of_one(alloc: Global, n: u32) -> NodeRow
         ensures { result ≡ n ∷ [] }
@@ -59,7 +61,7 @@ impl NodeRow {
         NodeRow { numbers }
     }
 
-    /// The numbers.
+    /// Returns the numbers in the order in which they were added.
     #[inline(always)]
     pub fn as_slice(&self) -> &[u32]
         ensures { result.now ≡ self.now }
@@ -67,7 +69,7 @@ impl NodeRow {
         self.numbers.as_slice()
     }
 
-    /// The same numbers in memory of their own.
+    /// Makes another row with the same numbers. Fails if memory runs out.
     pub fn copy(&self, alloc: Global) -> Result<NodeRow, NoMemory>
         ensures { IfOk result (λ r. r ≡ self.now) }
     {
@@ -76,7 +78,7 @@ impl NodeRow {
         })
     }
 
-    /// One number more; where memory is refused nothing changes.
+    /// Adds a number at the end. If memory runs out, it fails, and the row is as before.
     #[inline(always)]
     pub fn push(&mut self, n: u32) -> Result<(), NoMemory>
         ensures ok { OnOk result (self.new ≡ self.old ++ n ∷ []) }
@@ -106,6 +108,7 @@ impl Model for MoveResults {
 }
 
 impl MoveResults {
+    /// Makes the moves of a node that has none yet. Allocates nothing.
     pub fn new(alloc: Global) -> MoveResults
         ensures { result ≡ [] }
     {
@@ -114,18 +117,21 @@ impl MoveResults {
         }
     }
 
+    /// Returns the moves in the order in which they were added: of each one the row of its results.
     pub fn as_slice(&self) -> &[NodeRow]
         ensures { result.now ≡ self.now }
     {
         self.rows.as_slice()
     }
 
+    /// Returns the number of moves.
     pub fn count(&self) -> u32
         ensures { result ≡ length self.now }
     {
         self.rows.len() as u32
     }
 
+    /// Adds a move with these results, after the others. If memory runs out, it fails, and the moves are as before.
     pub fn push(&mut self, row: NodeRow) -> Result<(), NoMemory>
         requires { length self.old + 1 < 2 ^ 32 }
         ensures ok { OnOk result (self.new ≡ self.old ++ row ∷ []) }
@@ -135,6 +141,8 @@ impl MoveResults {
         Ok(())
     }
 
+    /// Adds the node `n` to the results of the move at `place`, after the results that it has. If memory runs out, it
+    /// fails, and the moves are as before.
     pub fn push_at(&mut self, place: u32, n: u32) -> Result<(), NoMemory>
         requires { place < length self.old }
         ensures ok { OnOk result (self.new ≡ slice_set self.old place (slice_index_or self.old place [] ++ n ∷ [])) }
@@ -160,6 +168,7 @@ impl Model for IncomingMoves {
 }
 
 impl IncomingMoves {
+    /// Makes the list of a node to which no move leads yet. Allocates nothing.
     pub fn new(alloc: Global) -> IncomingMoves
         ensures { result ≡ [] }
     {
@@ -168,12 +177,15 @@ impl IncomingMoves {
         }
     }
 
+    /// Returns the moves in the order in which they were added. A move that leads to the node twice is in the list
+    /// twice.
     pub fn as_slice(&self) -> &[Move]
         ensures { result.now ≡ self.now }
     {
         self.moves.as_slice()
     }
 
+    /// Adds a move at the end. If memory runs out, it fails, and the list is as before.
     pub fn push(&mut self, m: Move) -> Result<(), NoMemory>
         ensures ok { OnOk result (self.new ≡ self.old ++ m ∷ []) }
         ensures err { OnErr result (self.new ≡ self.old) }
@@ -182,6 +194,7 @@ impl IncomingMoves {
         Ok(())
     }
 
+    /// Takes the last move away.
     pub fn pop(&mut self)
         ensures { (m : Move) (ms : List Move) → self.old ≡ ms ++ m ∷ [] → self.new ≡ ms }
     {
@@ -189,7 +202,8 @@ impl IncomingMoves {
     }
 }
 
-/// Nodes, the moves of each, and the results of each move, which only counted calls read.
+/// A graph whose nodes have moves, and whose moves have results: each move of a node leads to any number of nodes. It also
+/// keeps, for each node, the moves that lead to it. Results are read by calls that count a step.
 #[derive(Drop)]
 pub struct Graph {
     outs: Vec<MoveResults>,
@@ -209,7 +223,7 @@ impl Model for Graph {
 }
 
 impl Graph {
-    /// No nodes.
+    /// Makes a graph without nodes. Allocates nothing.
     pub fn new(alloc: Global) -> Graph
         ensures outs { result.outs ≡ [] }
         ensures intos { result.intos ≡ [] }
@@ -220,7 +234,7 @@ impl Graph {
         }
     }
 
-    /// How many nodes there are.
+    /// Returns the number of nodes.
     pub fn nodes(&self) -> usize
         ensures nodes { result ≡ length self.now.outs }
         ensures same { length self.now.outs ≡ length self.now.intos }
@@ -228,7 +242,8 @@ impl Graph {
         self.outs.len()
     }
 
-    /// One more node, which has no moves; its number.
+    /// Adds a node without moves, and returns its number: nodes are numbered from 0 in order of addition. If memory runs
+    /// out, it fails, and the graph is as before.
     pub fn add_node(&mut self) -> Result<u32, NoMemory>
         requires { length self.old.outs + 1 < 2 ^ 32 }
         ensures number { IfOk result (λ n. n ≡ length self.old.outs) }
@@ -246,7 +261,8 @@ impl Graph {
         Ok(number)
     }
 
-    /// One more move of the node, which has no results; its place.
+    /// Adds a move without results to the node, and returns its place among the node's moves. If memory runs out, it
+    /// fails, and the graph is as before.
     pub fn add_move(&mut self, node: u32) -> Result<u32, NoMemory>
         requires present { node < length self.old.outs }
         requires bounded { length (slice_index_or self.old.outs node []) + 1 < 2 ^ 32 }
@@ -261,7 +277,8 @@ impl Graph {
         Ok(place)
     }
 
-    /// One more result of the move.
+    /// Adds the node `target` to the results of the move at `place` of `node`. If memory runs out, it fails, and the graph
+    /// is as before.
     pub fn add_edge(&mut self, node: u32, place: u32, target: u32) -> Result<(), NoMemory>
         requires present { node < length self.old.outs }
         requires place { place < length (slice_index_or self.old.outs node []) }
@@ -278,7 +295,7 @@ impl Graph {
         Ok(())
     }
 
-    /// How many moves the node has.
+    /// Returns the number of the node's moves.
     pub fn moves(&self, node: u32) -> u32
         requires { node < length self.now.outs }
         ensures { result ≡ length (slice_index_or self.now.outs node []) }
@@ -286,7 +303,7 @@ impl Graph {
         self.outs[node as usize].count()
     }
 
-    /// The nth result of the move, or none where it has fewer. One step.
+    /// Returns the nth result of the move, from 0, or none if it has fewer. Counts one step.
     pub fn out<L: Ledger>(
         &self,
         node: u32,
@@ -309,8 +326,8 @@ impl Graph {
         }
     }
 
-    /// The nth edge that ends at the node, by the node and the place of its move, in order of addition; none where
-    /// there are fewer. One step.
+    /// Returns the nth edge that ends at the node, from 0 and in order of addition, as the node and the place of its move;
+    /// none if there are fewer. Counts one step.
     pub fn into<L: Ledger>(
         &self,
         node: u32,

@@ -1,5 +1,5 @@
-//! Graphs whose nodes have moves, and of each move the results: what is left of them where nodes without a move are
-//! removed, numbers by first discovery, and along rows of numbers ranks and cycles.
+//! Algorithms on graphs whose nodes are numbers: the removal of nodes that have no move left (`remove`), numbers by first
+//! discovery (`number_all`), and, in rows of numbers, ranks (`rank_rows`) and cycles (`least_on_cycle`).
 #![tactic(auto)]
 
 mod build;

@@ -78,10 +78,13 @@ fn name_all(
     Ok(numbers)
 }
 
-/// The nodes that are reached from node 0 by the moves at which they stay, and of each the numbers of what it leads to.
+/// The nodes that node 0 reaches if each node takes one fixed move, numbered anew in order of first discovery
+/// (`IsDiscovery`).
 #[derive(Drop, Debug)]
 pub struct NumberedNodes {
+    /// At each new number: the number of that node in the graph.
     pub items: Vec<u32>,
+    /// At each new number: the new numbers of the results of that node's move, in order.
     pub nexts: Vec<NodeRow>,
 }
 

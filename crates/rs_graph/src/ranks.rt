@@ -28,7 +28,7 @@ fn top(row: &[u32], ranks: &[u32], below: usize) -> u32
     rank
 }
 
-/// The ranks along an order in which each number stands behind all that its row leads to.
+/// The ranks along an order in which each number comes after all that its row leads to.
 pub fn rank_all(alloc: Global, rows: &[NodeRow], order: &[u32]) -> Result<Vec<u32>, NoMemory>
     requires nodes { length rows.now < 2 ^ 32 }
     requires bounded { length order.now < 2 ^ 32 }

@@ -1,4 +1,4 @@
-//! The removal of nodes that have no move left.
+//! The removal of nodes until each node that is left has a move whose results are all left.
 ghost use Rattle.std.specs.Prelude.{◌≡◌, ◌≢◌, ◌<◌, ◌≤◌, ◌+◌, ◌^◌, [], ◌∷◌, ◌++◌, List, ℕ, OnOk, OnErr, OnSome, IfOk, length, slice_get, slice_index_or, Some};
 ghost use Rattle.rs_graph.specs.Removal.{IsInto, IsRemoval, Leads, cost_of, moves_at};
 ghost use Rattle.rs_graph.specs.Removing.{Going, IsNextMove, Rest, From, whole, lowered_flags, moveless};
@@ -13,7 +13,8 @@ use std::alloc::Global;
 use std::marker::{Brand, Model};
 use std::sync::ledger::{Blank, Ledger};
 
-/// For each move of a node whether it is lost. A few of them need no allocation.
+/// One flag for each move of a node, which says whether the move is lost: one of its results was removed. A few flags
+/// need no allocation.
 #[derive(Drop, Debug)]
 pub struct Flags {
     flags: SmallVec<bool, 8>,
@@ -30,6 +31,7 @@ impl Model for Flags {
 impl Flags {
     ghost use Rattle.std.specs.Prelude.{replicate, false, true, slice_set};
 
+    /// Makes `count` flags, none of them raised. Fails if memory runs out.
     pub fn new(alloc: Global, count: usize) -> Result<Flags, NoMemory>
         ensures { IfOk result (λ f. f ≡ replicate count false) }
     {
@@ -38,12 +40,14 @@ impl Flags {
         })
     }
 
+    /// Returns the flags: that of the move at each place.
     pub fn as_slice(&self) -> &[bool]
         ensures { result.now ≡ self.now }
     {
         self.flags.as_slice()
     }
 
+    /// Raises the flag at the place: that move is lost.
     pub fn raise(&mut self, place: u32)
         requires { place < length self.old }
         ensures { self.new ≡ slice_set self.old place true }
@@ -52,12 +56,13 @@ impl Flags {
     }
 }
 
-/// What is left of a graph.
+/// The result of removing nodes from a graph: which move each node that is left has, and which nodes were removed.
+/// `IsRemoval` defines it.
 #[derive(Drop, Debug)]
 pub struct Removal {
-    /// For each node the place of its first move whose results all stay, or the number of its moves.
+    /// For each node the place of its first move whose results are all left. For a removed node: the number of its moves.
     pub current: Vec<u32>,
-    /// The removed nodes, each behind a result of each of its moves.
+    /// The removed nodes, each after at least one result of each of its moves.
     pub order: Vec<u32>,
 }
 
@@ -158,7 +163,12 @@ fn without_moves(alloc: Global, graph: &Graph) -> Result<Vec<u32>, NoMemory>
     Ok(order)
 }
 
-/// Removes the nodes that have no move whose results all stay, until none is left.
+/// Removes nodes that have no move whose results are all left, until there is no such node, and returns what is left
+/// (`IsRemoval`). Counts one step for each edge that ends at a removed node, and one more for each removed node. Fails if
+/// memory runs out.
+///
+/// For example, let node 0 have a move to 1, node 1 a move to 2, and node 2 none. Then 2 is removed first, then 1, then 0.
+/// If node 0 has a second move, which leads to 0 itself, then 0 is left, and `current` has place 1 for it.
 pub fn remove<L: Ledger>(
     alloc: Global,
     graph: &Graph,
@@ -181,7 +191,7 @@ pub fn remove<L: Ledger>(
     Ok(Removal { current, order })
 }
 
-/// The same removal, by steps that nobody counts.
+/// Removes the same nodes as `remove`, without a count of steps for the caller. Fails if memory runs out.
 pub fn remove_uncounted(alloc: Global, graph: &Graph) -> Result<Removal, NoMemory>
     requires nodes { length graph.now.outs < 2 ^ 32 }
     requires bounded { (n : ℕ) → moves_at graph.now.outs n < 2 ^ 32 }

@@ -4,7 +4,7 @@ ghost use Rattle.std.specs.Prelude.{◌≡◌, ◌<◌, ◌+◌};
 use std::marker::Model;
 use std::sync::ledger::{Blank, Book, Ledger, Share};
 
-/// How many steps were taken.
+/// A counter of the steps that an algorithm takes, so that its contract can say their number.
 #[derive(Drop)]
 pub struct StepCount<L: Ledger> {
     book: Book<L>,
@@ -22,7 +22,7 @@ impl<L: Ledger> Model for StepCount<L> {
 }
 
 impl<L: Ledger> StepCount<L> {
-    /// No steps yet, in the ledger that the blank opens.
+    /// Makes a counter at 0, in the ledger that the blank opens.
     pub fn new(blank: Blank) -> StepCount<L>
         requires name { blank.name ≡ L.name }
         requires parts { blank.parts ≡ L.parts }

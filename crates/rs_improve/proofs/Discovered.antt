@@ -7,7 +7,7 @@ use Rattle.rs_graph.specs.Discovery.{IsDiscovery}
 use Rattle.rs_graph.specs.Lists.{ArePlacesOf}
 use Rattle.rs_graph.specs.Order.{Once, Numbered, NoMore, Known, New, Worked, AllDone, Next}
 
--- the first so many are the same
+-- the first n are the same
 abbrev Agree : {X : Type 0} → List X → List X → ℕ → Type 0
 Agree xs ys known = (i : ℕ) → i < known → slice_get xs i ≡ slice_get ys i
 

@@ -14,7 +14,7 @@ use Rattle.rs_graph.proofs.Growth.{at_in, at_short, reads_at, take_on}
 use Rattle.rs_improve.specs.Swaps.{Exchange_data, IsSwappable, LeadsToSends}
 use Rattle.rs_improve.specs.Swapping.{IsExchangeAt, IsLeastIn}
 
--- items of equal lists behind a function
+-- items of equal lists after a function
 pub map_same_at : {X : Type 0} (f : Arm → X) (xs ys : List Arm) (i : ℕ) (d e : Arm) → map f xs ≡ map f ys → i < length xs → f (get_or xs i d) ≡ f (get_or ys i e)
 map_same_at f [] ys i d e h lt = let bad : ⊥ = omega arith in absurd bad
 map_same_at f (x ∷ xs) [] i d e h lt = absurd cc

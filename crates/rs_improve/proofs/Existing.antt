@@ -96,7 +96,7 @@ all_lead machine to puts (a ∷ arms) =
     decided_by (λ h arm m. elim m [ inl e ↦ subst (λ (z : Arm). LeadsToSends machine to puts z) e h.0 | inr n ↦ h.1 arm n ])
     (λ h. (h a (inl refl), λ arm m. h arm (inr m))) (both (leads_by machine to puts a (slice_get machine.states a.next) refl) (all_lead machine to puts arms))
 
--- the exchange has what stands at the state and behind the first arm
+-- the exchange has what stands at the state and after the first arm
 takes_are : (machine : Machine_data) (n : ℕ) (q : Role) (arms : List Arm) → slice_get machine.states n ≡ Some (Takes q arms) → (s : IsSwappable machine n) → arms ≡ s.0.takes
 takes_are machine n q arms e s =
     let k : Takes q arms ≡ Takes s.0.from s.0.takes
@@ -141,7 +141,7 @@ swappable_at machine n (Some (Takes q [])) e =
     inr (λ s. none-some s.1.first (ap (λ (z : List Arm). slice_get z 0) (takes_are machine n q [] e s) ∙ s.1.begins))
 swappable_at machine n (Some (Takes q (a ∷ arms))) e = swappable_behind machine n q a arms e (slice_get machine.states a.next) refl
 
--- the least of the first so many states that can be swapped, or none of them can
+-- the least of the first n states that can be swapped, or none of them can
 least_below : (machine : Machine_data) (count : ℕ) → ((x : Exchange_data) × IsLeastExchange machine x) ⊎ ((n : ℕ) → n < count → IsSwappable machine n → ⊥)
 least_below machine zero = inr (λ n lt s. let bad : ⊥ = omega arith in bad)
 least_below machine (suc count) = elim (least_below machine count) [

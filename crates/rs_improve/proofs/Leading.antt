@@ -54,7 +54,7 @@ pub next_is : (machine : Machine_data) (n : ℕ) (arm : Arm) (arms : List Arm) (
     → Old (get_or arms n d).next ≡ next_behind machine n arm
 next_is machine n arm arms d e lt = sym (old_at arms n d lt) ∙ ap (λ (z : List Arm). get_or (map (λ (a : Arm). Old a.next) z) n (Old 0)) e
 
--- the sends behind an arm are as many as those that are put ahead
+-- the sends after an arm are as many as those that are put ahead
 pub behind_long : (machine : Machine_data) (x : Exchange_data) (n : ℕ) → IsExchange machine x → n < length x.puts → (arm : Arm) → Among x.takes arm → n < length (arms_of (state_before machine arm.next))
 behind_long machine x n ex lt arm m =
     let l = ex.each arm m in

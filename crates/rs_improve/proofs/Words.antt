@@ -180,7 +180,7 @@ at_kept machine x swapped s k n st e es t =
           (subst (λ (b : Bool). ArePlacesOf s.found r.row (old_nexts machine x n b)) t r.leads);
     }
 
--- behind a send that was put ahead, by an arm of the receive
+-- after a send that was put ahead, by an arm of the receive
 behind_is : (machine : Machine_data) (j : ℕ) (arm : Arm) (to : Role) (own : List Arm) (b : Arm) → slice_get machine.states arm.next ≡ Some (state.Puts to own) → slice_get own j ≡ Some b
     → next_behind machine j arm ≡ Old b.next
 behind_is machine j arm to own b e eb =
@@ -209,7 +209,7 @@ is_state n m e = elim (eqb_tells n m) [ inl p ↦ p.1 | inr p ↦ (let bad : tru
 
 -- ---- each word of the swapped machine
 
--- a word from behind the send with the place: nothing, or the receive that the send was put ahead of, and then a word from where that send led
+-- a word from after the send with the place: nothing, or the receive that the send was put ahead of, and then a word from where that send led
 data Behind (machine : Machine_data) (x : Exchange_data) (swapped : Machine_data) (j : ℕ) (word : List Act) (t : ℕ) : Type 0 where
   Nothing : word ≡ [] → (IsEnd swapped t → ⊥) → Behind machine x swapped j word t
   Then : (arm b : Arm) (own : List Arm) (acts : List Act) → Among x.takes arm → slice_get machine.states arm.next ≡ Some (state.Puts x.to own) → HaveSameMessages own x.puts
@@ -249,7 +249,7 @@ later_none machine x swapped s k n e lt = record { rest = []; late = []; to = n;
     ended true t end = let r = at_swapped machine x swapped s k n e t in absurd (not_puts_done x.to (arms_to x.puts r.row) (slice_get swapped.states k) r.state_is end)
     ended false t end = let st = at_within machine.states n lt in let r = at_kept machine x swapped s k n st.0 e st.1 t in done st.0 r.row st.1 r.state_is end
 
--- a send that was put ahead, and what is behind it
+-- a send that was put ahead, and what is after it
 later_ahead : (machine : Machine_data) (x : Exchange_data) (swapped : Machine_data) (ex : IsExchange machine x) → (n j t : ℕ) → n ≡ x.state → (p : Arm) → slice_get x.puts j ≡ Some p → (acts : List Act)
     → Behind machine x swapped j acts t
     → SaysLater machine n swapped (act.Puts x.to p.label p.sort ∷ acts) t
@@ -347,7 +347,7 @@ later_takes machine x swapped w s k n t e lt b peer arms arm acts st m on =
         later_on machine swapped n a.0.next (act.Takes peer arm.label arm.sort) acts t
         (λ late u v. receives_by machine n u peer own a.0 late arm.label arm.sort (subst (λ (z : Role). slice_get machine.states n ≡ Some (state.Takes z own)) (sym same.0) eo) a.1 a.2 a.3 v) a.4)
 
--- a receive behind a send that was put ahead
+-- a receive after a send that was put ahead
 behind_takes : (machine : Machine_data) (x : Exchange_data) (swapped : Machine_data) → IsProper machine → (ex : IsExchange machine x) (s : IsSwapped machine x swapped) (k j t : ℕ)
     → slice_get s.found k ≡ Some (New j)
     → (p : Arm) → slice_get x.puts j ≡ Some p

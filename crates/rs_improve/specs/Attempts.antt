@@ -19,7 +19,7 @@ pub record IsRefusedFor (next above : Machine_data) (bound : ℕ) (reason : Ceas
   pub refuses : SearchRefuses next above bound why
   pub gives : reason_of why ≡ Some reason
 
--- what comes of the search for a derivation of the next machine
+-- the result of the search for a derivation of the next machine
 abbrev pub IsSearched : Machine_data → Machine_data → ℕ → Attempt → Type 0
 IsSearched next above bound (Ceases reason) = IsRefusedFor next above bound reason
 IsSearched next above bound (Succeeds machine derivation) = (machine ≡ next) × IsCanonical next above bound derivation
@@ -32,12 +32,12 @@ pub record SwapsOnceMore (above : Machine_data) (bound asked m : ℕ) (machine n
   pub derives : IsCanonical next above bound derivation
   pub proper : IsProper next
 
--- what comes of one more swap
+-- the result of one more swap
 abbrev pub IsAttempt : Machine_data → ℕ → ℕ → ℕ → Machine_data → Attempt → Type 0
 IsAttempt above bound asked m machine (Ceases reason) = CeasesAt above bound asked m machine reason
 IsAttempt above bound asked m machine (Succeeds next derivation) = SwapsOnceMore above bound asked m machine next derivation
 
--- of `above` and itself there aren't too many candidates; so many swaps lead to the machine, which has that derivation, and there was no reason to cease before
+-- of `above` and itself there aren't too many candidates; n swaps lead to the machine, which has that derivation, and there was no reason to cease before
 pub record IsSwappedSoFar (above : Machine_data) (bound asked m : ℕ) (machine : Machine_data) (derivation : Derivation_data) : Type 0 where
   pub bounded : AreMoreThan above above bound MOST_CANDIDATES → ⊥
   pub swapped : SwapsToIn m above machine

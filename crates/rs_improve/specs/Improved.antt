@@ -13,14 +13,14 @@ use Rattle.rs_improve.specs.declared.improving.ImproveFault.{ImproveFault}
 use Rattle.rs_improve.specs.declared.improving.ImproveFault.TheVariants as improve_fault
 use Rattle.rs_improve.specs.declared.improving.Ceased.TheVariants.{Asked, NoSwap, TooManyStates, TooLarge, NotFound, Forgets}
 
--- the reason that a refusal of the search gives; want of memory is none
+-- the reason that a refusal of the search gives; that memory ran out is none
 abbrev pub reason_of : SearchFault → Option Ceased
 reason_of (fault.NotFound cut) = Some (NotFound cut)
 reason_of (fault.Forgets node) = Some (Forgets node)
 reason_of fault.TooLarge = Some TooLarge
 reason_of fault.NoMemory = None
 
--- why a machine that was swapped m times isn't swapped again, where so many swaps are asked
+-- why a machine that was swapped m times isn't swapped again, where n swaps are asked for
 pub data CeasesAt (above : Machine_data) (bound asked m : ℕ) (machine : Machine_data) : Ceased → Type 0 where
   -- as many swaps were made as were asked
   IsAsked : m ≡ asked → CeasesAt above bound asked m machine Asked
@@ -32,7 +32,7 @@ pub data CeasesAt (above : Machine_data) (bound asked m : ℕ) (machine : Machin
   IsRefused : (next : Machine_data) (why : SearchFault) (reason : Ceased) → m < asked → SwapsTo machine next → length next.states ≤ MOST_STATES
       → SearchRefuses next above bound why → reason_of why ≡ Some reason → CeasesAt above bound asked m machine reason
 
--- of `above` and itself there aren't too many candidates; the machine is `above` swapped as often as is told, with its canonical derivation from `above`; it ceases there for the reason that is told, and for none before
+-- of `above` and itself there aren't too many candidates; the machine is `above` swapped as often as is said, with its canonical derivation from `above`; it stops there for the reason that is given, and for none before
 pub record IsImproved (above : Machine_data) (bound asked : ℕ) (improved : Improved_data) : Type 0 where
   pub bounded : AreMoreThan above above bound MOST_CANDIDATES → ⊥
   pub swapped : SwapsToIn improved.swaps above improved.machine
@@ -40,7 +40,7 @@ pub record IsImproved (above : Machine_data) (bound asked : ℕ) (improved : Imp
   pub ceases : CeasesAt above bound asked improved.swaps improved.machine improved.ceased
   pub least : (m : ℕ) (machine : Machine_data) (reason : Ceased) → m < improved.swaps → SwapsToIn m above machine → CeasesAt above bound asked m machine reason → ⊥
 
--- what each fault says; want of memory says nothing
+-- what each fault says; that memory ran out says nothing
 abbrev pub RefusesToImprove : Machine_data → ℕ → ImproveFault → Type 0
 RefusesToImprove above bound improve_fault.TooLarge = AreMoreThan above above bound MOST_CANDIDATES
 RefusesToImprove above bound improve_fault.NoMemory = Unit {0}

@@ -17,7 +17,7 @@ abbrev pub IsLeastIn : Machine_data → Option Exchange_data → Type 0
 IsLeastIn machine None = HasNoExchange machine
 IsLeastIn machine (Some x) = IsLeastExchange machine x
 
--- what the tables have for a state: those that are old stand by their numbers, those that are new by theirs
+-- what the tables have for a state: the old ones by their numbers, the new ones by theirs
 abbrev pub number_slot : List (Option ℕ) → List (Option ℕ) → SwappedState → Option (Option ℕ)
 number_slot olds news (Old n) = slice_get olds n
 number_slot olds news (New n) = slice_get news n

@@ -1,4 +1,4 @@
--- Public: a swap: the sends that stand behind all arms of a receive go ahead of it.
+-- Public: a swap: the sends that follow all arms of a receive are made before it.
 use Rattle.std.specs.Prelude.{◌≡◌, ℕ, ◌==◌, suc, ◌+◌, ◌<◌, ◌≤◌, List, [], ◌∷◌, if◌then◌else◌, length, map, Some, slice_get, slice_index_or}
 use Rattle.rs_model.specs.Data.{Machine_data}
 use Rattle.rs_model.specs.declared.limits.TheConstants.{MOST_STATES}
@@ -19,7 +19,7 @@ pub record HaveSameMessages (ours theirs : List Arm) : Type 0 where
   pub labels : map (λ (a : Arm). a.label) ours ≡ map (λ (a : Arm). a.label) theirs
   pub sorts : map (λ (a : Arm). a.sort) ours ≡ map (λ (a : Arm). a.sort) theirs
 
--- the number of a state that receives, from whom and what, and to whom and what all states behind it send
+-- the number of a state that receives, from whom and what, and to whom and what all states after it send
 pub record Exchange_data : Type 0 where
   pub state : ℕ
   pub from : Role
@@ -64,7 +64,7 @@ arms_of (Takes peer arms) = arms
 abbrev pub state_before : Machine_data → ℕ → State
 state_before machine n = slice_index_or machine.states n Done
 
--- behind the nth send that was put ahead: where the nth send behind this arm led
+-- after the nth send that was put ahead: where the nth send after this arm led
 abbrev pub next_behind : Machine_data → ℕ → Arm → SwappedState
 next_behind machine n arm = slice_index_or (map (λ (a : Arm). Old a.next) (arms_of (state_before machine arm.next))) n (Old 0)
 
@@ -73,7 +73,7 @@ abbrev pub arm_numbers : ℕ → List Arm → List ℕ
 arm_numbers n [] = []
 arm_numbers n (arm ∷ arms) = n ∷ arm_numbers (n + 1) arms
 
--- a state of the swapped machine: the receive now sends, a receive of the same messages stands behind each send, and each other state is as it was; what its arms lead to is said apart
+-- a state of the swapped machine: the receive now sends, a receive of the same messages follows each send, and each other state is as it was; what its arms lead to is said apart
 abbrev pub swapped_state : Machine_data → Exchange_data → SwappedState → State
 swapped_state machine x (Old n) = if n == x.state then Puts x.to x.puts else state_before machine n
 swapped_state machine x (New n) = Takes x.from x.takes
@@ -112,7 +112,7 @@ pub record SwapsTo (machine swapped : Machine_data) : Type 0 where
   pub least : IsLeastExchange machine exchange
   pub is_swapped : IsSwapped machine exchange swapped
 
--- the machine with the least state swapped has more states than the limit: more than so many different ones are listed
+-- the machine with the least state swapped has more states than the limit: more than the limit of different ones are listed
 pub record SwapsToMoreThan (machine : Machine_data) (limit : ℕ) : Type 0 where
   pub exchange : Exchange_data
   pub least : IsLeastExchange machine exchange
@@ -121,7 +121,7 @@ pub record SwapsToMoreThan (machine : Machine_data) (limit : ℕ) : Type 0 where
   pub each : (s : SwappedState) → Among found s → Reached (swapped_nexts machine exchange) (Old machine.start) s
   pub many : limit < length found
 
--- swapped so many times
+-- swapped n times
 pub data SwapsToIn : ℕ → Machine_data → Machine_data → Type 0 where
   AsItIs : (machine : Machine_data) → SwapsToIn 0 machine machine
   OnceMore : (n : ℕ) (machine before after : Machine_data) → SwapsToIn n machine before → SwapsTo before after → SwapsToIn (suc n) machine after

@@ -18,7 +18,7 @@ pub data Walks (machine : Machine_data) : ℕ → List Act → ℕ → Type 0 wh
   Receives : (s t : ℕ) (peer : Role) (arms : List Arm) (arm : Arm) (acts : List Act) → slice_get machine.states s ≡ Some (state.Takes peer arms) → Among arms arm
       → Walks machine arm.next acts t → Walks machine s (act.Takes peer arm.label arm.sort ∷ acts) t
 
--- the first word is the second, but that some sends come just before the receives that they stood behind
+-- the first word is the second, but that some sends come just before the receives that they followed
 pub data SendsEarlier : List Act → List Act → Type 0 where
   Ends : SendsEarlier [] []
   Keeps : (a : Act) (early late : List Act) → SendsEarlier early late → SendsEarlier (a ∷ early) (a ∷ late)

@@ -68,7 +68,7 @@ impl From<NoMemory> for ImproveFault {
     }
 }
 
-// What comes of one more swap: the next machine with its derivation, or why there is none.
+// The result of one more swap: the next machine with its derivation, or why there is none.
 #[derive(Drop)]
 pub(crate) enum Attempt {
     Ceases {
@@ -169,7 +169,7 @@ fn improve_on(
     }
 }
 
-// Swaps the machine, to which so many swaps led, once more.
+// Swaps the machine, to which n swaps led, once more.
 fn attempt_swap(
     alloc: Global,
     above: &Machine,

@@ -17,7 +17,7 @@ ghost use Rattle.rs_improve.specs.Words.{SaysEarlier, SaysLater, SendsEarlier, W
 ghost use Rattle.rs_improve.specs.declared.improving.ImproveFault.TheVariants.{TooLarge};
 
 /// A machine swaps to one machine at most; where it does, some state can be swapped, and it swaps to more states than a
-/// limit exactly where the swapped machine has more.
+/// limit if and only if the swapped machine has more.
 pub fn swaps_are_one()
     ensures one { (machine a b : Machine_data) → SwapsTo machine a → SwapsTo machine b → a ≡ b }
     ensures some { (machine a : Machine_data) → SwapsTo machine a → HasNoExchange machine → ⊥ }
@@ -53,7 +53,7 @@ pub fn machines_without_a_swap_stay()
     ensures { (above : Machine_data) (bound asked : ℕ) (i : Improved_data) → IsImproved above bound asked i → i.swaps ≡ 0 → i.machine ≡ above }
 {}
 
-/// A swapped machine says the same words, but for the order of a receive and the send behind it: to each word of the one
+/// A swapped machine says the same words, but for the order of a receive and the send after it: to each word of the one
 /// there is a word of the other, in which the sends come later or earlier, and which is one act longer at most; where the
 /// one ends the other does, with no act more.
 pub fn swapped_machines_say_the_same()

@@ -19,11 +19,11 @@ use std::alloc::Global;
 pub(crate) enum SwappedState {
     /// The state with this number of the machine before.
     Old { state: u32 },
-    /// The receive behind the send with this place.
+    /// The receive after the send with this place.
     New { send: usize },
 }
 
-/// What comes of a swap.
+/// The result of a swap.
 #[derive(Drop)]
 pub(crate) enum SwapAnswer {
     /// No state can be swapped.

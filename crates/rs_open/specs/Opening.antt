@@ -56,6 +56,7 @@ IsOpenedText bound = IsOpenedBy (IsAcceptedDocument bound)
 abbrev pub IsRefusedText : ℕ → List ℕ → Answer_data → Type 0
 IsRefusedText bound = IsRefusedBy (HasNoDerivations bound)
 
+-- why the text isn't opened by a search: it is refused, as `IsRefusedText` says; or memory ran out
 abbrev pub RefusesToOpen : ℕ → List ℕ → OpenRefused → Type 0
 RefusesToOpen bound = RefusesBy (HasNoDerivations bound)
 
@@ -67,6 +68,7 @@ IsVerifiedText = IsOpenedBy IsVerifiedDocument
 abbrev pub IsUnverifiedText : List ℕ → Answer_data → Type 0
 IsUnverifiedText = IsRefusedBy IsUnverified
 
+-- why the text isn't opened by the derivations in it: it is refused, as `IsUnverifiedText` says; or memory ran out
 abbrev pub RefusesToVerify : List ℕ → OpenRefused → Type 0
 RefusesToVerify = RefusesBy IsUnverified
 
@@ -74,20 +76,21 @@ RefusesToVerify = RefusesBy IsUnverified
 abbrev pub HasAllDerivations : Document_data → Bool
 HasAllDerivations d = list_all is_some d.derivations
 
--- the document is accepted by its own derivations where each role has one, and by the search within the bound where not
+-- the document is accepted by the derivations in it if each role has one, and by the search within the bound if not
 pub data IsCertifiedDocument (bound : ℕ) (d : Document_data) (accepted : AcceptedDocument) : Type 0 where
   IsTested : HasAllDerivations d ≡ true → IsVerifiedDocument d accepted → IsCertifiedDocument bound d accepted
   IsSearched : HasAllDerivations d ≡ false → IsAcceptedDocument bound d accepted → IsCertifiedDocument bound d accepted
 
--- why it is refused: by its own derivations where each role has one, and by the search within the bound where not
+-- why it is refused: by the derivations in it if each role has one, and by the search within the bound if not
 pub data IsUncertified (bound : ℕ) (d : Document_data) (refusal : Refusal) : Type 0 where
   FailsTest : HasAllDerivations d ≡ true → IsUnverified d refusal → IsUncertified bound d refusal
   FailsSearch : HasAllDerivations d ≡ false → HasNoDerivations bound d refusal → IsUncertified bound d refusal
 
--- the text's session is accepted by the text's own derivations where it has one of each role, and by the search where not
+-- the text's session is accepted by the derivations in the text if it has one of each role, and by the search if not
 abbrev pub IsCertifiedText : ℕ → List ℕ → AcceptedDocument → Type 0
 IsCertifiedText bound = IsOpenedBy (IsCertifiedDocument bound)
 
+-- why the text isn't opened by the derivations in it if it has one of each role, nor by a search if not: it is refused, as `IsUncertified` says; or memory ran out
 abbrev pub RefusesToCertify : ℕ → List ℕ → OpenRefused → Type 0
 RefusesToCertify bound = RefusesBy (IsUncertified bound)
 
@@ -109,7 +112,7 @@ Opens (Err refused) (Err (why.Answered text verdict)) =
     (refused.refusal ≡ refusal.NoMemory → ⊥) × (record { text = text; verdict = verdict } ≡ refusal_answer refused.names refused.refusal)
 Opens (Err refused) (Err why.NoMemory) = Unit {0}
 
--- what is told of it: the answer, or that there was no memory
+-- what is said of it: the answer, or that there was no memory
 abbrev pub text_of_refusal : OpenRefused → List ℕ
 text_of_refusal (why.Answered text verdict) = text
 text_of_refusal why.NoMemory = codes "no memory\n"

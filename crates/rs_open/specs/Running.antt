@@ -1,4 +1,4 @@
--- Public: what the runs of opened sessions come to.
+-- Public: the results of the runs of opened sessions.
 use Rattle.std.specs.Prelude.{◌≡◌, ℕ, List, length, Some}
 use Rattle.rs_core.specs.Actors.{Behaviour}
 use Rattle.rs_core.specs.Plain.{Ending, IsPlain}
@@ -17,7 +17,7 @@ pub record IsRunAlone {A : Type 0} (b : Behaviour A) (machines : List Machine_da
   pub session : IsSessionOfRun machines b actors limit ran.closed ran.run.outcome ran.run.actors.items
   pub rings : ran.closed.capacity ≡ capacity
 
--- the plain run of these actors over queues of this capacity ends as the fault tells
+-- the plain run of these actors over queues of this capacity ends as the fault says
 abbrev pub IsStuckRun : {A : Type 0} → Behaviour A → List Machine_data → List A → ℕ → ℕ → RunFault → Type 0
 IsStuckRun {A} b machines actors limit capacity fault = (given : ℕ → A) → IsGiven given actors → FaultTells machines b given limit capacity fault
 

@@ -29,7 +29,7 @@ pub enum OpenRefused {
 }
 
 impl OpenRefused {
-    /// What `check` answers to the text, with the end of its last line; where memory was refused, a line that says so.
+    /// The answer of `check` to the text, with the end of its last line; if memory ran out, a line that says so.
     pub fn text(&self) -> &[u8]
         ensures { result.now ≡ text_of_refusal self.now }
     {
@@ -111,7 +111,7 @@ pub fn open_within(alloc: Global, text: &[u8], bound: Bound) -> Result<OpenSessi
     opened(alloc, accept_document(alloc, document, bound))
 }
 
-/// Opens the text as [`open_within`] does, within the bound that `check` has where none is told.
+/// Opens the text as [`open_within`] does, within the bound that `check` has if none is given.
 pub fn open(alloc: Global, text: &[u8]) -> Result<OpenSession, OpenRefused>
     ensures opened { IfOk result (IsOpenedText DEFAULT_BOUND text.now) }
     ensures refused { IfErr result (RefusesToOpen DEFAULT_BOUND text.now) }
@@ -131,8 +131,8 @@ pub fn open_verified(alloc: Global, text: &[u8]) -> Result<OpenSession, OpenRefu
     opened(alloc, accept_by_own(alloc, document))
 }
 
-/// Opens the text by its own derivations, as [`open_verified`] does, where it has one of each role; and else by a search, as
-/// [`open_within`] does. So a program that begins tests what was searched when it was built.
+/// Opens the text by the derivations in it, as [`open_verified`] does, if it has one of each role, and otherwise by a search,
+/// as [`open_within`] does. So a program tests, when it starts, what was searched when it was built.
 ///
 /// The error is what `verify`, or `check` within the bound, answers to the text, or that memory was refused.
 pub fn open_certified(alloc: Global, text: &[u8], bound: Bound) -> Result<OpenSession, OpenRefused>

@@ -1,4 +1,4 @@
-//! How a session that was opened is run, and what it comes to.
+//! How a session that was opened is run, and the result.
 
 ghost use Rattle.std.specs.Prelude.{◌≡◌, ◌<◌, ◌≤◌, ◌⊎◌, List, Err, IfErr, IfOk, Ok, length, min};
 ghost use Rattle.rs_runs.specs.Runs.{outcome_answer};
@@ -38,7 +38,7 @@ impl From<NoMemory> for CrewFault {
     }
 }
 
-/// An actor for each of so many roles.
+/// An actor for each role.
 fn actors_by<A: Drop, F: Fn(Role) -> Result<A, NoMemory>>(
     alloc: Global,
     roles: usize,

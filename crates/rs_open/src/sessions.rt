@@ -70,7 +70,7 @@ impl OpenSession {
         self.document.session.room()
     }
 
-    /// How many messages each ring holds in a run: as many as the room, or 1,024 where that is greater.
+    /// How many messages each ring holds in a run: the room, but at most 1,024.
     pub fn capacity(&self) -> Capacity
         ensures { result ≡ min (room_of self.now.session.derivations) MOST_CAPACITY }
     {

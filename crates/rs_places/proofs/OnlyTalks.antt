@@ -40,7 +40,7 @@ use Rattle.rs_places.proofs.Talks.{all_found, mapped_there, opening_found, whole
 use Rattle.rs_places.proofs.Trios.{has_arrow, seen_of}
 use Rattle.rs_places.proofs.Turns.{body_found, head_seen, heads}
 
--- ---- no arrow stands behind the protocol
+-- ---- no arrow stands after the protocol
 
 -- a part's tokens, none of which is an arrow
 record PlainPart (bytes : List ℕ) (at until : ℕ) : Type 0 where

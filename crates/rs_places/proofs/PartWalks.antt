@@ -36,12 +36,12 @@ use Rattle.rs_places.proofs.TalkPlaces.{first_of_parts, next_there, signs_at}
 use Rattle.rs_places.proofs.Turns.{heads}
 use Rattle.rs_places.proofs.Walks.{opens, walk}
 
--- what is seen from the first of these signs on, where it stands in this part behind this sign
+-- what is seen from the first of these signs on, where it stands in this part after this sign
 abbrev pub go : List (List ℕ) → ℕ → List Sign → Part → Sign → List (List Sign)
 go roles k [] p a = []
 go roles k (s ∷ ss) p a = walk roles k ss p a s
 
--- ---- the tokens behind a part
+-- ---- the tokens after a part
 
 not_none : (xs ys : List Lexeme) (l : Lexeme) → xs ++ l ∷ ys ≡ [] → ⊥
 not_none [] ys l h = cc h
@@ -66,7 +66,7 @@ tokens_there bytes xs ys l at h =
 
 -- ---- one part
 
--- what is seen of a part, and of what stands behind it
+-- what is seen of a part, and of what stands after it
 pub record PartGoes (bytes : List ℕ) (roles : List (List ℕ)) (k : ℕ) (m : Machine_data) (until : ℕ) (w : List (List Sign)) : Type 0 where
   pub seen : List (List Sign)
   pub others : List Lexeme

@@ -75,7 +75,7 @@ row_still : (t : RowTree) → IsStill (row_last t)
 row_still end_row = is_still end_word refl refl
 row_still (choice_row peer m first later) = is_still close_brace refl refl
 
--- a row's number, and the sign behind it
+-- a row's number, and the sign after it
 number_walk : (roles : List (List ℕ)) (k r n : ℕ) (a b c : Sign) (cs : List Sign) → IsStill b → ends_a_row b ≡ true → opens c ≡ false
     → walk roles k (number n ∷ c ∷ cs) (part.Table r) a b ≡ only_if (r == k) ((number n ∷ c ∷ []) ∷ []) ++ walk roles k cs (part.Table r) (number n) c
 number_walk roles k r n a b c cs s e o =
@@ -119,7 +119,7 @@ rows_walk roles k r (t ∷ ts) n a b rest s e =
     ∙ sym (append_assoc (only_if (r == k) (row_seen n t ∷ [])) (only_if (r == k) (rows_seen (suc n) ts)) last)
     ∙ ap (λ z. z ++ last) (sym (only_append (r == k) (row_seen n t ∷ []) (rows_seen (suc n) ts)))
 
--- ---- parts, behind the word that they begin with
+-- ---- parts, after the word that they begin with
 
 of_table : (roles : List (List ℕ)) (role : List ℕ) (r : ℕ) → place_of role roles ≡ Some r → table_of roles role ≡ part.Table r
 of_table roles role r e = rw e refl

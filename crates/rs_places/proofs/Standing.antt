@@ -21,12 +21,12 @@ use Rattle.rs_places.specs.Finding.{Finder_data, begin, AreOfRoles, IsOfRole, Ta
 use Rattle.rs_places.specs.Places.{ArePlaces, position_of, talk_places, state_places}
 use Rattle.rs_places.specs.Starts.{Trio, trio, trios_behind, is_arrow, is_number, talk_offsets, body_of, table_of, part_by_name, part_behind, placed, state_at, if_any, state_starts, offsets_of_role}
 
--- these tokens stand behind the token
+-- these tokens stand after the token
 pub record AreBehind (bytes : List ℕ) (l : Lexeme) (rest : List Lexeme) : Type 0 where
   pub none : is_last l.sign ≡ true → rest ≡ []
   pub some : is_last l.sign ≡ false → Lexed bytes l.until rest
 
--- what was found, with what begins at two tokens and behind, is all
+-- what was found, with what begins at two tokens and after, is all
 pub record Stands (bytes : List ℕ) (roles : List (List ℕ)) (f : Finder_data) (first second : Lexeme) : Type 0 where
   pub all : List Lexeme
   pub tokens : AreTokens bytes 0 all

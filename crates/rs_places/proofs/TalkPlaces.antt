@@ -69,7 +69,7 @@ next_there bytes at l x =
       until = x.until;
     })
 
--- ---- what stands behind the protocol
+-- ---- what stands after the protocol
 
 pub first_of_parts : {A : Type 0} (kind : PartKind A) (bytes : List ℕ) (at : ℕ) (names : Names_data) (parts : List (Option A)) (what : Result (PartsRead A) TextFault) (row : PartsRead A)
     → GoesOn kind bytes at names parts what → what ≡ good row → BeginsAt kind bytes at ⊎ (row.until ≡ at)

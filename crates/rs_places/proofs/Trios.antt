@@ -51,7 +51,7 @@ seen_there [] k x h = absurd (cc h)
 seen_there (t ∷ ts) zero x h = (t, refl, some_is (seen_of Talks t) x h)
 seen_there (t ∷ ts) (suc k) x h = seen_there ts k x h
 
--- three tokens stand one behind the other in a list of tokens
+-- three tokens stand one after the other in a list of tokens
 pub record StandAmong (ls : List Lexeme) (t : Trio) : Type 0 where
   pub before : List Lexeme
   pub others : List Lexeme

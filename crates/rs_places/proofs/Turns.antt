@@ -14,12 +14,12 @@ use Rattle.rs_bodies.specs.Dialects.{BehindRole, sends_to, with_mark, turn_signs
 use Rattle.rs_bodies.specs.Graph.{acts_in, heads_of, heads_in, Numbering}
 use Rattle.rs_bodies.specs.Trees.{Body, ends, again, binds, acts, offers, Branches, one, more, body_signs, branch_signs}
 
--- what is seen of a turn: the sign before it, its own, and in a protocol the one behind it
+-- what is seen of a turn: the sign before it, its own, and in a protocol the one after it
 abbrev pub seen : Dialect → (before turn behind : Sign) → List Sign
 seen Talks before turn behind = before ∷ turn ∷ behind ∷ []
 seen Acts before turn behind = before ∷ turn ∷ []
 
--- the turns among the signs behind a sign
+-- the turns among the signs after a sign
 abbrev pub found : Dialect → Sign → List Sign → List (List Sign)
 found d p [] = []
 found d p (x ∷ xs) = if turns d x then seen d p x (sign_after xs) ∷ found d x xs else found d x xs

@@ -12,17 +12,17 @@ use Rattle.rs_places.specs.Starts.{trio, is_mark, is_number, ends_a_row, body_of
 abbrev pub bare : Sign → Lexeme
 bare s = record { sign = s; from = 0; until = 0 }
 
--- the part behind three signs
+-- the part after three signs
 abbrev pub next_part : List (List ℕ) → Part → Sign → Sign → Sign → Part
 next_part roles p a b c = part_behind roles p (trio (bare a) (bare b) (bare c))
 
--- what is seen of a state of the role k that begins at three signs: its first sign and the one behind it
+-- what is seen of a state of the role k that begins at three signs: its first sign and the one after it
 abbrev pub seen_at : ℕ → Part → Sign → Sign → Sign → List (List Sign)
 seen_at k (part.Body r) a b c = if is_mark b then (if r == k then (a ∷ b ∷ []) ∷ [] else []) else []
 seen_at k (part.Table r) a b c = if ends_a_row a && is_number b then (if r == k then (b ∷ c ∷ []) ∷ [] else []) else []
 seen_at k part.Other a b c = []
 
--- and of all of its states behind two signs in this part
+-- and of all of its states after two signs in this part
 abbrev pub walk : List (List ℕ) → ℕ → List Sign → Part → Sign → Sign → List (List Sign)
 walk roles k [] p a b = []
 walk roles k (c ∷ cs) p a b = seen_at k p a b c ++ walk roles k cs (next_part roles p a b c) b c

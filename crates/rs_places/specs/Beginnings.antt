@@ -14,7 +14,7 @@ use Rattle.rs_places.specs.Starts.{Trio}
 abbrev pub IsNameOf : List (List ℕ) → Role → Sign → Type 0
 IsNameOf roles role sign = (name : List ℕ) × (sign ≡ plain name) × (slice_get roles role.0 ≡ Some name)
 
--- the three tokens stand in the text, one behind the other
+-- the three tokens stand in the text, one after the other
 pub record StandIn (bytes : List ℕ) (t : Trio) : Type 0 where
   pub before : List Lexeme
   pub others : List Lexeme
@@ -29,7 +29,7 @@ pub record TalkBegins (bytes : List ℕ) (roles : List (List ℕ)) (sender recei
   pub turn : tokens.second.sign ≡ arrow
   pub receiver_is : IsNameOf roles receiver tokens.third.sign
 
--- the two tokens stand in the text, one behind the other
+-- the two tokens stand in the text, one after the other
 pub record BothStandIn (bytes : List ℕ) (first second : Lexeme) : Type 0 where
   pub before : List Lexeme
   pub others : List Lexeme

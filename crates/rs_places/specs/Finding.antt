@@ -22,7 +22,7 @@ pub record Finder_data : Type 0 where
 abbrev pub begin : List ℕ → List (List ℕ) → Finder_data
 begin bytes roles = record { bytes = bytes; roles = roles; at = 0; position = position_of bytes 0; part = part.Other; places = record { talks = []; machines = replicate (length roles) [] } }
 
--- the place is that of its offset, and the other offset lies behind it
+-- the place is that of its offset, and the other offset lies after it
 pub record IsOnWay (f : Finder_data) (offset : ℕ) : Type 0 where
   pub counted : f.position ≡ position_of f.bytes f.at
   pub ahead : f.at ≤ offset
@@ -40,7 +40,7 @@ with_talk f offset = record f { places = record { talks = f.places.talks ++ posi
 abbrev pub with_state : Finder_data → StateStart → Finder_data
 with_state f s = record f { places = record { talks = f.places.talks; machines = slice_set f.places.machines s.role (slice_index_or f.places.machines s.role [] ++ position_of f.bytes s.from ∷ []) } }
 
--- the part is that of one of so many roles, or of none
+-- the part is that of one of n roles, or of none
 abbrev pub IsOfRole : ℕ → Part → Type 0
 IsOfRole count (part.Body role) = role < count
 IsOfRole count (part.Table role) = role < count

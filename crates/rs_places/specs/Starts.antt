@@ -25,7 +25,7 @@ abbrev pub is_number : Sign → Bool
 is_number (number value) = true
 is_number _ = false
 
--- three tokens that stand one behind the other
+-- three tokens that stand one after the other
 pub record Trio : Type 0 where
   pub first : Lexeme
   pub second : Lexeme
@@ -35,27 +35,27 @@ pub record Trio : Type 0 where
 abbrev pub trio : Lexeme → Lexeme → Lexeme → Trio
 trio a b c = record { first = a; second = b; third = c }
 
--- all threes of tokens behind two tokens
+-- all threes of tokens after two tokens
 abbrev pub trios_behind : List Lexeme → Lexeme → Lexeme → List Trio
 trios_behind [] a b = []
 trios_behind (c ∷ ls) a b = trio a b c ∷ trios_behind ls b c
 
--- all threes of tokens that stand one behind the other, in order of text
+-- all threes of tokens that stand one after the other, in order of text
 abbrev pub trios : List Lexeme → List Trio
 trios (a ∷ b ∷ ls) = trios_behind ls a b
 trios _ = []
 
--- ---- talks: each has one arrow, which stands behind its sender, and no arrow stands anywhere else
+-- ---- talks: each has one arrow, which stands after its sender, and no arrow stands anywhere else
 
 -- where the talks begin
 abbrev pub talk_offsets : List Trio → List ℕ
 talk_offsets ts = map (λ t. t.first.from) (filter (λ t. is_arrow t.second.sign) ts)
 
--- ---- parts: `machine ROLE :` heads the body of a machine, `table ROLE {` a table, and behind `bound NUM {` stand the
--- nodes of a derivation. Three such tokens stand nowhere else in a document. A label has ( behind it, the sender of a talk
--- an arrow, and its receiver, which may have : or { behind it, has the arrow before it; the role of an act has a mark
--- behind it; where a recursion name ends a body, the word behind it is the first one of a part; and a number that stands
--- behind a word has { behind it in a derivation's first line alone
+-- ---- parts: `machine ROLE :` heads the body of a machine, `table ROLE {` a table, and after `bound NUM {` stand the
+-- nodes of a derivation. Three such tokens stand nowhere else in a document. A label has ( after it, the sender of a talk
+-- an arrow, and its receiver, which may have : or { after it, has the arrow before it; the role of an act has a mark
+-- after it; where a recursion name ends a body, the word after it is the first one of a part; and a number that stands
+-- after a word has { after it in a derivation's first line alone
 
 -- the body of the machine of the role with this name
 abbrev pub body_of : List (List ℕ) → List ℕ → Part
@@ -73,7 +73,7 @@ table_of roles name = numbered (place_of name roles)
     numbered None = part.Other
     numbered (Some role) = part.Table role
 
--- the part behind three tokens that stand in the part p, where the second may be the name of a role
+-- the part after three tokens that stand in the part p, where the second may be the name of a role
 abbrev pub part_by_name : List (List ℕ) → Part → Trio → Option (List ℕ) → Part
 part_by_name roles p t None = p
 part_by_name roles p t (Some name) =
@@ -81,7 +81,7 @@ part_by_name roles p t (Some name) =
     else if is_keyword (codes "table") t.first.sign && is_open_brace t.third.sign then table_of roles name
     else p
 
--- the part behind three tokens that stand in the part p: the one that they head, or p
+-- the part after three tokens that stand in the part p: the one that they head, or p
 abbrev pub part_behind : List (List ℕ) → Part → Trio → Part
 part_behind roles p t =
     if is_keyword (codes "bound") t.first.sign && (is_number t.second.sign && is_open_brace t.third.sign) then part.Other
@@ -99,15 +99,15 @@ placed roles (t ∷ ts) p = record { part = p; tokens = t } ∷ placed roles ts 
 
 -- ---- states
 
--- a number behind it is that of a row
+-- a number after it is that of a row
 abbrev pub ends_a_row : Sign → Bool
 ends_a_row open_brace = true
 ends_a_row close_brace = true
 ends_a_row end_word = true
 ends_a_row _ = false
 
--- what begins at one of two tokens in a part: in a body each state has one mark, which stands behind the peer; in a table
--- the number of a row stands behind the first brace or behind a row, which ends with a brace or with the word end
+-- what begins at one of two tokens in a part: in a body each state has one mark, which stands after the peer; in a table
+-- the number of a row stands after the first brace or after a row, which ends with a brace or with the word end
 abbrev pub state_at : Part → Lexeme → Lexeme → Option StateStart
 state_at (part.Body role) first second = if is_mark second.sign then Some (record { role = role; from = first.from }) else None
 state_at (part.Table role) first second = if ends_a_row first.sign && is_number second.sign then Some (record { role = role; from = second.from }) else None

@@ -137,7 +137,7 @@ impl<'a> PlaceFinder<'a> {
         push_at(&mut self.places.machines, start.role, place)
     }
 
-    /// Takes three tokens that stand one behind the other, and notes what begins at the first two.
+    /// Takes three tokens that stand one after the other, and notes what begins at the first two.
     fn take(
         &mut self,
         first: &TextToken<'a>,

@@ -1,4 +1,4 @@
-//! What begins at tokens that stand one behind the other.
+//! What begins at tokens that stand one after the other.
 
 ghost use Rattle.std.specs.Prelude.{◌≡◌, codes, option_map, map};
 ghost use Rattle.rs_text.specs.Lexemes as text;
@@ -25,7 +25,7 @@ pub(crate) struct StateStart {
     pub from: usize,
 }
 
-/// Whether nothing stands behind the token.
+/// Whether nothing stands after the token.
 pub(crate) fn is_last(token: &TextToken<'_>) -> bool
     ensures { result ≡ text.is_last token.now.sign }
 {
@@ -50,7 +50,7 @@ fn is_number(token: &TextToken<'_>) -> bool
     matches!(token.terminal(), Terminal::Number(_))
 }
 
-/// Whether a number behind the token is that of a row.
+/// Whether a number after the token is that of a row.
 fn ends_a_row(token: &TextToken<'_>) -> bool
     ensures { result ≡ spec.ends_a_row token.now.sign }
 {
@@ -80,7 +80,7 @@ fn table_of(roles: &[Name], role: &[u8]) -> Part
     }
 }
 
-/// The part in which the tokens behind `third` stand, where the tokens before stand in `part`.
+/// The part in which the tokens after `third` stand, where the tokens before stand in `part`.
 pub(crate) fn part_behind(
     roles: &[Name],
     part: Part,

@@ -18,7 +18,7 @@ abbrev pub HasRead : {T : Type 0} → ℕ → Me (Option T) JobView → Me (Opti
 HasRead n m m' true = (n ≤ m'.0.seen) × (m.0.seen ≤ m'.0.seen) × (m' ≡ (seeing m'.0.seen m.0, m.1))
 HasRead n m m' false = (m'.0.seen < n) × (m.0.seen ≤ m'.0.seen) × (m' ≡ (seeing m'.0.seen m.0, m.1))
 
--- a seat between two claims: it holds nothing, and has so many shares
+-- a seat between two claims: it holds nothing, and has n shares
 abbrev pub SeatRests : {T : Type 0} → ℕ → Me (Option T) JobView → Type 0
 SeatRests shares m = (m.0.held ≡ None) × (m.1 ≡ []) × (m.0.shares ≡ shares)
 

@@ -1,4 +1,4 @@
--- Steps: what each kind of step on the table of jobs tells.
+-- Steps: what each kind of step on the table of jobs returns.
 use Rattle.std.specs.Prelude.{◌≡◌, ◌≢◌, ℕ, ◌≤◌, ◌∷◌, Option, Some}
 use Rattle.atomic_table.specs.Table.{Step, Me, rest}
 use Rattle.rs_pool.specs.declared.views.JobView.{JobView}

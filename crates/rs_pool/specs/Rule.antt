@@ -18,7 +18,7 @@ amount_in r (c ∷ cs) = (if r == c.role then c.amount else 0) + amount_in r cs
 abbrev pub count_of_view : JobView → ℕ
 count_of_view d = sum_by (λ c. c.amount) d.counted
 
--- the sum over the first so many roles
+-- the sum over the first n roles
 abbrev pub sum_over_roles : (ℕ → ℕ) → ℕ → ℕ
 sum_over_roles f zero = 0
 sum_over_roles f (suc n) = f n + sum_over_roles f n

@@ -14,7 +14,7 @@ ghost use Rattle.rs_safety.specs.Room.{room_of};
 
 use rs_core::Actor;
 
-/// Two runs by workers of the same actors come to the same, with whatever numbers of workers and in whatever order of turns:
+/// Two runs by workers of the same actors have the same result, with whatever numbers of workers and in whatever order of turns:
 /// if both have ended, then with the same transcripts and the same actors, and one doesn't end where the other is stopped.
 pub fn runs_by_workers_are_alike<A: Actor>()
     ensures ended { (machines : List Machine_data) (given : ℕ → A) (limit : ℕ) (one other : List (List Entry)) (left right : List A)
@@ -23,8 +23,8 @@ pub fn runs_by_workers_are_alike<A: Actor>()
         → AgreesWithPlain machines A.behaviour given limit (Ended one) left → AgreesWithPlain machines A.behaviour given limit (Stopped role) right → ⊥ }
 {}
 
-/// A run on one thread comes to what runs by workers come to. Whatever the capacity, what it tells agrees with the plain run over
-/// unbounded queues, so that both come to the same; and with a capacity of at least the room of the session it is never stuck.
+/// A run on one thread has the result of runs by workers. Whatever the capacity, its result agrees with the plain run over
+/// unbounded queues, so that both have the same result; and with a capacity of at least the room of the session it is never stuck.
 pub fn one_thread_is_as_good_as_workers<A: Actor>()
     ensures agrees { (machines : List Machine_data) (given : ℕ → A) (limit capacity : ℕ) (o : Ending A) (outcome : Outcome) (left : List A)
         → IsSafePlain machines A.behaviour given limit (Some capacity) o → EndingShows (length machines) o outcome left → AgreesWithPlain machines A.behaviour given limit outcome left }

@@ -284,16 +284,16 @@ fn play<R: Threads + Wait + Sync, A: Actor + Send, G: Gate + Sync>(
     }
 }
 
-/// Runs the machines of an accepted session by so many workers over rings of that capacity, until all roles have ended, or one
+/// Runs the machines of an accepted session by a number of workers over rings of that capacity, until all roles have ended, or one
 /// has made `limit` acts and hasn't ended. Any number of workers can finish, one alone too.
 ///
 /// There is one actor for each role, and the capacity is at least the room of the session: over such rings some role can go on,
-/// or all have ended, wherever the session comes to. A worker takes the task of some
+/// or all have ended, in whatever configuration the session is. A worker takes the task of some
 /// role, makes turns with it, each between the gate's two calls, and gives it back once it has to wait, is over, or has moved
 /// often enough. Who makes which turn isn't said, nor how long it takes: the call may wait for its workers. If it returns, the
 /// outcome is that of the plain run over unbounded queues: all have ended, with its transcripts and its actors; or the plain run
 /// is stopped too, and so is that role wherever all go on as long as they can. The session is closed, or given up where it
-/// stood. The one error is that memory was refused; then the actors are given up. But for the actors' own calls all memory is
+/// stood. The one error is that memory ran out; then the actors are given up. But for the actors' own calls all memory is
 /// taken before the first worker begins.
 pub fn run_pool<R: Threads + Wait + Sync, A: Actor + Send, G: Gate + Sync>(
     rt: &R,

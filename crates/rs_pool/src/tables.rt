@@ -89,7 +89,7 @@ impl<A: Actor, N: StartName<A>> PoolTable<A, N> {
         }
     }
 
-    /// Gives the role's job home, and tells the others whether its role was counted.
+    /// Gives the role's job home, and lets the others know whether its role was counted.
     pub(crate) fn give_back(&self, seat: &mut JobSeat<A>, role: u8, job: Job<A>, counted: bool)
         requires table { seat.old.table_id ≡ self.now.table.shared.table_id }
         requires role { role < self.now.roles }
@@ -147,7 +147,7 @@ impl<A: Actor, N: StartName<A>> PoolTable<A, N> {
         self.table.shared.split_seat::<SplitShare>(seat)
     }
 
-    /// The other seat's shares come to this one.
+    /// The other seat's shares are added to this one.
     pub(crate) fn join(&self, seat: &mut JobSeat<A>, other: JobSeat<A>)
         requires table { (seat.old.table_id ≡ self.now.table.shared.table_id) × (other.table_id ≡ self.now.table.shared.table_id) }
         requires rests { (other.me.0.held ≡ None) × (other.me.1 ≡ []) }

@@ -80,7 +80,7 @@ pub(crate) fn jobs_of<A: Actor>(
     })
 }
 
-/// The stages of the jobs go behind those in the list, the last job's first.
+/// The stages of the jobs are appended to the list, the last job's first.
 pub(crate) fn stages_back<A: Actor>(mut stages: Vec<Stage>, mut jobs: Vec<Job<A>>) -> Vec<Stage>
     requires room { vec_len stages + vec_len jobs ≤ vec_capacity stages }
     ensures { result.items ≡ stages.items ++ stages_of (reverse jobs.items) }

@@ -18,7 +18,7 @@ pub(crate) struct JobView {
     pub(crate) shares: u32,
 }
 
-/// What stays the same as long as the table of jobs lives. All its views together have so many shares.
+/// What stays the same as long as the table of jobs lives. All its views together have this number of shares.
 #[derive(Drop)]
 pub(crate) struct JobKey {
     pub(crate) roles: u8,

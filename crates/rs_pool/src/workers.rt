@@ -19,7 +19,7 @@ use std::sync::Wait;
 use std::thread;
 use std::thread::Threads;
 
-/// A task that moves makes so many turns at most before it is given back.
+/// The most turns that a task makes before it is given back.
 const MOST_TURNS: u32 = 64;
 
 /// A worker's number and its seat.

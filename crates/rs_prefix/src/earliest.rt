@@ -4,14 +4,16 @@ ghost use Rattle.rs_prefix.specs.Earliest.{has, may_overtake};
 
 use rs_model::{Act, Role};
 
-/// Whether an act puts or takes.
+/// The kind of an act: it sends a message, or receives one.
 #[derive(Clone, Copy, Debug, PartialEq, Eq)]
 pub enum ActKind {
+    /// The act sends: it puts a message into the queue to its peer.
     Send,
+    /// The act receives: it takes a message from the queue from its peer.
     Receive,
 }
 
-/// Where the earliest pending act of a kind with a peer stands.
+/// The answer to the question where the earliest pending act of a kind with a peer is.
 #[derive(Clone, Copy, Debug, PartialEq, Eq)]
 pub enum Found {
     /// It is at this place, and may overtake all acts before it.
@@ -22,7 +24,7 @@ pub enum Found {
     Absent,
 }
 
-// Whether the act is of that kind with that peer.
+/// Returns whether the act is of that kind, with that peer: for example whether it is a send to that peer.
 #[inline(always)]
 pub fn has(act: Act, kind: ActKind, peer: Role) -> bool
     ensures { result ≡ has kind peer act }
@@ -34,7 +36,10 @@ pub fn has(act: Act, kind: ActKind, peer: Role) -> bool
     }
 }
 
-// Whether an act of that kind with that peer may overtake the pending one.
+/// Returns whether an act of that kind with that peer may be made before the pending act `act`. A send may overtake
+/// each receive, and each send to another peer. A receive may overtake receives from other peers, and no send: so messages
+/// between two roles stay in order, and a machine doesn't wait before it has sent what it owes. The definition of the same
+/// name follows the reorderings of precise asynchronous subtyping (Ghilezan and others, POPL 2021).
 #[inline(always)]
 pub fn may_overtake(act: Act, kind: ActKind, peer: Role) -> bool
     ensures { result ≡ may_overtake kind peer act }

@@ -13,7 +13,7 @@ pub fn one_answer_is_right()
     ensures one { (pending : List Act) (kind : ActKind) (peer : Role) (one other : Found) → Finds pending kind peer one → Finds pending kind peer other → one ≡ other }
 {}
 
-/// What is found is the first act of its kind with that peer, and where nothing is found there is none.
+/// What is found is the first act of its kind with that peer, and if nothing is found, there is none.
 pub fn the_first_is_found()
     ensures found { (pending : List Act) (kind : ActKind) (peer : Role) (place : ℕ) → IsFound pending kind peer place
         → (i : ℕ) (act : Act) → i < place → slice_get pending i ≡ Some act → has kind peer act ≡ false }

@@ -81,7 +81,7 @@ impl Pending {
         Ok(Pending { acts })
     }
 
-    /// A copy without the act at the place; those behind it close up.
+    /// A copy without the act at the place; those after it close up.
     #[inline(always)]
     pub fn copy_without(&self, alloc: Global, place: usize) -> Result<Pending, NoMemory>
         requires { place < length self.now }
@@ -106,7 +106,7 @@ impl Pending {
         Ok(Pending { acts })
     }
 
-    /// Appends an act; where memory is refused nothing changes.
+    /// Appends an act. If memory runs out, it fails, and the list is as before.
     pub fn push(&mut self, act: Act) -> Result<(), NoMemory>
         ensures ok { OnOk result (self.new ≡ self.old ++ act ∷ []) }
         ensures err { OnErr result (self.new ≡ self.old) }
@@ -115,9 +115,9 @@ impl Pending {
         Ok(())
     }
 
-    /// The earliest pending act of the kind with the peer: its place where it may overtake all acts before it, else
-    /// the place of the first act that it may not overtake. A send may overtake receives, and sends to others; a
-    /// receive may overtake receives from others, and no send. Takes no memory.
+    /// The earliest pending act of the kind with the peer: its place if it may overtake all acts before it,
+    /// otherwise the place of the first act that it may not overtake. A send may overtake receives, and sends to others; a
+    /// receive may overtake receives from others, and no send. Allocates nothing.
     #[inline(always)]
     pub fn find(&self, kind: ActKind, peer: Role) -> Found
         ensures means { Finds self.now kind peer result }
@@ -141,7 +141,7 @@ impl Pending {
         Found::Absent
     }
 
-    /// Takes the act at the place out of the list; those behind it close up. Takes no memory.
+    /// Takes the act at the place out of the list; those after it close up. Allocates nothing.
     pub fn take(&mut self, place: usize) -> Act
         requires { place < length self.now }
         ensures act { slice_get self.old place ≡ Some result }

@@ -53,7 +53,7 @@ reached_own pr role flags n own none = λ m u on. elim (set_only flags n m on) [
   | inr e ↦ (let P : ℕ → Type 0 = λ z. Involves pr role z in (passes_unreached pr role m u).uninvolved (subst P e own))
 ]
 
--- where a node leads to flagged nodes alone, all behind it are flagged
+-- where a node leads to flagged nodes alone, all after it are flagged
 pub behind_flagged : (pr : Protocol_data) (flags : List Bool) (n next : ℕ) (node : Node) → slice_get pr.nodes n ≡ Some node → all_on flags (arms_of_node node) ≡ true → Among (nexts_of_node node) next
     → IsOn flags next
 behind_flagged pr flags n next Finished is all m = absurd m

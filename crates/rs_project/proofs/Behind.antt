@@ -1,4 +1,4 @@
--- What is met behind a label, and what the role does in a state.
+-- What is met after a label, and what the role does in a state.
 use Rattle.std.proofs.Common.{◌≡◌, ◌≢◌, inl, inr, ℕ, zero, suc, ◌<◌, Bool, true, false, List, [], ◌∷◌, length, Option, Some, None, Result, Ok, Err, slice_get, refl, sym, ap, ◌∙◌, subst, arith}
 use Rattle.std.proofs.Common.{if◌then◌else◌, ◌==◌}
 use Rattle.std.specs.List.{All, flat_map}
@@ -88,7 +88,7 @@ lead_starts pr talks label next on =
 pub starts_within : (pr : Protocol_data) (talks : List ℕ) (label : Label) → IsWellFormed pr → All (λ s. s < length pr.nodes) (starts_of pr talks label)
 starts_within pr talks label wf = all_by (λ s. s < length pr.nodes) (starts_of pr talks label) (λ x m. (let on = starts_lead pr talks label x m in next_within pr on.talk on.place x wf on.step))
 
--- some start stands behind the label of a choice
+-- some start stands after the label of a choice
 pub some_starts : (pr : Protocol_data) (talks starts : List ℕ) (c : LabelChoice) → starts ≡ starts_of pr talks c.label → Among (merged_choices pr talks) c → starts ≢ []
 some_starts pr talks starts c e m none =
     let on = choice_leads pr talks c m in
@@ -110,7 +110,7 @@ front_behind pr role talks label f is = record {
   );
 }
 
--- behind the label are the starts
+-- after the label are the starts
 
 pub finds_behind : (pr : Protocol_data) (role : Role) (old : List Front_data) (talks : List ℕ) (label : Label) (starts : List ℕ) (new : List Front_data) (n : ℕ) → starts ≡ starts_of pr talks label
     → FindsFrom pr role old starts new n → FindsFront pr role old talks label new n

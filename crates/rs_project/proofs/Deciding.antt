@@ -151,7 +151,7 @@ place_or_new (g ∷ fs) f = elim (same_fronts g f) [
     new ne none zero e = ne (same_Some g f e)
     new ne none (suc k) e = none k e
 
--- the number of what the role meets first behind a label, or that there are too many fronts
+-- the number of what the role meets first after a label, or that there are too many fronts
 finds_or_none : (pr : Protocol_data) (role : Role) (sv : Survey_data) (fs : List Front_data) (talks : List ℕ) (label : Label) → IsWellFormed pr → IsSurvey pr role sv → length fs ≤ MOST_STATES
     → ((new : List Front_data) × (n : ℕ) × FindsFront pr role fs talks label new n) ⊎ FindsNone pr role fs talks label
 finds_or_none pr role sv fs talks label wf is few =
@@ -167,7 +167,7 @@ finds_or_none pr role sv fs talks label wf is few =
       ]
     ]
 
--- the arms of a state, or a choice behind which there are too many fronts
+-- the arms of a state, or a choice after which there are too many fronts
 record Armed (pr : Protocol_data) (role : Role) (old : List Front_data) (talks : List ℕ) (choices : List Arm) (i : ℕ) : Type 0 where
   pub mid : List Front_data
   pub arms : List Arm

@@ -15,7 +15,7 @@ use Rattle.rs_project.specs.Numbered.{IsNumberedProjection, nexts_of, nexts_behi
 use Rattle.rs_project.specs.Projection.{IsSet, IsStateOf, IsDone, IsPuts, IsTakes, IsProjection, MeetsBehind, EndsBehind}
 use Rattle.rs_project.specs.Reached.{arms_behind, StateLeads, LeadToState, MeetsAfter, EndsAfter}
 
--- a number behind a row is known before or stands in the row
+-- a number after a row is known before or stands in the row
 in_row : (known after n : ℕ) (row : List ℕ) → Numbered known row after → n < after → (n < known) ⊎ ((place : ℕ) × (slice_get row place ≡ Some n) × (known ≤ n))
 in_row known after n [] (NoMore k) lt = inl lt
 in_row known after n (m ∷ row) (Known k m' after' row' known-m rest) lt = elim (in_row known after n row rest lt) [
@@ -34,7 +34,7 @@ in_row known after n (m ∷ row) (New k after' row' rest) lt = elim (in_row (suc
     less : n < suc known → (n ≡ known → ⊥) → n < known
     less below apart = omega (arith, below, apart)
 
--- a number behind rows is known before or stands in a row with a lesser number
+-- a number after rows is known before or stands in a row with a lesser number
 in_rows : (k known after n : ℕ) (rows : List (List ℕ)) → Worked k known rows after → n < after
     → (n < known) ⊎ ((i : ℕ) × (row : List ℕ) × (slice_get rows i ≡ Some row) × (place : ℕ) × (slice_get row place ≡ Some n) × (k + i < n))
 in_rows k known after n [] (AllDone k' known') lt = inl lt
@@ -87,7 +87,7 @@ is_reached protocol role p n h lt =
     let all = h.is_projection.all in
     reached_below protocol role p h (suc n) n (omega arith) (omega arith)
 
--- the set behind an arm
+-- the set after an arm
 behind_arm : (protocol : Protocol_data) (role : Role) (sets : List (List ℕ)) (members : List ℕ) (state : State) (place : ℕ) (arm : Arm) → IsStateOf protocol role sets members state
     → slice_get (arms_behind state) place ≡ Some arm
     → IsSet sets arm.next (MeetsBehind protocol role members arm.label) (EndsBehind protocol role members arm.label)

@@ -10,7 +10,7 @@ use Rattle.rs_project.specs.Refusals.{Merges, AreBehind, FirstClash, OfTalks, Of
 use Rattle.rs_project.proofs.Lists.{contains, at_among}
 use Rattle.rs_project.proofs.Numbers.{same_front}
 
--- both lists have the same fronts at the first so many places
+-- both lists have the same fronts at the first n places
 abbrev pub Same : List Front_data → List Front_data → ℕ → Type 0
 Same fs gs known = (i : ℕ) → i < known → (f : Front_data) × (slice_get fs i ≡ Some f) × (slice_get gs i ≡ Some f)
 
@@ -55,7 +55,7 @@ same_numbers pr role fs gs talks o o' known mid mid' _ _ (c ∷ cs) ag (New _ _ 
     let r = same_numbers pr role fs gs talks o o' (suc known) mid mid' ns ns' cs ag' k k' h.1 h'.1 in
     (ap (λ (xs : List ℕ). known ∷ xs) r.0, r.1, r.2)
 
--- the rows from number k on name what is behind the fronts
+-- the rows from number k on name what is after the fronts
 abbrev pub Rows : Protocol_data → Role → List Front_data → ℕ → List (List ℕ) → Type 0
 Rows pr role fs k [] = Unit {0}
 Rows pr role fs k (r ∷ rs) = ((f : Front_data) → slice_get fs k ≡ Some f → AreBehind pr role fs f.talks (merged_choices pr f.talks) r) × Rows pr role fs (suc k) rs

@@ -84,7 +84,7 @@ record IsOpen (pr : Protocol_data) (flags : List Bool) : Type 0 where
   pub leads : leads_on flags node ≡ true
   pub off : IsOn flags number → ⊥
 
--- none of the first so many nodes leads to a flagged one and isn't flagged
+-- none of the first n nodes leads to a flagged one and isn't flagged
 abbrev SettledBelow : Protocol_data → List Bool → ℕ → Type 0
 SettledBelow pr flags n = (m : ℕ) (node : Node) → m < n → slice_get pr.nodes m ≡ Some node → leads_on flags node ≡ true → IsOn flags m
 

@@ -13,7 +13,7 @@ use Rattle.rs_project.proofs.Flags.{on_within, on_decide}
 use Rattle.rs_project.proofs.Lists.{contained, contains, among_left, among_right, among_split}
 use Rattle.rs_project.proofs.Cycles.{passing_steps, flagged_steps}
 
--- the numbers are those of the flags that stand in both lists among the first so many, in order
+-- the numbers are those of the flags that stand in both lists among the first n, in order
 pub record AreCommon (one other : List Bool) (count : ℕ) (numbers : List ℕ) : Type 0 where
   pub rising : AllPairs (λ (n m : ℕ). n < m) numbers
   pub below : (n : ℕ) → Among numbers n → n < count

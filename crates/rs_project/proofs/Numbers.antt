@@ -23,20 +23,20 @@ use Rattle.rs_project.specs.declared.projecting.ProjFault.TheVariants.{Unmergeab
 use Rattle.rs_project.proofs.Lists.{contained, contains, at_among, at_short, among_left, among_split, at_map}
 use Rattle.rs_project.proofs.Meetings.{meets_some}
 
--- the number of the front behind a label
+-- the number of the front after a label
 pub record FindsFront (protocol : Protocol_data) (role : Role) (old : List Front_data) (talks : List ℕ) (label : Label) (new : List Front_data) (n : ℕ) : Type 0 where
   pub front : Front_data
   pub is_front : IsFrontBehind protocol role talks label front
   pub adds : AddsFront old front new n
 
--- what a fault of finding the front behind the label tells
+-- what a fault of finding the front after the label tells
 abbrev pub FindFault : Protocol_data → Role → List Front_data → List ℕ → Label → ProjFault → Type 0
 FindFault protocol role old talks label (TooManyStates r) = (r ≡ role) × FindsNone protocol role old talks label
 FindFault protocol role old talks label (Unmergeable r a b) = ⊥
 FindFault protocol role old talks label (Unreached r n) = ⊥
 FindFault protocol role old talks label NoMemory = Unit {0}
 
--- each number is below those behind it
+-- each number is below those after it
 abbrev pub Rises : List ℕ → Type 0
 Rises [] = Unit {0}
 Rises (x ∷ xs) = ((y : ℕ) → Among xs y → x < y) × Rises xs
@@ -122,7 +122,7 @@ pub worked_push : (k known mid after : ℕ) (rows : List (List ℕ)) (row : List
 worked_push k known _ after _ row (AllDone _ _) h n = Next k known after after row [] (omega arith) n (AllDone (suc k) after)
 worked_push k known mid after _ row (Next _ _ m _ r rows lt nu w) h n = Next k known m after r (rows ++ (row ∷ [])) lt nu (worked_push (suc k) m mid after rows row w (omega arith) n)
 
--- rows of numbers behind choices
+-- rows of numbers after choices
 pub behind_kept : (pr : Protocol_data) (role : Role) (old new : List Front_data) (talks : List ℕ) → KeepsFronts old new → (cs : List LabelChoice) (ns : List ℕ) → AreBehind pr role old talks cs ns
     → AreBehind pr role new talks cs ns
 behind_kept pr role old new talks kept [] [] h = tt
@@ -232,7 +232,7 @@ choice_leads pr talks c h =
     let r = flat_from f talks c (choice_from (flat_map f talks) [] c h) in
     node_choice pr talks r.0 c (slice_get pr.nodes r.0) r.1 refl r.2
 
--- what is met behind a label that stands at an arm isn't nothing
+-- what is met after a label that stands at an arm isn't nothing
 pub told_behind : (pr : Protocol_data) (role : Role) (sv : Survey_data) (talks : List ℕ) (label : Label) (next : ℕ) (f : Front_data) → IsSurvey pr role sv → LeadsOn pr talks label next
     → IsFrontBehind pr role talks label f → f.talks ≡ [] → f.ends ≡ true
 told_behind pr role sv talks label next f is on front e = elim (meets_some pr role sv is next) [

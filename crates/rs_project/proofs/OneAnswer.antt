@@ -111,7 +111,7 @@ numbered_split known after [] ms h = (known, NoMore known, h)
 numbered_split known after (n ∷ ns) ms (Known _ _ _ _ lt k) = let r = numbered_split known after ns ms k in (r.0, Known known n r.0 ns lt r.1, r.2)
 numbered_split known after (n ∷ ns) ms (New _ _ _ k) = let r = numbered_split (suc known) after ns ms k in (r.0, New known r.0 ns r.1, r.2)
 
--- a row behind choices, split where the choices are
+-- a row after choices, split where the choices are
 record SplitRow (pr : Protocol_data) (role : Role) (gs : List Front_data) (talks : List ℕ) (before : List LabelChoice) (c : LabelChoice) (row : List ℕ) : Type 0 where
   ns : List ℕ
   n : ℕ

@@ -67,7 +67,7 @@ unreached_pass pr role survey flags is e = subst (λ (z : List Bool). HasUnreach
   whole = λ n u. (is.passing n).1 (passes_unreached pr role n u);
 })
 
--- no node from `number` on is flagged, where none behind it was and it isn't
+-- no node from `number` on is flagged, where none after it was and it isn't
 pub none_from : (flags less : List Bool) (number : ℕ) (b : Bool) → 0 < number → number ≤ length less → b ≡ get_or less (number - 1) b → b ≡ false → ((n : ℕ) → IsOn less n → IsOn flags n)
     → ((n : ℕ) → number ≤ n → IsOn flags n → ⊥)
     → (n : ℕ) → number - 1 ≤ n → IsOn less n → ⊥

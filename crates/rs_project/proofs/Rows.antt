@@ -29,7 +29,7 @@ among_there [] x h = absurd h
 among_there (y ∷ ys) x (inl e) = inl e
 among_there (y ∷ ys) x (inr h) = inr (among_there ys x h)
 
--- an edge leads from a flagged node to one behind an arm
+-- an edge leads from a flagged node to one after an arm
 edge_leads : (pr : Protocol_data) (flags : List Bool) (rows : List (List ℕ)) → AreRows pr flags (length pr.nodes) rows → (n next : ℕ) → Edge rows n next
     → (place : ℕ) × IsOn flags n × LeadsTo pr n place next
 edge_leads pr flags rows are n next e =

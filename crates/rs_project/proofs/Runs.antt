@@ -25,7 +25,7 @@ stands_via pr role n mid end a b = record {
   ends = ((λ e. b.ends.0 (a.ends.0 e)), (λ e. a.ends.1 (b.ends.1 e)));
 }
 
--- where the role meets the same behind all arms of a node that passes by it, it meets that from the node
+-- where the role meets the same after all arms of a node that passes by it, it meets that from the node
 pub stands_behind : (pr : Protocol_data) (role : Role) (n first end : ℕ) (node : Node) → PassesBy pr role n → slice_get pr.nodes n ≡ Some node → Among (nexts_of_node node) first
     → ((next : ℕ) → Among (nexts_of_node node) next → StandsFor pr role next end) → StandsFor pr role n end
 stands_behind pr role n first end node passes is some all = record {
@@ -104,7 +104,7 @@ own_end pr role ends n h runs = set_end pr role (n + 1) n ends n n h (stands_its
     after : (m : ℕ) → n ≤ m → (m ≡ n → ⊥) → n + 1 ≤ m
     after m f ne = elim (cases_lt n m) [ inl k ↦ omega (arith, k) | inr k ↦ absurd (ne (omega (arith, f, k))) ]
 
--- the run goes on behind the node
+-- the run goes on after the node
 run_on : (pr : Protocol_data) (role : Role) (from : ℕ) (ends : List ℕ) (n end : ℕ) (node : Node) → IsWellFormed pr → PassesBy pr role n → slice_get pr.nodes n ≡ Some node → HasEnd ends end (arms_of_node node)
     → ((next : ℕ) → Among (nexts_of_node node) next → from ≤ next) → AreRunEnds pr role from ends → AreRunEnds pr role from (set ends n end)
 run_on pr role from ends n end Finished wf passes is has behind runs = absurd (has.0 refl)

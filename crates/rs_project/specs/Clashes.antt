@@ -59,7 +59,7 @@ AgreeAt protocol role talks h k = (c d : ℕ) → slice_get talks h ≡ Some c �
 abbrev pub AgreeBefore : Protocol_data → Role → List ℕ → ℕ → ℕ → Type 0
 AgreeBefore protocol role talks end k = (h : ℕ) → h < end → AgreeAt protocol role talks h k
 
--- each of the first so many talks agrees with all those before it
+-- each of the first n talks agrees with all those before it
 abbrev pub AllAgree : Protocol_data → Role → List ℕ → ℕ → Type 0
 AllAgree protocol role talks count = (h k : ℕ) → h < k → k < count → AgreeAt protocol role talks h k
 

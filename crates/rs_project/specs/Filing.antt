@@ -30,12 +30,12 @@ abbrev pub IsFiledUnder : Filing → Front_data → Type 0
 IsFiledUnder (Lone talk) front = front ≡ lone_front talk
 IsFiledUnder (Shared bucket) front = IsInBucket bucket front
 
--- there are so many buckets, and each front that isn't that of one talk alone is chained by its bucket
+-- there are n buckets, and each front that isn't that of one talk alone is chained by its bucket
 pub record FrontsAreFiled (fronts : List Front_data) (heads links : List ℕ) : Type 0 where
   pub buckets : length heads ≡ BUCKETS
   pub chained : AreChained bucket_of_front IsShared fronts heads links
 
--- the number of the front of each talk alone stands at the talk, as one more than it is; 0 where there is none
+-- the number of the front of each talk alone is filed at the talk, as one more than it is; 0 if there is none
 pub record AreLone (fronts : List Front_data) (numbers : List ℕ) : Type 0 where
   pub right : (talk n : ℕ) → slice_index_or numbers talk 0 ≡ suc n → slice_get fronts n ≡ Some (lone_front talk)
   pub whole : (talk n : ℕ) → slice_get fronts n ≡ Some (lone_front talk) → slice_index_or numbers talk 0 ≡ 0 → ⊥

@@ -73,7 +73,7 @@ pub record MeetsTheEnd (protocol : Protocol_data) (role : Role) (from : ℕ) : T
   pub earlier : AllPassBy protocol role steps
   pub idle : IsIdle protocol role last
 
--- the session can come to node n and then go round for ever with the role left waiting: n is reached from the root,
+-- the session can reach node n and then loop for ever with the role left waiting: n is reached from the root,
 -- and lies on a cycle whose nodes all pass by the role
 pub record IsUnreached (protocol : Protocol_data) (role : Role) (n : ℕ) : Type 0 where
   pub reached : IsReached protocol n

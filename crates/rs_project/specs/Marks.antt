@@ -13,16 +13,16 @@ use Rattle.rs_graph.specs.Lists.{Among}
 use Rattle.rs_project.specs.Numbered.{nexts_of}
 use Rattle.rs_project.specs.Graph.{PathStep, LeadsTo, IsPath, IsReached, IsReachedFrom, Involves, IsIdle, PassesBy, MeetsFirst, MeetsTheEnd, IsUnreached}
 
--- the flag of node n stands
+-- the flag of node n is set
 abbrev pub IsOn : List Bool → ℕ → Type 0
 IsOn flags n = slice_index_or flags n false ≡ true
 
--- how many flags don't stand
+-- the number of flags that aren't set
 abbrev pub count_of_lowered : List Bool → ℕ
 count_of_lowered [] = 0
 count_of_lowered (b ∷ bs) = if b then count_of_lowered bs else suc (count_of_lowered bs)
 
--- the flags of all nodes at which a step is made stand
+-- the flags of all nodes at which a step is made are set
 abbrev pub AllOn : List Bool → List PathStep → Type 0
 AllOn flags [] = Unit {0}
 AllOn flags (s ∷ ss) = IsOn flags s.node × AllOn flags ss
@@ -35,12 +35,12 @@ pub record Spreads (protocol : Protocol_data) (through : List Bool) (starts : Li
   pub path : IsPath protocol start steps n
   pub earlier : AllOn through steps
 
--- the numbers behind the arms of a node
+-- the numbers to which the arms of a node lead
 abbrev pub nexts_of_node : Node → List ℕ
 nexts_of_node Finished = []
 nexts_of_node (Talk sender receiver arms) = nexts_of arms
 
--- each arm leads to one of so many nodes
+-- each arm leads to one of the first n nodes
 abbrev pub LeadsWithin : ℕ → Node → Type 0
 LeadsWithin count Finished = Unit {0}
 LeadsWithin count (Talk sender receiver arms) = All (λ (a : Arm). a.next < count) arms
@@ -59,7 +59,7 @@ pub record Marks_data : Type 0 where
   pub flags : List Bool
   pub numbers : List ℕ
 
--- the numbers are those of the flags that stand
+-- the numbers are those of the flags that are set
 abbrev pub AreListed : List Bool → List ℕ → Type 0
 AreListed flags numbers = (n : ℕ) → IsOn flags n ↔ Among numbers n
 
@@ -72,7 +72,7 @@ abbrev pub flags_without : List ℕ → List Bool → List Bool
 flags_without [] flags = flags
 flags_without (n ∷ ns) flags = flags_without ns (slice_set flags n false)
 
--- marks that spread so far: so many of the marked nodes, the first ones, were gone on from, and the nodes of `soon` are
+-- marks that spread so far: the arms of the first n marked nodes were followed, and the nodes of `soon` are
 -- still to be marked
 pub record Walking (protocol : Protocol_data) (through : List Bool) (starts : List ℕ) (marks : Marks_data) (done : ℕ) (soon : List ℕ) : Type 0 where
   pub within : done ≤ length marks.numbers
@@ -124,7 +124,7 @@ pub record IsLive (protocol : Protocol_data) (role : Role) (flags : List Bool) :
   pub passing : (n : ℕ) → IsOn flags n → PassesBy protocol role n
   pub whole : (n : ℕ) → IsReached protocol n → PassesBy protocol role n → IsOn flags n
 
--- the rows of the first so many nodes: where a node is flagged, its row has the numbers behind its arms
+-- the rows of the first n nodes: if a node is flagged, its row has the numbers to which its arms lead
 pub record AreRows (protocol : Protocol_data) (flags : List Bool) (count : ℕ) (rows : List (List ℕ)) : Type 0 where
   pub size : length rows ≡ count
   pub each : (n : ℕ) (node : Node) → n < count → slice_get protocol.nodes n ≡ Some node
@@ -146,7 +146,7 @@ pub record AreRunEnds (protocol : Protocol_data) (role : Role) (from : ℕ) (end
   pub within : (n : ℕ) → from ≤ n → n < length protocol.nodes → slice_index_or ends n 0 < length protocol.nodes
   pub stands : (n : ℕ) → from ≤ n → n < length protocol.nodes → StandsFor protocol role n (slice_index_or ends n 0)
 
--- of the nodes from that number on the flags tell which involve the role, from some of them it is known that a talk of the role
+-- of the nodes from that number on the flags say which involve the role, from some of them it is known that a talk of the role
 -- can be reached, those of them that don't involve it are passing, and runs were followed; no node before is flagged
 pub record AreMarked (protocol : Protocol_data) (role : Role) (from : ℕ) (involved awaited passing : List Bool) (ends : List ℕ) : Type 0 where
   pub talks : (n : ℕ) → IsOn involved n → Involves protocol role n
@@ -167,11 +167,11 @@ abbrev pub have_end : List ℕ → ℕ → List Arm → Bool
 have_end ends end [] = true
 have_end ends end (a ∷ arms) = if slice_index_or ends a.next 0 == end then have_end ends end arms else false
 
--- there are arms, and the runs behind all of them end at that node
+-- there are arms, and the runs after all of them end at that node
 abbrev pub HasEnd : List ℕ → ℕ → List Arm → Type 0
 HasEnd ends end arms = (arms ≢ []) × (have_end ends end arms ≡ true)
 
--- the run from node n, which has these arms, ends where it ended, or where the runs behind all arms do
+-- the run from node n, which has these arms, ends where it ended, or where the runs after all arms do
 abbrev pub GoesOn : List Arm → ℕ → List ℕ → List ℕ → Type 0
 GoesOn arms n old new = (new ≡ old) ⊎ ((end : ℕ) × HasEnd old end arms × (new ≡ slice_set old n end))
 
@@ -191,7 +191,7 @@ pub record Survey_data : Type 0 where
   pub passing : List Bool
   pub run_ends : List ℕ
 
--- the survey tells this of each node of the protocol
+-- the survey says this of each node of the protocol
 pub record IsSurvey (protocol : Protocol_data) (role : Role) (survey : Survey_data) : Type 0 where
   pub involved_size : length survey.involved ≡ length protocol.nodes
   pub awaited_size : length survey.awaited ≡ length protocol.nodes
@@ -201,7 +201,7 @@ pub record IsSurvey (protocol : Protocol_data) (role : Role) (survey : Survey_da
   pub idle : (n : ℕ) → (IsOn survey.awaited n → ⊥) → IsIdle protocol role n
   pub passing : (n : ℕ) → IsOn survey.passing n ↔ PassesBy protocol role n
 
--- the protocol is well formed, its nodes have numbers below 2^32, and the survey tells the truth of each
+-- the protocol is well formed, its nodes have numbers below 2^32, and what the survey says of each is true
 pub record IsTrueSurvey (known : Survey_data) : Type 0 where
   pub well_formed : IsWellFormed known.protocol
   pub bounded : length known.protocol.nodes < 2 ^ 32
@@ -226,12 +226,12 @@ pub record StartEnds (protocol : Protocol_data) (role : Role) (starts : List ℕ
   pub among : Among starts start
   pub ends : MeetsTheEnd protocol role start
 
--- the numbers behind the arms with the label
+-- the numbers to which the arms with the label lead
 abbrev pub labelled_nexts : Label → List Arm → List ℕ
 labelled_nexts label [] = []
 labelled_nexts label (a ∷ arms) = if a.label.0 == label.0 then a.next ∷ labelled_nexts label arms else labelled_nexts label arms
 
--- the nodes behind the arms of a node with the label
+-- the nodes to which the arms of a node with the label lead
 abbrev pub labelled_nexts_of : Label → Option Node → List ℕ
 labelled_nexts_of label None = []
 labelled_nexts_of label (Some Finished) = []

@@ -24,6 +24,6 @@ abbrev pub IsNotedTalk : Role → Role → List (Option Sort) → Node → Type 
 IsNotedTalk role sender sorts Finished = ⊥
 IsNotedTalk role sender sorts (Talk s r arms) = (s.0 == sender.0 ≡ true) × (r.0 == role.0 ≡ true) × AllNoted sorts arms
 
--- the labels of the first so many talks are noted with their sorts
+-- the labels of the first n talks are noted with their sorts
 abbrev pub AreNotedTalks : Protocol_data → Role → Role → List (Option Sort) → List ℕ → ℕ → Type 0
 AreNotedTalks protocol role sender sorts talks count = (k t : ℕ) (node : Node) → k < count → slice_get talks k ≡ Some t → slice_get protocol.nodes t ≡ Some node → IsNotedTalk role sender sorts node

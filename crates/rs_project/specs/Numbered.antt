@@ -10,25 +10,25 @@ use Rattle.rs_project.specs.Data.{Projection_data}
 use Rattle.rs_graph.specs.Order.{Once, Worked}
 use Rattle.rs_project.specs.Projection.{IsProjection}
 
--- the numbers behind arms, in order
+-- the numbers to which arms lead, in order
 abbrev pub nexts_of : List Arm → List ℕ
 nexts_of arms = map (λ (a : Arm). a.next) arms
 
--- the numbers of the states behind the arms of a state
+-- the numbers of the states to which the arms of a state lead
 abbrev pub nexts_behind : State → List ℕ
 nexts_behind Done = []
 nexts_behind (Puts peer arms) = nexts_of arms
 nexts_behind (Takes peer arms) = nexts_of arms
 
 -- it is a projection, its states are numbered in the order in which their sets are found, working on the states in
--- order of number and on the arms of each in order, no set stands twice, and there are at most 1,024
+-- order of number and on the arms of each in order, no set occurs twice, and there are at most 1,024
 pub record IsNumberedProjection (protocol : Protocol_data) (role : Role) (projection : Projection_data) : Type 0 where
   pub is_projection : IsProjection protocol role projection
   pub order : Worked 0 1 (map nexts_behind projection.machine.states) (length projection.sets)
   pub once : Once projection.sets
   pub bounded : length projection.sets ≤ MOST_STATES
 
--- those onto the first so many roles, in role order
+-- those onto the first n roles, in role order
 pub record AreFirstProjections (protocol : Protocol_data) (count : ℕ) (projections : List Projection_data) : Type 0 where
   pub many : length projections ≡ count
   pub each : (p : ℕ) (projection : Projection_data) → slice_get projections p ≡ Some projection → IsNumberedProjection protocol (record { 0 = p }) projection

@@ -15,7 +15,7 @@ use Rattle.rs_model.specs.Talks.{Talks}
 use Rattle.rs_project.specs.Data.{Projection_data}
 use Rattle.rs_project.specs.Graph.{LeadsTo, MeetsFirst, MeetsTheEnd, IsUnreached}
 
--- the set of that number has exactly these talks, in order of their numbers, and is empty exactly where the role may
+-- the set of that number has exactly these talks, in order of their numbers, and is empty if and only if the role may
 -- meet the end. So a set with a talk and the end isn't there.
 pub record IsSet (sets : List (List ℕ)) (number : ℕ) (Meets : ℕ → Type 0) (Ends : Type 0) : Type 0 where
   pub members : List ℕ
@@ -49,14 +49,14 @@ HaveSameSorts arms others =
     (a b : LabelChoice) → Contains (map choice_of arms) a → Contains (map choice_of others) b → a.label ≡ b.label → a.sort ≡ b.sort
 
 -- two talks don't clash: the role can do the one where it can't tell it from the other. It sends in both, to one peer,
--- and has the same choices; or it receives in both, from one peer, and each label tells one sort.
+-- and has the same choices; or it receives in both, from one peer, and each label has one sort.
 pub data Agree (protocol : Protocol_data) (role : Role) (one other : ℕ) : Type 0 where
   BothSend : (peer : Role) (arms others : List Arm) → Talks protocol one role peer arms → Talks protocol other role peer others
       → HaveSameChoices arms others → Agree protocol role one other
   BothReceive : (peer : Role) (arms others : List Arm) → Talks protocol one peer role arms → Talks protocol other peer role others
       → HaveSameSorts arms others → Agree protocol role one other
 
--- the choices without those whose label stands at an earlier one, or among those of the second list
+-- the choices without those whose label is at an earlier one, or among those of the second list
 abbrev pub first_choices : List LabelChoice → List LabelChoice → List LabelChoice
 first_choices [] earlier = []
 first_choices (c ∷ later) earlier =
@@ -75,24 +75,24 @@ pub record LeadsOn (protocol : Protocol_data) (members : List ℕ) (label : Labe
   pub step : LeadsTo protocol talk place next
   pub its_label : step.arm.label ≡ label
 
--- the talk is one of those that the role first meets behind the label
+-- the talk is one of those that the role first meets after the label
 abbrev pub MeetsBehind : Protocol_data → Role → List ℕ → Label → ℕ → Type 0
 MeetsBehind protocol role members label talk =
     (next : ℕ) × LeadsOn protocol members label next × MeetsFirst protocol role next talk
 
--- the role may meet the end behind the label
+-- the role may meet the end after the label
 abbrev pub EndsBehind : Protocol_data → Role → List ℕ → Label → Type 0
 EndsBehind protocol role members label =
     (next : ℕ) × LeadsOn protocol members label next × MeetsTheEnd protocol role next
 
--- the arms of a state that stands for these members: their choices, and behind each label the state of the set of all
+-- the arms of a state that stands for these members: their choices, and after each label the state of the set of all
 -- that the role first meets there
 pub record AreArmsOf (protocol : Protocol_data) (role : Role) (sets : List (List ℕ)) (members : List ℕ) (arms : List Arm) : Type 0 where
   pub choices : map choice_of arms ≡ merged_choices protocol members
   pub nexts : (place : ℕ) (arm : Arm) → slice_get arms place ≡ Some arm
       → IsSet sets arm.next (MeetsBehind protocol role members arm.label) (EndsBehind protocol role members arm.label)
 
--- the state that stands for these members: Done for none, and else the role sends to the peer to whom it sends in all
+-- the state that stands for these members: Done for none, and otherwise the role sends to the peer to whom it sends in all
 -- of them, or receives from the peer from whom it receives in all of them
 pub data IsStateOf (protocol : Protocol_data) (role : Role) (sets : List (List ℕ)) (members : List ℕ) (state : State) : Type 0 where
   IsDone : members ≡ [] → state ≡ Done → IsStateOf protocol role sets members state

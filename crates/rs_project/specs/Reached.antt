@@ -36,14 +36,14 @@ pub record NodeLeads (protocol : Protocol_data) (from : ℕ) (label : Label) (to
   pub step : LeadsTo protocol from place to
   pub its_label : step.arm.label ≡ label
 
--- some path from the root on which the role's own talks go by these labels, in order, comes to the talk, which involves
+-- some path from the root on which the role's own talks take these labels, in order, reaches the talk, which involves
 -- the role
 abbrev pub MeetsAfter : Protocol_data → Role → List Label → ℕ → Type 0
 MeetsAfter protocol role [] talk = MeetsFirst protocol role protocol.root talk
 MeetsAfter protocol role (label ∷ labels) talk =
     (before : ℕ) × (next : ℕ) × MeetsAfter protocol role labels before × NodeLeads protocol before label next × MeetsFirst protocol role next talk
 
--- some such path comes to a node that is idle for the role
+-- some such path reaches a node that is idle for the role
 abbrev pub EndsAfter : Protocol_data → Role → List Label → Type 0
 EndsAfter protocol role [] = MeetsTheEnd protocol role protocol.root
 EndsAfter protocol role (label ∷ labels) =

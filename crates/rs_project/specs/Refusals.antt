@@ -28,7 +28,7 @@ pub record Merges (protocol : Protocol_data) (role : Role) (front : Front_data) 
   pub agree : (one other : ℕ) → Contains front.talks one → Contains front.talks other → Agree protocol role one other
   pub alone : front.ends ≡ true → front.talks ≡ []
 
--- the numbers are those of the fronts behind the choices of these talks, one by one
+-- the numbers are those of the fronts after the choices of these talks, one by one
 abbrev pub AreBehind : Protocol_data → Role → List Front_data → List ℕ → List LabelChoice → List ℕ → Type 0
 AreBehind protocol role fronts talks [] [] = Unit {0}
 AreBehind protocol role fronts talks [] (n ∷ ns) = ⊥
@@ -37,9 +37,9 @@ AreBehind protocol role fronts talks (c ∷ cs) (n ∷ ns) =
     IsFrontAt fronts n (MeetsBehind protocol role talks c.label) (EndsBehind protocol role talks c.label)
     × AreBehind protocol role fronts talks cs ns
 
--- the work comes to this front: `fronts` are those that were found, in the order in which they were found, at most
+-- the work reaches this front: `fronts` are those that were found, in the order in which they were found, at most
 -- 1,024. On the first of them, as many as there are rows, the work is done: their members don't clash, and the row has
--- the numbers of the fronts behind the choices. It goes on with this front, where `row` is done.
+-- the numbers of the fronts after the choices. It continues with this front, where `row` is done.
 pub record ComesTo (protocol : Protocol_data) (role : Role) (fronts : List Front_data) (rows : List (List ℕ)) (row : List ℕ) (front : Front_data) : Type 0 where
   pub first : IsFrontAt fronts 0 (MeetsFirst protocol role protocol.root) (MeetsTheEnd protocol role protocol.root)
   pub once : Once fronts
@@ -51,7 +51,7 @@ pub record ComesTo (protocol : Protocol_data) (role : Role) (fronts : List Front
   pub here : slice_get fronts (length rows) ≡ Some front
 
 -- these are the two members that clash first: the later one is the least that clashes with an earlier one, and the
--- earlier one the least that clashes with it. The end stands behind all talks, as None.
+-- earlier one the least that clashes with it. The end comes after all talks, as None.
 pub data FirstClash (protocol : Protocol_data) (role : Role) (front : Front_data) (a : ℕ) : Option ℕ → Type 0 where
   OfTalks : (b i j : ℕ) → slice_get front.talks i ≡ Some a → slice_get front.talks j ≡ Some b → i < j
       → (Agree protocol role a b → ⊥)
@@ -62,7 +62,7 @@ pub data FirstClash (protocol : Protocol_data) (role : Role) (front : Front_data
       → ((c d h k : ℕ) → slice_get front.talks h ≡ Some c → slice_get front.talks k ≡ Some d → h < k → Agree protocol role c d)
       → FirstClash protocol role front a None
 
--- the work comes to a front of which two members clash, and these are the first
+-- the work reaches a front of which two members clash, and these are the first
 pub record ComesToAClash (protocol : Protocol_data) (role : Role) (a : ℕ) (b : Option ℕ) : Type 0 where
   pub fronts : List Front_data
   pub rows : List (List ℕ)
@@ -70,7 +70,7 @@ pub record ComesToAClash (protocol : Protocol_data) (role : Role) (a : ℕ) (b :
   pub comes : ComesTo protocol role fronts rows [] front
   pub clash : FirstClash protocol role front a b
 
--- the work comes to a choice, and the front behind it is none of the 1,024 that were found
+-- the work reaches a choice, and the front after it is none of the 1,024 that were found
 pub record ComesToTooMany (protocol : Protocol_data) (role : Role) : Type 0 where
   pub fronts : List Front_data
   pub rows : List (List ℕ)

@@ -1,4 +1,4 @@
--- Steps: what the work on the states keeps, and what it comes to.
+-- Steps: what the work on the states keeps, and how it ends.
 use Rattle.std.specs.Prelude.{◌≡◌, ◌≢◌, ◌⊎◌, ℕ, ◌<◌, ◌≤◌, true, List, [], ◌∷◌, ◌++◌, map, length, Option, Some, slice_get, slice_index_or, suc}
 use Rattle.std.specs.List.{Contains, flat_map}
 use Rattle.rs_model.specs.declared.limits.TheConstants.{MOST_STATES}
@@ -20,7 +20,7 @@ use Rattle.rs_project.specs.Refusals.{IsFront, IsFrontAt, Merges, AreBehind, Fir
 use Rattle.rs_project.specs.declared.projecting.ProjFault.{ProjFault}
 use Rattle.rs_project.specs.declared.projecting.ProjFault.TheVariants.{Unmergeable, Unreached, TooManyStates, NoMemory}
 
--- the front is what the role meets first behind the label
+-- the front is what the role meets first after the label
 abbrev pub IsFrontBehind : Protocol_data → Role → List ℕ → Label → Front_data → Type 0
 IsFrontBehind protocol role talks label front = IsFront front (MeetsBehind protocol role talks label) (EndsBehind protocol role talks label)
 
@@ -28,7 +28,7 @@ IsFrontBehind protocol role talks label front = IsFront front (MeetsBehind proto
 abbrev pub IsFrontFrom : Protocol_data → Role → List ℕ → Front_data → Type 0
 IsFrontFrom protocol role starts front = IsFront front (StartMeets protocol role starts) (StartEnds protocol role starts)
 
--- the front stands nowhere among these
+-- the front is none of these
 abbrev pub FrontIsNew : List Front_data → Front_data → Type 0
 FrontIsNew fronts front = (k : ℕ) → slice_get fronts k ≡ Some front → ⊥
 
@@ -62,21 +62,21 @@ pub record FindsNoneFrom (protocol : Protocol_data) (role : Role) (old : List Fr
   pub many : length old ≡ MOST_STATES
   pub new : FrontIsNew old front
 
--- what a fault of finding the front from the starts tells
+-- what a fault of finding the front from the starts means
 abbrev pub FaultFrom : Protocol_data → Role → List Front_data → List ℕ → ProjFault → Type 0
 FaultFrom protocol role old starts (TooManyStates r) = (r ≡ role) × FindsNoneFrom protocol role old starts
 FaultFrom protocol role old starts (Unmergeable r a b) = ⊥
 FaultFrom protocol role old starts (Unreached r n) = ⊥
 FaultFrom protocol role old starts NoMemory = Unit {0}
 
--- there are 1,024 fronts, and the one behind the label is another one
+-- there are 1,024 fronts, and the one after the label is another one
 pub record FindsNone (protocol : Protocol_data) (role : Role) (old : List Front_data) (talks : List ℕ) (label : Label) : Type 0 where
   pub front : Front_data
   pub is_front : IsFrontBehind protocol role talks label front
   pub many : length old ≡ MOST_STATES
   pub new : FrontIsNew old front
 
--- what is known of the fronts that were found: none stands twice, there are at most 1,024, they have only talks of the
+-- what is known of the fronts that were found: none is in the list twice, there are at most 1,024, they have only talks of the
 -- role, and one without talks has the end
 pub record AreFoundFronts (protocol : Protocol_data) (role : Role) (fronts : List Front_data) : Type 0 where
   pub once : Once fronts
@@ -89,7 +89,7 @@ pub record Search_data : Type 0 where
   pub survey : Survey_data
   pub fronts : List Front_data
 
--- a number that stands at a node, as one more than it is, is that of the front from there
+-- a number that is filed at a node, as one more than it is, is that of the front from there
 abbrev pub AreFrom : Protocol_data → Role → List Front_data → List ℕ → Type 0
 AreFrom protocol role fronts numbers = (n k : ℕ) → slice_index_or numbers n 0 ≡ suc k
     → (front : Front_data) × (slice_get fronts k ≡ Some front) × IsFrontFrom protocol role (n ∷ []) front
@@ -100,14 +100,14 @@ pub record IsSearch (search : Search_data) (numbers : List ℕ) : Type 0 where
   pub found : AreFoundFronts search.survey.protocol search.survey.role search.fronts
   pub from : AreFrom search.survey.protocol search.survey.role search.fronts numbers
 
--- behind these choices stand the fronts with the numbers of the row, and those that weren't found before were added
+-- after these choices come the fronts with the numbers of the row, and those that weren't found before were added
 pub record Discovers (protocol : Protocol_data) (role : Role) (old : List Front_data) (talks : List ℕ) (choices : List LabelChoice) (new : List Front_data) (row : List ℕ) : Type 0 where
   pub found : AreFoundFronts protocol role new
   pub kept : KeepsFronts old new
   pub numbered : Numbered (length old) row (length new)
   pub behind : AreBehind protocol role new talks choices row
 
--- the work on the choices comes to one whose front is none of 1,024
+-- the work on the choices reaches one whose front is none of 1,024
 pub record TooManyAt (protocol : Protocol_data) (role : Role) (old : List Front_data) (talks : List ℕ) (choices : List LabelChoice) : Type 0 where
   pub fronts : List Front_data
   pub row : List ℕ
@@ -118,14 +118,14 @@ pub record TooManyAt (protocol : Protocol_data) (role : Role) (old : List Front_
   pub discovers : Discovers protocol role old talks before fronts row
   pub none : FindsNone protocol role fronts talks choice.label
 
--- what a fault of the work on the choices tells
+-- what a fault of the work on the choices means
 abbrev pub ArmsFault : Protocol_data → Role → List Front_data → List ℕ → List LabelChoice → ProjFault → Type 0
 ArmsFault protocol role old talks choices (TooManyStates r) = (r ≡ role) × TooManyAt protocol role old talks choices
 ArmsFault protocol role old talks choices (Unmergeable r a b) = ⊥
 ArmsFault protocol role old talks choices (Unreached r n) = ⊥
 ArmsFault protocol role old talks choices NoMemory = Unit {0}
 
--- the talks lead to the starts behind the label of the choice, and add no other choice
+-- the talks lead to the starts after the label of the choice, and add no other choice
 pub record AreLedBy (protocol : Protocol_data) (talks starts : List ℕ) (choice : LabelChoice) : Type 0 where
   pub led : starts ≡ flat_map (λ t. labelled_nexts_of choice.label (slice_get protocol.nodes t)) talks
   pub no_more : choice ∷ [] ≡ (choice ∷ []) ++ first_choices (flat_map (λ t. choices_of (slice_get protocol.nodes t)) talks) (choice ∷ [])
@@ -159,21 +159,21 @@ pub record ClashesAt (protocol : Protocol_data) (role : Role) (fronts : List Fro
   pub here : slice_get fronts number ≡ Some front
   pub clash : FirstClash protocol role front a b
 
--- none clash, and there are too many fronts behind it
+-- none clash, and there are too many fronts after it
 pub record OverflowsAt (protocol : Protocol_data) (role : Role) (fronts : List Front_data) (number : ℕ) : Type 0 where
   pub front : Front_data
   pub here : slice_get fronts number ≡ Some front
   pub merges : Merges protocol role front
   pub many : TooManyAt protocol role fronts front.talks (merged_choices protocol front.talks)
 
--- what a fault of the work on the state with that number tells
+-- what a fault of the work on the state with that number means
 abbrev pub StateFault : Protocol_data → Role → List Front_data → ℕ → ProjFault → Type 0
 StateFault protocol role fronts number (Unmergeable r a b) = (r ≡ role) × ClashesAt protocol role fronts number a b
 StateFault protocol role fronts number (TooManyStates r) = (r ≡ role) × OverflowsAt protocol role fronts number
 StateFault protocol role fronts number (Unreached r n) = ⊥
 StateFault protocol role fronts number NoMemory = Unit {0}
 
--- the state stands for the front, and its nexts are the numbers of those behind
+-- the state stands for the front, and its nexts are the numbers of the fronts after its choices
 pub record IsDoneWith (protocol : Protocol_data) (role : Role) (fronts : List Front_data) (front : Front_data) (state : State) : Type 0 where
   pub merges : Merges protocol role front
   pub behind : AreBehind protocol role fronts front.talks (merged_choices protocol front.talks) (nexts_behind state)

@@ -101,7 +101,7 @@ fn pair_clash(protocol: &Protocol, role: Role, talks: &[u32]) -> Option<Clash>
 }
 
 // The place of the first talk that clashes with the one at a later place, where those before it agree. While all talks so
-// far are receives from the sender whose labels are noted, the notes tell that none does.
+// far are receives from the sender whose labels are noted, the notes show that none does.
 fn clash_at(
     protocol: &Protocol,
     role: Role,
@@ -262,7 +262,7 @@ fn is_choice(arm: Arm, choice: Arm) -> bool
     arm.label == choice.label && arm.sort == choice.sort
 }
 
-// Whether each label that stands in both lists has one sort.
+// Whether each label that is in both lists has one sort.
 fn same_sorts(theirs: &[Arm], ours: &[Arm]) -> bool
     ensures { result ≡ same_sorts theirs.now ours.now }
 {

@@ -14,7 +14,7 @@ use std::marker::Model;
 
 const BUCKETS: usize = 512;
 
-/// Under what a front is filed: its talk where it is that of one talk alone, else its bucket.
+/// Under what a front is filed: its talk if it is that of one talk alone, otherwise its bucket.
 #[derive(Clone, Copy)]
 pub enum Filing {
     Lone(u32),
@@ -56,7 +56,7 @@ impl Model for Fronts {
 }
 
 impl Fronts {
-    /// No fronts, with room for so many, of so many talks.
+    /// No fronts, with room for a number of fronts, among a number of talks.
     pub fn with_room(alloc: Global, room: usize, talks: usize) -> Result<Fronts, NoMemory>
         ensures { IfOk result (λ f. f ≡ []) }
     {
@@ -188,7 +188,7 @@ impl Fronts {
     }
 }
 
-/// What stands at the node.
+/// What is filed at the node.
 pub fn number_at(numbers: &[u16], talk: u32) -> u16
     ensures { result ≡ slice_index_or numbers.now talk 0 }
 {

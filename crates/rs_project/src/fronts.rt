@@ -71,7 +71,7 @@ pub fn marked_front(
     })
 }
 
-// Those of the numbers whose flag stands.
+// Those of the numbers whose flag is set.
 fn flagged_numbers(alloc: Global, numbers: &[u32], flags: &[bool]) -> Result<TalkSet, NoMemory>
     requires { All (λ n. n < length flags.now) numbers.now }
     ensures { IfOk result (λ v. v.items ≡ filter (λ n. slice_index_or flags.now n false) numbers.now) }
@@ -118,7 +118,7 @@ fn put_in_order(mut numbers: TalkSet) -> TalkSet
     numbers
 }
 
-// Whether the flag of one of the numbers doesn't stand.
+// Whether the flag of one of the numbers isn't set.
 fn has_unflagged(numbers: &[u32], flags: &[bool]) -> bool
     requires { All (λ n. n < length flags.now) numbers.now }
     ensures { result ≡ list_any (λ n. not (slice_index_or flags.now n false)) numbers.now }

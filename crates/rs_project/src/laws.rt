@@ -49,7 +49,7 @@ pub fn members_are_the_talks_met()
         → LeadToState projection labels number → slice_get projection.sets number ≡ Some members → (talk : ℕ) → Contains members talk ↔ MeetsAfter protocol role labels talk }
 {}
 
-/// A state has no members exactly where the role may meet the end after the labels that lead to it.
+/// A state has no members if and only if the role may meet the end after the labels that lead to it.
 pub fn no_members_are_the_end()
     ensures { (protocol : Protocol_data) (role : Role) (projection : Projection_data) (labels : List Label) (number : ℕ) (members : List ℕ) → IsProjection protocol role projection
         → LeadToState projection labels number → slice_get projection.sets number ≡ Some members → (members ≡ []) ↔ EndsAfter protocol role labels }

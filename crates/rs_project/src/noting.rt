@@ -9,7 +9,7 @@ use std::alloc::Global;
 // With fewer talks it costs less to compare each with each.
 const FEW: usize = 5;
 
-/// What was noted of receives: for each label its sort. They tell of all receives so far, or of none.
+/// What was noted of receives: for each label its sort. The notes are of all receives so far, or of none.
 #[derive(Drop)]
 pub struct Notes {
     pub sorts: Vec<Option<Sort>>,

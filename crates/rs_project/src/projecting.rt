@@ -45,7 +45,7 @@ pub enum ProjFault {
     /// The role may meet both talks first and can't tell them apart, and doesn't do the same in both. `a` and `b` are
     /// their numbers, `a` the lesser one; `b` is None where the role may as well meet the end.
     Unmergeable { role: Role, a: u32, b: Option<u32> },
-    /// The session may come to the node and go round for ever, with the role left waiting. It is the least such node.
+    /// The session may reach the node and then loop for ever, with the role left waiting. It is the least such node.
     Unreached { role: Role, node: u32 },
     /// The role's machine has more than 1,024 states.
     TooManyStates { role: Role },
@@ -108,7 +108,7 @@ pub fn project(alloc: Global, protocol: &Protocol, role: Role) -> Result<Project
     Ok(projection)
 }
 
-// The projection, with room for so many states.
+// The projection, with room for this number of states.
 fn work(alloc: Global, survey: &Survey, room: usize) -> Result<Projection, ProjFault>
     requires reached { NoneUnreached survey.now.protocol survey.now.role }
     ensures ok { IfOk result (λ p. IsNumberedProjection survey.now.protocol survey.now.role p) }

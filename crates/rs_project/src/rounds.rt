@@ -1,4 +1,4 @@
-//! Where a session could go round without a role, told by two sweeps or by the cycles of rows.
+//! Where a session could loop for ever without a role: found by two sweeps, or by the cycles of rows.
 ghost use Rattle.std.specs.Prelude.{◌≡◌, ◌<◌, ◌≤◌, ◌&&◌, ℕ, [], true, false, length, slice_index_or, if◌then◌else◌, IfOk, MatchOption};
 ghost use Rattle.rs_project.specs.Graph.{IsUnreached};
 ghost use Rattle.rs_project.specs.Marks.{AreRows, IsLive, nexts_of_node};
@@ -69,7 +69,7 @@ fn common(alloc: Global, ours: &[bool], theirs: &[bool]) -> Result<Vec<bool>, No
     Ok(both)
 }
 
-// A row for each node, with the numbers behind its arms where it is flagged.
+// A row for each node, with the numbers to which its arms lead, if the node is flagged.
 fn rows_of(alloc: Global, protocol: &Protocol, flags: &[bool]) -> Result<Vec<NodeRow>, NoMemory>
     requires { length flags.now ≡ length protocol.now.nodes }
     ensures { IfOk result (λ v. AreRows protocol.now flags.now (length protocol.now.nodes) v.items) }

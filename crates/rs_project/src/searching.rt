@@ -37,7 +37,7 @@ impl<'a> Model for Search<'a> {
 }
 
 impl<'a> Search<'a> {
-    /// Nothing is found yet; there is room for so many fronts.
+    /// Nothing is found yet; there is room for this number of fronts.
     pub fn new(alloc: Global, survey: &'a Survey<'a>, room: usize) -> Result<Search<'a>, NoMemory>
         ensures survey { IfOk result (λ s. s.survey ≡ survey.now) }
         ensures none { IfOk result (λ s. s.fronts ≡ []) }

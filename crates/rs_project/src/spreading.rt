@@ -55,7 +55,7 @@ impl Marks {
         flags
     }
 
-    /// Marks the nodes to which the starts spread, and no others: along the arms of the nodes whose flag in `through` stands.
+    /// Marks the nodes to which the starts spread, and no others: along the arms of the nodes whose flag in `through` is set.
     pub fn spread(
         &mut self,
         protocol: &Protocol,
@@ -144,7 +144,7 @@ impl Marks {
         self.numbers.len()
     }
 
-    // The node that was marked after so many others.
+    // The node that was marked after n others.
     fn nth(&self, place: usize) -> u32
         requires { place < length self.now.numbers }
         ensures { result ≡ slice_index_or self.now.numbers place 0 }
@@ -161,7 +161,7 @@ impl Marks {
         Ok(())
     }
 
-    // Takes all marks back, and has room for those of so many nodes.
+    // Takes all marks back, and has room for those of n nodes.
     fn clear(&mut self, count: usize) -> Result<(), NoMemory>
         ensures size { OnOk result (length self.new.flags ≡ count) }
         ensures none { OnOk result ((n : ℕ) → IsOn self.new.flags n → ⊥) }
@@ -183,7 +183,7 @@ fn take_back(flags: &mut Vec<bool>, numbers: &[u32])
     }
 }
 
-/// The nodes to which the starts spread: along the arms of the nodes whose flag in `through` stands.
+/// The nodes to which the starts spread: along the arms of the nodes whose flag in `through` is set.
 pub fn spread(
     alloc: Global,
     protocol: &Protocol,

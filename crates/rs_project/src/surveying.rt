@@ -529,7 +529,7 @@ fn has_next_on(arms: &[Arm], awaited: &[bool]) -> bool
     false
 }
 
-// The run that begins at a node that passes by the role ends where those behind its arms do, if they do at one node.
+// The run that begins at a node that passes by the role ends where the runs after its arms end, if all of them end at one node.
 fn go_on(arms: &[Arm], ends: &mut [u32], number: usize)
     requires run { All (λ a. a.next < length ends.old) arms.now }
     requires number { number < length ends.old }

@@ -102,7 +102,7 @@ ring_split long top nodes L pz fz oz pu fu ou hz z u longu topu hu fl come hl hc
     let r = prefix fl (sends u (fz ++ oz)) (recvs z hu.owed0) (recvs z hu.later) e (omega arith) in
     (r.0, r.1, r.2, c)
 
--- where a ring has more than L messages, its receiver's place is behind that of the sender
+-- where a ring has more than L messages, its receiver's place is after that of the sender
 pub ring_falls : (nodes L : ℕ) (long top longu topu : ℕ) (pz fz oz pu fu ou : List Item) (hz : Here long top nodes pz fz oz) (hu : Here longu topu nodes pu fu ou) (z u : ℕ) (fl taken : List Entry)
     → sends u pz ≡ taken ++ fl → fl ++ sends u (fz ++ oz) ≡ recvs z (fu ++ ou) → longu ≤ L → L < length fl → hu.at < hz.at
 ring_falls nodes L long top longu topu pz fz oz pu fu ou hz hu z u fl taken sent come hl hc =

@@ -1,4 +1,4 @@
--- Public: what can happen where each queue is a ring that holds at most so many messages, its capacity.
+-- Public: what can happen if each queue is a ring that holds at most `capacity` messages.
 use Rattle.std.specs.Prelude.{◌≡◌, ℕ, ◌<◌, List, [], ◌∷◌, Some, length}
 use Rattle.rs_model.specs.Data.{Machine_data}
 use Rattle.rs_model.specs.declared.graph.Arm.{Arm}
@@ -40,8 +40,8 @@ pub record IsStuck (machines : List Machine_data) (capacity : ℕ) (c : Configur
   pub no_step : (event : Event) (d : Configuration) → BoundedStep machines capacity c event d → ⊥
   pub not_ended : AllEnded machines c → ⊥
 
--- role p can go on: it stands in a `Puts` state and the ring to the state's peer has room, or in a `Takes` state and a
--- message from the state's peer is there
+-- role p can go on: it is in a `Puts` state and the ring to the state's peer has room, or in a `Takes` state and a
+-- message from the state's peer is in the queue
 pub data CanMoveWithin (machines : List Machine_data) (capacity : ℕ) (c : Configuration) (p : ℕ) : Type 0 where
   MayPut : (peer : Role) (arms : List Arm) → state_at machines c p ≡ Some (Puts peer arms)
       → length (c.queue p peer.0) < capacity → CanMoveWithin machines capacity c p

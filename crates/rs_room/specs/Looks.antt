@@ -17,7 +17,7 @@ use Rattle.rs_room.specs.Rings.{Bounded_data}
 use Rattle.rs_room.specs.declared.rings.BoundedFault.{BoundedFault}
 use Rattle.rs_room.specs.declared.rings.BoundedFault.TheVariants as bounded
 
--- whether the arm is there and the value is of its sort
+-- whether the arm exists and the value is of its sort
 abbrev pub is_right : Option Arm → Value → Bool
 is_right None value = false
 is_right (Some arm) value = fits value arm.sort
@@ -48,7 +48,7 @@ abbrev pub pair_of_receive : Bounded_data → Event → Option (Role × Role)
 pair_of_receive b (Send role arm value) = None
 pair_of_receive b (Receive role) = taking_by (state_at b.core.machines (configuration_of b.core) role.0) role
 
--- whether a role in that state can go on: its ring has room, or a message for it is there
+-- whether a role in that state can go on: its ring has room, or there is a message for it
 abbrev pub moves_by : ℕ → Option State → (ℕ → List Message) → (ℕ → List Message) → Bool
 moves_by capacity None out back = false
 moves_by capacity (Some Done) out back = false

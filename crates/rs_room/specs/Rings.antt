@@ -1,4 +1,4 @@
--- Public: a session over rings as `Bounded` keeps it, and what is told of its steps.
+-- Public: a session over rings as `Bounded` keeps it, and what is known of its steps.
 use Rattle.std.specs.Prelude.{◌≡◌, ◌≢◌, ◌⊎◌, ℕ, suc, ◌+◌, ◌<◌, ◌≤◌, List, [], Some, None, slice_index_or, length}
 use Rattle.rs_model.specs.Limits.{IsCapacity}
 use Rattle.rs_model.specs.Data.{Machine_data}
@@ -20,7 +20,7 @@ use Rattle.rs_room.specs.declared.rings.BoundedFault.{BoundedFault}
 use Rattle.rs_room.specs.declared.rings.BoundedRefused.{BoundedRefused}
 use Rattle.rs_room.specs.declared.rings.BoundedFault.TheVariants.{NotSending, NoArm, WrongSort, NotReceiving, QueueEmpty, NoMemory, QueueFull}
 
--- the session, the capacity of its rings, the room that its derivations tell, how many steps it has made, and for each
+-- the session, the capacity of its rings, the room that its derivations show, how many steps it has made, and for each
 -- sender a row of how many messages each receiver has taken from it
 pub record Bounded_data : Type 0 where
   pub core : Core_data
@@ -37,7 +37,7 @@ messages_taken b p q = count_for_pair b.taken p q
 abbrev pub messages_sent : Bounded_data → ℕ → ℕ → ℕ
 messages_sent b p q = messages_taken b p q + length ((configuration_of b.core).queue p q)
 
--- what holds of every session over rings: it is an accepted one, with the room that is told, it has come from the start by
+-- what holds of every session over rings: it is an accepted one, with the room that its derivations show, it has come from the start by
 -- bounded steps, and no ring holds more than its capacity
 pub record IsRingSession (b : Bounded_data) : Type 0 where
   pub session : Accepted_data
@@ -51,7 +51,7 @@ pub record IsRingSession (b : Bounded_data) : Type 0 where
   pub places : (p : ℕ) → p < length b.core.machines → length (slice_index_or b.taken p []) ≡ length b.core.machines
   pub bounded : (p q : ℕ) → messages_taken b p q ≤ b.steps
 
--- the event is a bounded step from c to d, and this is what is told of it
+-- the event is a bounded step from c to d, and this is what is known of it
 pub record HasSteppedWithin (machines : List Machine_data) (capacity : ℕ) (c : Configuration) (event : Event) (d : Configuration) (told : Stepped) : Type 0 where
   pub step : BoundedStep machines capacity c event d
   pub tells : HasStepped machines c event d told

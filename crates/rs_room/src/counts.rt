@@ -35,7 +35,7 @@ impl Model for PairCounts {
 }
 
 impl PairCounts {
-    /// Zero for each pair of so many roles.
+    /// Zero for each pair of roles.
     pub(crate) fn new(alloc: Global, roles: usize) -> Result<PairCounts, NoMemory>
         ensures { IfOk result (λ c. c ≡ replicate roles (replicate roles 0)) }
     {

@@ -14,7 +14,7 @@ ghost use Rattle.rs_room.specs.Bounded.{CanMoveWithin, CanStepWithin, HasBounded
 ghost use Rattle.rs_room.specs.Crossing.{crossing, derivations_of_crossing, machines_of_crossing, projections_of_crossing};
 ghost use Rattle.rs_safety.specs.Room.{room_of};
 
-/// Rings of the room that the derivations tell are enough. Wherever the machines come to, with such rings or with queues
+/// Rings of the room that the derivations show are enough. In each configuration that the machines reach, with such rings or with queues
 /// without bound, some role can go on or all have ended, and nothing is stuck; and a role that can go on has a bounded
 /// step.
 pub fn rings_of_this_room_are_enough()
@@ -32,7 +32,7 @@ pub fn rings_of_this_room_are_enough()
         → IsStuck machines capacity c → ⊥ }
 {}
 
-/// Only who can go on has a bounded step.
+/// Only a role that can go on has a bounded step.
 pub fn who_has_a_bounded_step_can_go_on()
     ensures { (machines : List Machine_data) (capacity : ℕ) (c : Configuration) (p : ℕ) → HasBoundedStep machines capacity c p → CanMoveWithin machines capacity c p }
 {}

@@ -34,7 +34,7 @@ pub enum BoundedFault {
     QueueEmpty,
     /// Memory that was asked for was refused.
     NoMemory,
-    /// The ring to the state's peer is full: so many messages were put into it since the start, and so many taken from
+    /// The ring to the state's peer is full: this number of messages was put into it since the start, and so many taken from
     /// it.
     QueueFull { sent: u64, taken: u64 },
 }
@@ -46,8 +46,8 @@ pub struct BoundedRefused {
     pub event: Event,
 }
 
-/// A session over rings: the machines of an accepted session, and where they stand. Each ordered pair of roles has a ring
-/// that holds at most so many messages.
+/// A session over rings: the machines of an accepted session, and their states. Each ordered pair of roles has a ring
+/// that holds at most `capacity` messages.
 #[derive(Drop)]
 pub struct Bounded {
     core: Core,
@@ -94,7 +94,7 @@ impl Bounded {
         })
     }
 
-    /// The machines, in role order. They are those of an accepted session, and have come to where they stand by bounded
+    /// The machines, in role order. They are those of an accepted session, and have reached their states by bounded
     /// steps: all that `IsRingSession` says.
     pub fn machines(&self) -> &[Machine]
         ensures machines { result.now ≡ self.now.core.machines }
@@ -178,7 +178,7 @@ impl Bounded {
         self.machines.len() as u8
     }
 
-    /// The state in which the role's machine stands.
+    /// The state of the role's machine.
     fn here(&self, role: Role) -> Option<&State>
         requires present { role.0 < length self.now.core.machines }
         ensures state { MatchOption result (state_at self.now.core.machines (configuration_of self.now.core) role.0 ≡ None)
@@ -253,7 +253,7 @@ impl Bounded {
     }
 }
 
-/// Whether the arm is there and the value is of its sort.
+/// Whether the arm exists and the value is of its sort.
 fn is_right(arms: &[Arm], place: u16, value: &Value) -> bool
     ensures { result ≡ is_right (slice_get arms.now place) value.now }
 {

@@ -37,7 +37,7 @@ pub record Parts (pr : Protocol_data) (ms : List Machine_data) (f : ℕ → ℕ 
   pub projected : (p : ℕ) → p < pr.roles → IsProjection pr (numbered p) (projection p)
   pub follower : (p : ℕ) → p < pr.roles → Follower (machine p) (projection p).machine (f p) bound
 
--- a path of so many talks, with each role's seat
+-- a path of n talks, with each role's seat
 pub record Built (pr : Protocol_data) (ms : List Machine_data) (f : ℕ → ℕ → ℕ) (bound : ℕ) (parts : Parts pr ms f bound) (n : ℕ) : Type 0 where
   pub trail : List StraightTalk
   pub node : ℕ
@@ -95,7 +95,7 @@ more_talk pr ms f bound parts n b x y theirs ng =
       ];
     }
 
--- a path of so many talks, or a path at whose end every role is done
+-- a path of n talks, or a path at whose end every role is done
 pub data Growth (pr : Protocol_data) (ms : List Machine_data) (f : ℕ → ℕ → ℕ) (bound : ℕ) (parts : Parts pr ms f bound) (n : ℕ) : Type 0 where
   Full : Built pr ms f bound parts n → Growth pr ms f bound parts n
   Halt : (m : ℕ) (b : Built pr ms f bound parts m)

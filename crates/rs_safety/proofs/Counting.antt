@@ -11,7 +11,7 @@ use Rattle.rs_safety.specs.Figures.{figures_of, lag_by, room_by}
 use Rattle.rs_safety.specs.Room.{longest, lag, room_of}
 use Rattle.rs_safety.specs.declared.rooms.Figures.{Figures}
 
--- the first so many are counted
+-- the first n are counted
 pub record CountsTo (fs : List Figures) (count owed late : ℕ) : Type 0 where
   pub owes : greatest (map (λ (f : Figures). f.owed) (drop count fs)) owed ≡ greatest (map (λ (f : Figures). f.owed) fs) 0
   pub lags : greatest (map lag_by (drop count fs)) late ≡ greatest (map lag_by fs) 0

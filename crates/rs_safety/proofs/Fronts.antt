@@ -83,7 +83,7 @@ through pr p sets t g a k pass goes only s =
     back_end (Rests idle) = absurd (pass.awaited idle)
     back_end (Later a' k' pass' goes' m') = let P : ℕ → Type 0 = λ z. MeetsTheEnd pr p z in subst P (only a' k' goes') m'
 
--- behind a label that leads to one node
+-- after a label that leads to one node
 pub behind_set : (pr : Protocol_data) (p : Role) (sets : List (List ℕ)) (t : ℕ) (members : List ℕ) (l : Label) (k : ℕ) → LeadsOn pr members l k
     → ((n : ℕ) → LeadsOn pr members l n → n ≡ k) → IsSet sets t (MeetsFirst pr p k) (MeetsTheEnd pr p k)
     → IsSet sets t (MeetsBehind pr p members l) (EndsBehind pr p members l)

@@ -36,7 +36,7 @@ abbrev pub Free : Item → List Item → Type 0
 Free (Give k q l so) xs = sends q.0 xs ≡ []
 Free (Get k q l so) xs = (recvs q.0 xs ≡ []) × Each IsGet xs
 
--- x hops over xs, behind ds
+-- x hops over xs, after ds
 abbrev pub before_hop : List Item → List Item → Item → List Item → List Item
 before_hop ds xs x ys = ds ++ (xs ++ (x ∷ ys))
 
@@ -167,7 +167,7 @@ ordered_push (Get k r l so ∷ xs) (Get k' r' l' so') b h = (each_append (Above 
 pub below_push : (xs : List Item) (x : Item) (n : ℕ) → place_of x ≡ n → Below n xs → Below (suc n) (xs ++ (x ∷ []))
 below_push xs x n e b = each_append (λ z. place_of z < suc n) xs (x ∷ []) (each_more (λ z. place_of z < n) (λ z. place_of z < suc n) xs (λ z h. omega arith) b) (omega arith, tt)
 
--- the place behind the last item, from s on
+-- the place after the last item, from s on
 abbrev pub seen : ℕ → List Item → ℕ
 seen s [] = s
 seen s (x ∷ xs) = seen (suc (place_of x)) xs

@@ -10,7 +10,7 @@ use Rattle.rs_project.specs.Projection.{choice_of}
 abbrev pub StandAlike : Projection_data → Projection_data → ℕ → ℕ → Type 0
 StandAlike one other s t = (members : List ℕ) × (slice_get one.sets s ≡ Some members) × (slice_get other.sets t ≡ Some members)
 
--- the arms say the same, in the same order, and lead to states that stand alike
+-- the arms say the same, in the same order, and lead to states that stand for the same talks
 pub record LeadAlike (one other : Projection_data) (arms theirs : List Arm) : Type 0 where
   pub choices : map choice_of arms ≡ map choice_of theirs
   pub nexts : (place : ℕ) (x y : Arm) → slice_get arms place ≡ Some x → slice_get theirs place ≡ Some y
@@ -24,7 +24,7 @@ pub data ActAlike (one other : Projection_data) (s t : ℕ) : Type 0 where
   BothTake : (peer : Role) (arms theirs : List Arm) → slice_get one.machine.states s ≡ Some (Takes peer arms)
       → slice_get other.machine.states t ≡ Some (Takes peer theirs) → LeadAlike one other arms theirs → ActAlike one other s t
 
--- their first states stand alike, and where two states stand alike they act alike
+-- their first states stand for the same talks, and two states that stand for the same talks have the same acts
 pub record AreAlike (one other : Projection_data) : Type 0 where
   pub starts : StandAlike one other one.machine.start other.machine.start
   pub acts : (s t : ℕ) → StandAlike one other s t → ActAlike one other s t

@@ -43,7 +43,7 @@ abbrev pub rounds_for_a : Projection_data
 rounds_for_a =
     projection_with a (Puts b (to 0 1 ∷ to 1 2 ∷ []) ∷ Puts c (to 2 0 ∷ []) ∷ Puts c (to 3 3 ∷ []) ∷ Done ∷ []) ((0 ∷ []) ∷ (1 ∷ []) ∷ (2 ∷ []) ∷ [] ∷ [])
 
--- onto B: what B first meets behind `more` is the first talk again
+-- onto B: what B first meets after `more` is the first talk again
 abbrev pub rounds_for_b : Projection_data
 rounds_for_b = projection_with b (Takes a (to 0 0 ∷ to 1 1 ∷ []) ∷ Done ∷ []) ((0 ∷ []) ∷ [] ∷ [])
 
@@ -55,7 +55,7 @@ rounds_for_c = projection_with c (Takes a (to 2 0 ∷ to 3 1 ∷ []) ∷ Done �
 abbrev pub projections_of_rounds : List Projection_data
 projections_of_rounds = rounds_for_a ∷ rounds_for_b ∷ rounds_for_c ∷ []
 
--- `A->B{x(). A->C:z(). end, y(). end}`: C isn't told that there is nothing for it
+-- `A->B{x(). A->C:z(). end, y(). end}`: C gets no message that says that there is nothing for it
 abbrev pub not_told : Protocol_data
 not_told = record { roles = 3; nodes = Talk a b (to 0 1 ∷ to 1 2 ∷ []) ∷ Talk a c (to 2 2 ∷ []) ∷ Finished ∷ []; root = 0 }
 

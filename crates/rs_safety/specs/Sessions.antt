@@ -24,7 +24,7 @@ pub record IsSession (protocol : Protocol_data) (projections : List Projection_d
   pub a_machine_each : length machines ≡ protocol.roles
   pub machines_fit : AreWellFormed machines
 
--- what is to be a derivation for each of so many roles, in role order: each has a bound from 1 to 64 and fewer than 2^32
+-- what is to be a derivation for each of the first n roles, in role order: each has a bound from 1 to 64 and fewer than 2^32
 -- nodes
 pub record AreOneEach (roles : ℕ) (derivations : List Derivation_data) : Type 0 where
   pub many : length derivations ≡ roles

@@ -116,7 +116,7 @@ fn first_refused(
     None
 }
 
-/// Accepts the machines where each role's derivation shows that its machine may stand for its projection: then they are
+/// Accepts the machines if each role's derivation shows that its machine may stand for its projection: then they are
 /// safe.
 ///
 /// The error names the first role whose derivation is refused, with the derivation's first fault, and hands everything back.

@@ -275,7 +275,7 @@ placed_none places count e = record {
 
 -- where what owes an act comes from
 
--- each spot that owes an act comes from the even spot at its state, one of the first so many
+-- each spot that owes an act comes from the even spot at its state, one of the first n
 abbrev pub AreSources : List Spot → ℕ → Type 0
 AreSources found count = (x : Spot) → Among found x → x.pending ≢ [] → (k : ℕ) × (k < count) × (slice_get found k ≡ Some (even x.state))
 

@@ -5,7 +5,7 @@ use Rattle.rs_graph.specs.Lists.{Among}
 use Rattle.rs_model.proofs.Chains as chains
 use Rattle.rs_model.specs.Chains.{AllAreChained, IsChained}
 
--- what stands in a chain behind a number that isn't it
+-- what stands in a chain after a number that isn't it
 pub chained_on : (links : List ℕ) (m next n : ℕ) → IsChained links (suc m) n → slice_get links m ≡ Some next → n ≢ m → IsChained links next n
 chained_on links m next n c e ne = elim (chains.chained_on links m next n c e) [ inl q ↦ absurd (ne q) | inr d ↦ d ]
 

@@ -24,7 +24,7 @@ among_or_not same (y ∷ xs) x = elim (same y x) [
   ]
 ]
 
--- the first so many of these are named
+-- the first n of these are named
 record Named {X : Type 0} (old ys : List X) (i : ℕ) : Type 0 where
   pub new : List X
   pub row : List ℕ

@@ -82,7 +82,7 @@ known_within new after known row h =
     let s = at_short new known h.node h.stood in
     let l = ap (λ (z : List DNode_data). length z) h.new_is ∙ length-set new known (node_at_spot (spot_of h.node) h.node.rank row) in omega arith
 
--- the first so many nodes have their nexts
+-- the first n nodes have their nexts
 pub record AreMadeTo (m : Machine_data) (nodes : List DNode_data) (known : ℕ) : Type 0 where
   pub made : AreMade m (spots_of nodes) (take known nodes)
   pub unranked : AreUnranked nodes

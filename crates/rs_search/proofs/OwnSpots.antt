@@ -24,7 +24,7 @@ use Rattle.rs_search.proofs.Choices.{among_map}
 use Rattle.rs_search.specs.Itself.{IsOfItself, Even, Owes, even}
 use Rattle.rs_search.specs.OwnSpots.{owing_at}
 
--- lists one behind the other
+-- lists one after the other
 
 has_right : {X : Type 0} (xs ys : List X) (x : X) → Among ys x → Among (xs ++ ys) x
 has_right [] ys x h = h

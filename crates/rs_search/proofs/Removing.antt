@@ -72,7 +72,7 @@ record IsLost (outs : List (List (List ℕ))) (order : List ℕ) (rem : Removing
   pub new : Among order node → ⊥
   pub none : (stand outs order rem node).place ≡ moves_at outs node
 
--- of the first so many nodes those that have no move left are removed
+-- of the first n nodes those that have no move left are removed
 abbrev AllGone : (outs : List (List (List ℕ))) (order : List ℕ) → Removing outs order → ℕ → Type 0
 AllGone outs order rem count = (n : ℕ) → n < count → (stand outs order rem n).place ≡ moves_at outs n → Among order n
 

@@ -66,7 +66,7 @@ on_cycle_or_not rows inside i h =
     within _ Begin = h
     within _ (Step x y r m) = inside x y m
 
--- the least number on a cycle, or none of the first so many is on one
+-- the least number on a cycle, or none of the first n is on one
 least_or_none : (rows : List (List ℕ)) → ((n r : ℕ) → Edge rows n r → r < length rows) → (count : ℕ) → count ≤ length rows
     → ((i : ℕ) × IsLeastOnCycle (Edge rows) i) ⊎ ((i : ℕ) → i < count → IsOnCycle (Edge rows) i → ⊥)
 least_or_none rows inside zero h = inr (λ i lt. let bad : ⊥ = omega arith in absurd bad)

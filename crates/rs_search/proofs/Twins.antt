@@ -1,4 +1,4 @@
--- Of a guess two of whose arms survive no derivation remembers what is owed: the machine can send to that peer behind
+-- Of a guess two of whose arms survive no derivation remembers what is owed: the machine can send to that peer after
 -- neither, since each would want another label, and so it goes on for ever without.
 use Rattle.std.proofs.Common.{◌≡◌, ◌≢◌, inl, inr, ℕ, ◌+◌, ◌<◌, ◌≤◌, true, not, List, [], ◌∷◌, ◌++◌, length, map, refl, sym, ap, ◌∙◌, subst, arith, zero, suc, Some, None, Option, slice_get}
 use Rattle.std.proofs.Common.{length-append, eqb}
@@ -27,7 +27,7 @@ use Rattle.rs_search.proofs.Surviving.{result_named}
 use Rattle.rs_search.proofs.Verdicts.{candidate_short}
 use Rattle.rs_search.specs.Survives.{IsSupported, Survives}
 
--- what is owed before one act, and behind it
+-- what is owed before one act, and after it
 
 get_front : (xs ys : List Act) (i : ℕ) → i < length xs → slice_get (xs ++ ys) i ≡ slice_get xs i
 get_front [] ys i h = let bad : ⊥ = omega arith in absurd bad
@@ -77,7 +77,7 @@ free_front front later kind q place le f i a e = let s = at_short front i a e in
 absent_front : (front later : List Act) (kind : ActKind) (q : Role) → IsAbsent (front ++ later) kind q → IsAbsent front kind q
 absent_front front later kind q f i a e = f i a (get_front front later i (at_short front i a e) ∙ e)
 
--- what a move does while a send is owed behind other acts
+-- what a move does while a send is owed after other acts
 data Goes (sub : Machine_data) (p : Spot) (front : List Act) (peer : Role) (label : Label) (sort : Sort) (makes : Option ℕ) (results : List Spot) : Type 0 where
   -- the machine stays where it is, and owes one act more
   Stays : (res : Spot) (more : List Act) → Among results res → res.state ≡ p.state → res.pending ≡ front ++ act.Puts peer label sort ∷ more → length p.pending < length res.pending → makes ≡ None
@@ -510,7 +510,7 @@ no_twins : (sub above : Machine_data) (bound : ℕ) (d : Derivation_data) → Is
 no_twins sub above bound d ws wa v rem zero ranks owes t = let a = t.bounded in let bad : ⊥ = omega arith in bad
 no_twins sub above bound d ws wa v rem (suc fronts) ranks owes t = by_rank sub above bound d ws wa v rem fronts (λ r o u. no_twins sub above bound d ws wa v rem fronts r o u) ranks owes t
 
--- a node of a derivation that remembers has sent by one arm, and what is behind another arm doesn't survive
+-- a node of a derivation that remembers has sent by one arm, and what is after another arm doesn't survive
 pub one_arm : (sub above : Machine_data) (bound : ℕ) (d : Derivation_data) → IsProper sub → IsProper above → IsDerivation d sub above → Remembers d sub above → (i : ℕ) (n : DNode_data)
     → slice_get d.nodes i ≡ Some n
     → (p : Spot) (peer : Role) (a b : Arm) → spot_of n ≡ owing_send p peer a → Survives sub above bound (owing_send p peer b) → (a.label ≡ b.label → ⊥) → ⊥

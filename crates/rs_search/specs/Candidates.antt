@@ -31,7 +31,7 @@ pub record MeetsACut (sub above : Machine_data) (bound : ℕ) (p : Spot) : Type 
   pub among : Among results result
   pub longer : bound < length result.pending
 
--- the candidates number more than the limit: more than so many different ones are listed
+-- there are more candidates than the limit: more than that number of different ones are listed
 pub record AreMoreThan (sub above : Machine_data) (bound limit : ℕ) : Type 0 where
   pub spots : List Spot
   pub each : (p : Spot) → Among spots p → IsCandidate sub above bound p

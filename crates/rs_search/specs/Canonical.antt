@@ -50,7 +50,7 @@ pub record SomeCut (sub above : Machine_data) (bound : ℕ) : Type 0 where
   pub candidate : IsCandidate sub above bound spot
   pub cut : MeetsACut sub above bound spot
 
--- the start doesn't survive; cut tells whether some candidate meets a cut
+-- the start doesn't survive; cut is whether some candidate meets a cut
 pub record IsNotFound (sub above : Machine_data) (bound : ℕ) (cut : Bool) : Type 0 where
   pub bounded : AreMoreThan sub above bound MOST_CANDIDATES → ⊥
   pub dies : Survives sub above bound (start_spot sub above) → ⊥

@@ -10,7 +10,7 @@ use Rattle.rs_graph.specs.Order.{Worked}
 use Rattle.rs_search.specs.Canonical.{IsCanonical}
 use Rattle.rs_search.specs.declared.figures.OwnFigures.{OwnFigures}
 
--- the numbers of the states behind the arms of a state
+-- the numbers of the states after the arms of a state
 abbrev pub states_behind : State → List ℕ
 states_behind Done = []
 states_behind (Puts peer arms) = map (λ (a : Arm). a.next) arms

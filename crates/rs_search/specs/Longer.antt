@@ -16,7 +16,7 @@ pub record IsLonger (old new : List DNode_data) : Type 0 where
   pub kept : (i : ℕ) (n : DNode_data) → slice_get old i ≡ Some n → slice_get new i ≡ Some n
   pub unranked : AreUnranked old → AreUnranked new
 
--- the node at the number leads to these, and else nothing changed
+-- the node at the number leads to these, and nothing else changed
 pub record HasGotNexts (old : List DNode_data) (number : ℕ) (row : List ℕ) (new : List DNode_data) : Type 0 where
   pub node : DNode_data
   pub stood : slice_get old number ≡ Some node

@@ -6,7 +6,7 @@ use Rattle.rs_model.specs.declared.machines.State.TheVariants.{Done, Puts, Takes
 use Rattle.rs_derive.specs.Moves.{Spot, owing_receive}
 use Rattle.rs_search.specs.Itself.{even}
 
--- the spots at which an act is owed while the machine is at the state: behind each arm by which the projection has received
+-- the spots at which an act is owed while the machine is at the state: one after each arm by which the projection has received
 abbrev pub owing_at : ℕ → State → List Spot
 owing_at s Done = []
 owing_at s (Puts q arms) = []

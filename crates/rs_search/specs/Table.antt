@@ -22,7 +22,7 @@ codes_in entries = map (λ (e : Entry). e.code) entries
 abbrev pub links_of : List Entry → List ℕ
 links_of entries = map (λ (e : Entry). e.link) entries
 
--- each node is found by the code of what it owes, and so many have their nexts
+-- each node is found by the code of what it owes, and n have their nexts
 pub record IsTable (nodes : List DNode_data) (heads : List ℕ) (entries : List Entry) (known : ℕ) : Type 0 where
   pub within : known ≤ length nodes
   pub coded : codes_in entries ≡ codes_of (spots_of nodes)
@@ -30,7 +30,7 @@ pub record IsTable (nodes : List DNode_data) (heads : List ℕ) (entries : List 
   pub bounded : length heads < 2 ^ 32
   pub chained : AllAreChained (bucket_of_spot (length heads)) (spots_of nodes) heads (links_of entries)
 
--- so many buckets may be made
+-- n buckets may be made
 pub record IsBucketCount (size : ℕ) : Type 0 where
   pub some : 0 < size
   pub bounded : size < 2 ^ 32
@@ -41,7 +41,7 @@ pub record GoesBefore (heads : List ℕ) (bucket : ℕ) (node : DNode_data) (ent
   pub its : bucket ≡ bucket_of_spot (length heads) (spot_of node)
   pub link : entry.link ≡ slice_index_or heads bucket 0
 
--- the node was added, and filed in one of so many buckets
+-- the node was added, and filed in one of n buckets
 pub record IsFiled (nodes new : List DNode_data) (entries entries' : List Entry) (heads : List ℕ) (size : ℕ) (node : DNode_data) (entry : Entry) : Type 0 where
   pub nodes_are : new ≡ nodes ++ node ∷ []
   pub codes : codes_in entries' ≡ codes_in entries ++ entry.code ∷ []
@@ -63,7 +63,7 @@ pub record StandsWithin (spots : List Spot) (k limit : ℕ) : Type 0 where
 abbrev pub IsWithinAt : List Spot → ℕ → EdgeTarget → Type 0
 IsWithinAt spots k target = (p : Spot) → slice_get spots k ≡ Some p → IsPlaceWithin (length p.pending) target.change
 
--- the spot of the target from spot k was named: it was there, or stands at the end
+-- the spot of the target from spot k was named: the table had it, or it is now at the end
 abbrev pub AddsAt : List Spot → ℕ → EdgeTarget → List Spot → Type 0
 AddsAt old k target new = (p : Spot) → slice_get old k ≡ Some p → Adds old (target_spot p.pending target) new
 
@@ -71,7 +71,7 @@ AddsAt old k target new = (p : Spot) → slice_get old k ≡ Some p → Adds old
 abbrev pub IsNamedAt : List Spot → ℕ → EdgeTarget → List Spot → ℕ → Type 0
 IsNamedAt old k target new n = (p : Spot) → slice_get old k ≡ Some p → IsNamed old (target_spot p.pending target) new n
 
--- what is named by the old row is named by the new one, and behind it those to which the spot k leads
+-- the new row names what the old row names, and then the spots to which the spot k leads
 abbrev pub NamesMore : (Spot → List Spot) → List Spot → ℕ → List Spot → List ℕ → List ℕ → Type 0
 NamesMore more old k new row row' = (p : Spot) → slice_get old k ≡ Some p → (first named : List Spot) → AreNamed first named old row → AreNamed first (named ++ more p) new row'
 

@@ -16,12 +16,12 @@ use Rattle.rs_prefix.specs.declared.earliest.ActKind.{ActKind}
 use Rattle.rs_prefix.specs.declared.earliest.ActKind.TheVariants.{Send, Receive}
 use Rattle.rs_search.specs.declared.turns.SpotMoves.{SpotMoves}
 
--- no label stands at two arms, of the machine and of the projection
+-- no two arms of the machine have the same label, and no two arms of the projection
 pub record BothHaveLabelsOnce (arms theirs : List Arm) : Type 0 where
   pub ours : HasLabelsOnce arms
   pub theirs_too : HasLabelsOnce theirs
 
--- any: each of the spots is a move of its own; else all together are the one move. keeps: its edges keep the oldest act that is owed. cut: the bound takes the moves away
+-- any: each of the spots is a move of its own; otherwise all together are one move. keeps: its edges keep the oldest act that is owed. cut: the bound takes the moves away
 pub record Turn_data : Type 0 where
   pub cut : Bool
   pub any : Bool
@@ -32,12 +32,12 @@ pub record Turn_data : Type 0 where
 abbrev pub no_turn : Bool → Turn_data
 no_turn cut = record { cut = cut; any = true; keeps = false; spots = [] }
 
--- where one next is due, it may be any of its spots; else there is one spot for each next
+-- if one next is due, it may be any of its spots; otherwise there is one spot for each next
 abbrev pub turn_of : Option Due → Turn_data
 turn_of None = no_turn false
 turn_of (Some d) = record { cut = false; any = length d.nexts == 1; keeps = d.keeps; spots = concat d.nexts }
 
--- some of the spots owes more than so many acts
+-- one of the spots owes more than n acts
 abbrev pub owes_more : ℕ → List Spot → Bool
 owes_more bound spots = list_any (λ (r : Spot). nat_lt bound (length r.pending)) spots
 
@@ -90,11 +90,11 @@ abbrev pub spots_by : Spot → List Arm → List Arm → Option Rule → List Sp
 spots_by p arms theirs None = []
 spots_by p arms theirs (Some rule) = concat (nexts_by p arms theirs rule)
 
--- the turn of a spot by what the code tells of it
+-- the turn of a spot, from what the code returns for it
 abbrev pub turn_by_code : Spot → List Arm → List Arm → SpotMoves → Turn_data
 turn_by_code p arms theirs t = record { cut = t.cut; any = t.any; keeps = t.keeps; spots = spots_by p arms theirs t.rule }
 
--- the spot behind an arm by which the projection has sent or received
+-- the spot after an arm by which the projection has sent or received
 abbrev pub owing_by : ActKind → Spot → Role → Arm → Spot
 owing_by Send p r b = owing_send p r b
 owing_by Receive p r b = owing_receive p r b

@@ -18,7 +18,7 @@ pub struct OwnFigures {
 }
 
 /// The figures of the canonical derivation of a machine from itself, which is the same within each bound that allows one
-/// act to be owed. There is none where the search would come to too many candidates.
+/// act to be owed. Returns none if the search would find too many candidates.
 pub fn own_figures(machine: &Machine) -> Option<OwnFigures>
     requires proper { IsProper machine.now }
     requires order { AreStatesInOrder machine.now }

@@ -46,8 +46,8 @@ fn rank_of(keeps: bool, number: usize, table: &SpotTable) -> Option<u32>
     }
 }
 
-/// Gives each spot the greatest length of a walk of kept edges from it, where all of these lead to greater numbers; else
-/// no rank means anything.
+/// Gives each spot its rank, the greatest length of a walk of kept edges from it, and returns true. If some kept edge
+/// doesn't lead to a greater number, it returns false, and no rank means anything.
 pub fn forward_ranks(keeps: &[bool], table: &mut SpotTable) -> bool
     requires bounded { length table.old.rows < 2 ^ 32 }
     requires known { length table.old.rows ≡ length table.old.spots }

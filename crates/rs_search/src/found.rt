@@ -28,9 +28,12 @@ use rs_model::{Arm, MOST_CANDIDATES, MOST_STATES, Machine, NoMemory, Role, State
 use rs_prefix::ActKind;
 use std::alloc::{AllocError, AllocFailed, Global};
 
+/// Why the search for candidates stopped before all were found.
 #[derive(Drop, Debug)]
 pub enum SearchStop {
+    /// There are more than `MOST_CANDIDATES` candidates.
     TooLarge,
+    /// Memory ran out.
     Memory,
 }
 
@@ -64,21 +67,27 @@ impl From<NoMemory> for SearchStop {
     }
 }
 
-/// The candidates with the numbers of what each leads to, of each whether it may choose among them and whether its edges
-/// keep the oldest act that is owed, and whether some candidate meets a cut, and whether some one chooses.
+/// The candidates: all spots that the start reaches within the bound, and what each leads to.
 #[derive(Drop, Debug)]
 pub struct Candidates {
+    /// The spots by their numbers, each with the row of the numbers that it leads to.
     pub table: SpotTable,
+    /// For each spot whether it may choose one number of its row. Otherwise its move leads to all of them.
     pub anys: Vec<bool>,
+    /// For each spot whether its edges keep the oldest act that is owed.
     pub keeps: Vec<bool>,
+    /// Whether some candidate meets a cut: the bound takes its moves away.
     pub cut: bool,
+    /// Whether some candidate may choose.
     pub choosing: bool,
 }
 
-/// What a spot leads to: the number of one spot, or those of several.
+/// What a spot leads to: one spot, which needs no row, or several.
 #[derive(Drop, Debug)]
 pub enum Nexts {
+    /// The number of the one spot.
     One(u32),
+    /// The numbers of the spots, in the order of the arms.
     Several(NodeRow),
 }
 
@@ -145,7 +154,7 @@ fn name_one(
     Ok(n)
 }
 
-// The number of the spot behind the act that is owed at the place.
+// The number of the spot to which making the act that is owed at the place leads.
 #[inline(always)]
 fn name_paid(
     alloc: Global,
@@ -166,7 +175,7 @@ fn name_paid(
     name_one(alloc, table, k, target, limit)
 }
 
-// The numbers of the spots behind arms by which the projection has sent or received.
+// The numbers of the spots after arms by which the projection has sent or received.
 #[inline(always)]
 fn name_owing(
     alloc: Global,
@@ -224,7 +233,7 @@ fn name_each_owing(
     Ok(row)
 }
 
-// Adds the number of the spot behind an arm that both send to the row, where the projection has the arm.
+// Adds the number of the spot after an arm that both send to the row, if the projection has the arm.
 #[inline(always)]
 fn name_if(
     alloc: Global,
@@ -251,7 +260,7 @@ fn name_if(
     }
 }
 
-// The numbers of the spots behind arms that both send, arm by arm.
+// The numbers of the spots after arms that both send, arm by arm.
 fn name_both(
     alloc: Global,
     table: &mut SpotTable,
@@ -276,7 +285,7 @@ fn name_both(
     Ok(row)
 }
 
-// The number of the spot behind an arm that both send, where the projection has the arm.
+// The number of the spot after an arm that both send, if the projection has the arm.
 #[inline(always)]
 fn name_one_sent(
     alloc: Global,
@@ -305,7 +314,7 @@ fn name_one_sent(
     }
 }
 
-// The numbers of the spots behind arms that both send; one arm needs no row.
+// The numbers of the spots after arms that both send; one arm needs no row.
 #[inline(always)]
 fn name_sent(
     alloc: Global,

@@ -33,7 +33,7 @@ fn even_node(alloc: Global, state: u32) -> DNode
     }
 }
 
-// The node behind an arm by which the projection has received, without its nexts.
+// The node after an arm by which the projection has received, without its nexts.
 #[inline(always)]
 fn owing_node(alloc: Global, state: u32, peer: Role, arm: Arm) -> Result<DNode, NoMemory>
     ensures spot { IfOk result (λ n. spot_of n ≡ owing_receive (even state) peer arm) }
@@ -113,7 +113,7 @@ fn lead_to_one(
     Ok(())
 }
 
-// Leads the node to those behind arms that both send.
+// Leads the node to those after arms that both send.
 #[inline(always)]
 fn lead_to_all(
     alloc: Global,
@@ -138,7 +138,7 @@ fn lead_to_all(
     }
 }
 
-// The numbers of the nodes behind arms that both send.
+// The numbers of the nodes after arms that both send.
 fn come_to_each(
     alloc: Global,
     nodes: &mut Vec<DNode>,
@@ -159,7 +159,7 @@ fn come_to_each(
     Ok(row)
 }
 
-// Adds the node behind an arm by which the projection receives.
+// Adds the node after an arm by which the projection receives.
 #[inline(always)]
 fn owe(
     alloc: Global,
@@ -184,7 +184,7 @@ fn owe(
     Ok(n as u32)
 }
 
-// Leads the node to the one behind an arm by which the projection receives, which is new.
+// Leads the node to the one after an arm by which the projection receives, which is new.
 #[inline(always)]
 fn lead_to_owing(
     alloc: Global,
@@ -205,7 +205,7 @@ fn lead_to_owing(
     Ok(())
 }
 
-// Leads the node to those behind arms by which the projection receives, which are all new.
+// Leads the node to those after arms by which the projection receives, which are all new.
 #[inline(always)]
 fn lead_to_all_owing(
     alloc: Global,
@@ -232,7 +232,7 @@ fn lead_to_all_owing(
     }
 }
 
-// The numbers of the nodes behind arms by which the projection receives, which are all new.
+// The numbers of the nodes after arms by which the projection receives, which are all new.
 fn owe_each(
     alloc: Global,
     nodes: &mut Vec<DNode>,
@@ -313,7 +313,7 @@ fn lead_on(
     Ok(())
 }
 
-// How many nodes there are where all states are met: one for each state, and one for each arm of a receive.
+// The number of nodes if all states are met: one for each state, and one for each arm of a receive.
 fn usual_size(states: &[State]) -> usize {
     let mut size = states.len();
     for state in states {

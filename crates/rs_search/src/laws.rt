@@ -32,8 +32,8 @@ pub fn answers_are_one()
     ensures bounded { (sub above : Machine_data) (bound : ℕ) (d : Derivation_data) → IsCanonical sub above bound d → length d.nodes ≤ MOST_CANDIDATES }
 {}
 
-/// The start is a candidate, and no candidate owes more than the bound. The start survives where it is that of a
-/// canonical derivation, as two machines that have ended have one; it doesn't where it has no move.
+/// The start is a candidate, and no candidate owes more than the bound. The start survives if a canonical derivation
+/// begins there, as it does for two machines that have ended; it doesn't if it has no move.
 pub fn survivors_are_some()
     ensures start { (sub above : Machine_data) (bound : ℕ) → IsCandidate sub above bound (start_spot sub above) }
     ensures short { (sub above : Machine_data) (bound : ℕ) (p : Spot) → IsCandidate sub above bound p → length p.pending ≤ bound }
@@ -48,16 +48,17 @@ pub fn a_derivation_or_a_refusal()
         → ((d : Derivation_data) × IsCanonical sub above bound d) ⊎ ((fault : SearchFault) × (fault ≢ NoMemory) × SearchRefuses sub above bound fault) }
 {}
 
-/// They have one exactly where there aren't too many candidates, the start survives, and nothing is forgotten.
+/// Two well-formed machines have a canonical derivation if and only if there aren't too many candidates, the start
+/// survives, and nothing is forgotten.
 pub fn a_derivation_where_the_start_survives()
     ensures { (sub above : Machine_data) (bound : ℕ) → IsProper sub → IsProper above
         → ((d : Derivation_data) × IsCanonical sub above bound d)
         ↔ ((AreMoreThan sub above bound MOST_CANDIDATES → ⊥) × Survives sub above bound (start_spot sub above) × (IsForgetful sub above bound → ⊥)) }
 {}
 
-/// No derivation is missed: each that lies within the bound makes the start survive, and where the start survives there is
-/// one. So where the search finds none there is none, of whatever ranks; and where there is none the search says so,
-/// unless there are too many candidates.
+/// No derivation is missed: if there is one within the bound, the start survives, and if the start survives, there is one.
+/// So if the search finds none, there is none, whatever the ranks; and if there is none, the search says so, unless there
+/// are too many candidates.
 pub fn derivations_are_not_missed()
     ensures survives { (sub above : Machine_data) (bound : ℕ) (d : Derivation_data) → IsDerivation d sub above → d.bound ≤ bound → Survives sub above bound (start_spot sub above) }
     ensures derives { (sub above : Machine_data) (bound : ℕ) → IsProper sub → IsProper above → Survives sub above bound (start_spot sub above)
@@ -67,9 +68,9 @@ pub fn derivations_are_not_missed()
         → ((d : Derivation_data) → IsDerivation d sub above → d.bound ≤ bound → ⊥) → (cut : Bool) × IsNotFound sub above bound cut }
 {}
 
-/// What remembers is found: two well-formed machines have a canonical derivation exactly where some derivation within the
-/// bound forgets nothing, if there aren't too many candidates. So a derivation that forgets nothing is refused only where
-/// the search gives up; and where the canonical derivation forgets, each derivation does, of whatever bound.
+/// What remembers is found: two well-formed machines have a canonical derivation if and only if some derivation within the
+/// bound forgets nothing and there aren't too many candidates. So machines with a derivation that forgets nothing are
+/// refused only if the search gives up; and if the canonical derivation forgets, each derivation does, whatever its bound.
 pub fn what_remembers_is_found()
     ensures found { (sub above : Machine_data) (bound : ℕ) → IsProper sub → IsProper above
         → ((d : Derivation_data) × IsCanonical sub above bound d) ↔ IsDerivable sub above bound }
@@ -80,8 +81,8 @@ pub fn what_remembers_is_found()
 {}
 
 /// Within a greater bound each candidate is still one, and each survivor survives; and the canonical derivation is the
-/// same, if there aren't too many candidates. Where no candidate meets a cut there are no others: a greater bound doesn't
-/// help, and where nothing was found there is no derivation of any bound.
+/// same, if there aren't too many candidates. If no candidate meets a cut, there are no others: a greater bound doesn't
+/// help, and if nothing was found, there is no derivation of any bound.
 pub fn greater_bounds()
     ensures candidates { (sub above : Machine_data) (bound more : ℕ) (p : Spot) → bound ≤ more → IsCandidate sub above bound p → IsCandidate sub above more p }
     ensures survivors { (sub above : Machine_data) (bound more : ℕ) (p : Spot) → bound ≤ more → Survives sub above bound p → Survives sub above more p }

@@ -14,11 +14,14 @@ use rs_model::{MOST_CANDIDATES, Machine};
 use std::alloc::Global;
 use std::sync::ledger::Ledger;
 
-/// The candidates, their graph, and what is left of it, among which is the start.
+/// The candidates that survive, if the start is one of them.
 #[derive(Drop)]
 pub struct Survivors {
+    /// All candidates.
     pub found: Candidates,
+    /// Their graph: a node for each candidate, with its moves.
     pub graph: Graph,
+    /// What is left of the graph when candidates without a move are removed. The start is left.
     pub left: Removal,
 }
 

@@ -61,7 +61,7 @@ fn acts_code(before: u64, acts: &[Act]) -> u64
     code
 }
 
-// The code of what is owed behind a change, from that of what was owed.
+// The code of what is owed after a change, from that of what was owed before.
 #[inline(always)]
 fn code_behind(code: u64, pending: &[Act], change: Change) -> u64
     requires within { IsPlaceWithin (length pending.now) change }
@@ -183,7 +183,7 @@ fn seek(
     None
 }
 
-// What is owed behind a change, in memory of its own.
+// What is owed after a change, in memory of its own.
 #[inline(always)]
 fn pending_behind(alloc: Global, pending: &Pending, change: Change) -> Result<Pending, NoMemory>
     requires { IsPlaceWithin (length pending.now) change }
@@ -196,7 +196,7 @@ fn pending_behind(alloc: Global, pending: &Pending, change: Change) -> Result<Pe
     }
 }
 
-// Whether nothing is owed behind a change.
+// Whether nothing is owed after a change.
 #[inline(always)]
 fn owes_nothing(pending: &Pending, change: Change) -> bool
     requires { IsPlaceWithin (length pending.now) change }
@@ -281,7 +281,7 @@ fn number_within(n: usize, limit: usize) -> Result<u32, SearchStop>
     Ok(n as u32)
 }
 
-// How many buckets follow on so many: the usual number, or else eight times as many.
+// The number of buckets to go to from `size`: at first `usual`, later about eight times `size`, up to `MOST_BUCKETS`.
 fn more_buckets(size: usize, usual: usize) -> usize
     requires { IsBucketCount usual }
     ensures { IsBucketCount result }
@@ -295,7 +295,7 @@ fn more_buckets(size: usize, usual: usize) -> usize
     }
 }
 
-// The heads of the chains of all nodes in so many buckets; the links are made anew.
+// The heads of the chains of all nodes, in a given number of buckets; the links are made anew.
 fn new_heads(
     alloc: Global,
     nodes: &[DNode],
@@ -330,7 +330,8 @@ impl SpotTable {
     ghost use Rattle.rs_search.specs.Table.{AddsAt, IsBucketCount, IsNamedAt, IsWithinAt, StandsWithin};
     ghost use Rattle.rs_search.specs.declared.found.SearchStop.TheVariants.{TooLarge};
 
-    /// The spot with these states and nothing owed, in so many buckets, with room for so many spots.
+    /// Makes a table of one spot, which has these states and owes nothing, with that number of buckets and with room for
+    /// `room` spots.
     pub(crate) fn new(
         alloc: Global,
         state: u32,
@@ -451,8 +452,8 @@ impl SpotTable {
         number_within(n, limit)
     }
 
-    /// Files the spots in so many buckets once there are more of them than buckets; and in eight times as many buckets once
-    /// there are twice as many spots.
+    /// Makes more buckets if there are too many spots for those that the table has: first the given number, later about
+    /// eight times as many each time.
     #[inline(always)]
     pub(crate) fn spread(&mut self, alloc: Global, buckets: usize) -> Result<(), NoMemory>
         requires buckets { IsBucketCount buckets }

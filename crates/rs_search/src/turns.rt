@@ -15,17 +15,20 @@ use rs_derive::{Change, DNode, EdgeTarget, Rule, arms_at, rule_at};
 use rs_model::{Act, Arm, Machine, Role, State};
 use rs_prefix::{ActKind, Pending};
 
-/// What a spot can do. Each of the spots to which the rule leads is a move of its own where `any`; else all together are the
-/// one move. `keeps` tells whether its edges keep the oldest act that is owed, and `cut` whether the bound takes its moves away.
+/// What a spot can do within the bound.
 #[derive(Clone, Copy, Debug)]
 pub struct SpotMoves {
+    /// Whether the bound takes its moves away.
     pub cut: bool,
+    /// Whether each spot to which the rule leads is a move of its own. Otherwise all of them together are one move.
     pub any: bool,
+    /// Whether its edges keep the oldest act that is owed.
     pub keeps: bool,
+    /// The rule that applies, or none if the spot has no move within the bound.
     pub rule: Option<Rule>,
 }
 
-/// What the spot can do within the bound, where the machine and its projection are in these states.
+/// Returns what the spot `p` can do within the bound, if the machine and its projection are in these states.
 #[inline(always)]
 pub fn turn_at(bound: u8, p: &DNode, state: &State, there: &State) -> SpotMoves
     requires short { length p.now.pending ≤ bound }
@@ -99,7 +102,7 @@ fn no_turn(cut: bool) -> SpotMoves
     }
 }
 
-/// Whether a turn to so many spots chooses.
+/// Returns whether a turn to that number of spots leaves a choice.
 #[inline(always)]
 pub fn has_choice(any: bool, spots: usize) -> bool
     ensures { result ≡ (any && not (spots == 1)) }

@@ -30,9 +30,9 @@ pub enum TypedOne<S: Spot, N: Spot, V: Payload> {
 /// What a receive did at a spot that takes two labels. For example a `match` with the cases `TypedTwo::First(copy, at)`,
 /// `TypedTwo::Second((), at)` and `TypedTwo::Empty { at, .. }` is whole.
 pub enum TypedTwo<S: Spot, M: Spot, V: Payload, N: Spot, W: Payload> {
-    /// A value with the first label was got, and the role stands at the spot behind it.
+    /// A value with the first label was got, and the role stands at the spot after it.
     First(V, At<M>),
-    /// A value with the second label was got, and the role stands at the spot behind it.
+    /// A value with the second label was got, and the role stands at the spot after it.
     Second(W, At<N>),
     /// The ring was empty: the sender had sent `seen` values when this call looked, and the role has got them all. The
     /// endpoint comes back.

@@ -74,7 +74,7 @@ impl<S: Spot> At<S> {
 
     /// Sends the value by the arm at place `ARM` of the state, as `Sending::send` does. For example `at.send::<1>(&session, ())`.
     ///
-    /// Where the ring to the peer has room the role goes on to the arm's spot. Else the endpoint and the value come back.
+    /// If the ring to the peer has room, the role goes on to the arm's spot. Otherwise the endpoint and the value come back.
     pub fn send<const ARM: u16>(
         self,
         session: &Session,
@@ -117,7 +117,7 @@ impl<S: Spot> At<S> {
     /// Receives the oldest value that is under way from the spot's peer, as `Receiving::receive` does. For example
     /// `match at.receive(&session) { TypedOne::Got(copy, at) => .., TypedOne::Empty { at, .. } => .. }`.
     ///
-    /// Where a value is there the role goes on to the next spot. Else the endpoint comes back.
+    /// If there is a value, the role goes on to the next spot. Otherwise the endpoint comes back.
     pub fn receive(
         self,
         session: &Session,
@@ -157,7 +157,7 @@ impl<S: Spot> At<S> {
     /// Receives the oldest value that is under way from the spot's peer, by one of the spot's two arms. For example
     /// `match at.receive_two(&session) { TypedTwo::First(copy, at) => .., TypedTwo::Second((), at) => .., TypedTwo::Empty { at, .. } => .. }`.
     ///
-    /// Where a value is there the role goes on to the spot behind the arm with its label. Else the endpoint comes back.
+    /// If there is a value, the role goes on to the spot after the arm with its label. Otherwise the endpoint comes back.
     pub fn receive_two(
         self,
         session: &Session,

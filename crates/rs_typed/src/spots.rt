@@ -30,8 +30,8 @@ pub struct Message<const LABEL: u16, V: Payload> {
 }
 
 impl<const LABEL: u16, V: Payload> Message<LABEL, V> {
-    /// The arm of a state by which the message goes, and behind which the role stands in the state `next`. For example
-    /// `Message::<1, Octets>::then(4)` is the arm of a text's `copy(bytes)` behind which stands state 4.
+    /// The arm of a state by which the message goes, and after which the role stands in the state `next`. For example
+    /// `Message::<1, Octets>::then(4)` is the arm of a text's `copy(bytes)` after which stands state 4.
     pub fn then(next: u32) -> Arm
         ensures { result ≡ record { label = record { 0 = LABEL }; sort = V.SORT; next = next } }
     {
@@ -92,7 +92,7 @@ pub trait Puts<const ARM: u16>: Spot {
     /// What it sends.
     type Message: HasLabel;
 
-    /// Where the role stands behind it.
+    /// Where the role stands after it.
     type Next: Spot<Of = <Self as Spot>::Of>;
 
     ghost puts: { HasArmPut Self.Of.meaning Self.AT Self.Peer.ROLE ARM (record { label = Self.Message.LABEL; sort = Self.Message.Carries.SORT; next = Self.Next.AT }) };
@@ -107,7 +107,7 @@ pub trait TakesOne: Spot {
     /// What it receives.
     type Message: HasLabel;
 
-    /// Where the role stands behind it.
+    /// Where the role stands after it.
     type Next: Spot<Of = <Self as Spot>::Of>;
 
     ghost takes: { HasArmTaken Self.Of.meaning Self.AT Self.Peer.ROLE (record { label = Self.Message.LABEL; sort = Self.Message.Carries.SORT; next = Self.Next.AT }) };
@@ -125,13 +125,13 @@ pub trait TakesTwo: Spot {
     /// What it receives by the first arm.
     type First: HasLabel;
 
-    /// Where the role stands behind it.
+    /// Where the role stands after it.
     type FirstNext: Spot<Of = <Self as Spot>::Of>;
 
     /// What it receives by the second arm.
     type Second: HasLabel;
 
-    /// Where the role stands behind it.
+    /// Where the role stands after it.
     type SecondNext: Spot<Of = <Self as Spot>::Of>;
 
     ghost takes: { HasTwoArmsTaken Self.Of.meaning Self.AT Self.Peer.ROLE (record { label = Self.First.LABEL; sort = Self.First.Carries.SORT; next = Self.FirstNext.AT }) (record { label = Self.Second.LABEL; sort = Self.Second.Carries.SORT; next = Self.SecondNext.AT }) };

@@ -1,4 +1,4 @@
--- Public: acts over queues that hold at most so many messages.
+-- Public: acts over queues that hold at most n messages.
 use Rattle.std.specs.Prelude.{ℕ, ◌<◌, length}
 use Rattle.rs_model.specs.declared.graph.Role.{Role}
 use Rattle.rs_monitor.specs.declared.acts.ProgramAct.{ProgramAct}

@@ -6,7 +6,7 @@ use rs_model::Bound;
 use rs_safety::Accepted;
 use std::alloc::Global;
 
-/// The session of a text: none where it is refused, or memory was.
+/// The session of a text: none if it is refused, or memory ran out.
 pub fn accepted_of(alloc: Global, text: &[u8]) -> Option<Accepted> {
     let Ok(document) = read_document(alloc, text) else {
         return None;
@@ -29,7 +29,7 @@ pub const ENDLESS_BUFFERING: &[u8] =
 pub const TWICE: &[u8] =
     b"roles A, B\nprotocol A->B:x(). A->B:x(). B->A:y(). B->A:y(). end\nmachine B: A!y(). A!y(). A?x(). A?x(). end\n";
 
-/// A waits first, where the protocol lets it send.
+/// A waits first, although by the protocol it sends.
 pub const WAITS: &[u8] =
     b"roles A, B\nprotocol A->B:x(). B->A:y(). end\nmachine A: B?y(). B!x(). end\n";
 

@@ -19,7 +19,7 @@ pub struct Meeting {
 }
 
 impl Meeting {
-    /// A gate that nobody has come to.
+    /// A gate that wasn't called yet.
     pub fn new() -> Meeting {
         Meeting {
             first: AtomicU64::new(0),

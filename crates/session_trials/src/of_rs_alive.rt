@@ -133,7 +133,7 @@ fn is_taken(
     }
 }
 
-/// Whether all messages of the queue are taken, and none is found behind them.
+/// Whether all messages of the queue are taken, and none is found after them.
 fn all_taken(
     alloc: Global,
     accepted: &Accepted,
@@ -218,7 +218,7 @@ fn answer_of(
     }
 }
 
-/// What is answered for the message at the place, after the past, of the text's session: none where it isn't accepted.
+/// What is answered for the message at the place, after the past, of the text's session: none if it isn't accepted.
 fn taken_of(
     alloc: Global,
     text: &[u8],

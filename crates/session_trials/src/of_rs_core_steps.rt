@@ -52,7 +52,7 @@ fn send(role: u8, arm: u16, value: Value) -> Event
     }
 }
 
-/// Adds how many messages are under way from one role to another, behind a blank.
+/// Adds how many messages are under way from one role to another, after a blank.
 fn tell_queue(text: &mut Text, core: &Core, sender: Role, receiver: Role) -> Result<(), NoMemory>
     requires sender { sender.0 < length core.now.machines }
     requires receiver { receiver.0 < length core.now.machines }
@@ -61,7 +61,7 @@ fn tell_queue(text: &mut Text, core: &Core, sender: Role, receiver: Role) -> Res
     text.push_number(core.queue_len(sender, receiver) as u64)
 }
 
-/// Adds what is made of an event, where K, S and T then stand, and how many messages are under way from K to S, from T to K,
+/// Adds what is made of an event, the states of K, S and T after it, and how many messages are under way from K to S, from T to K,
 /// from S to K and from K to T.
 fn tell_moment(text: &mut Text, core: &mut Core, event: Event) -> Result<(), NoMemory>
     requires role { role_of event < length core.old.machines }
@@ -79,7 +79,7 @@ fn tell_moment(text: &mut Text, core: &mut Core, event: Event) -> Result<(), NoM
     text.push(b"\n")
 }
 
-/// The events of the example of docs/definitions.md. Behind the second K can't go on.
+/// The events of the example of docs/definitions.md. After the second K can't go on.
 fn tell_events_by_hand(text: &mut Text, core: &mut Core) -> Result<(), NoMemory>
     requires { 3 ≤ length core.old.machines }
 {
@@ -96,7 +96,7 @@ fn tell_events_by_hand(text: &mut Text, core: &mut Core) -> Result<(), NoMemory>
     tell_moment(text, core, Event::Receive { role: Role(1) })
 }
 
-/// What is told of the example, from the start.
+/// What is written of the example, from the start.
 fn told_by_hand(alloc: Global, accepted: &Accepted) -> Option<Text> {
     if accepted.machines().len() < 3 {
         return None;
@@ -111,7 +111,7 @@ fn told_by_hand(alloc: Global, accepted: &Accepted) -> Option<Text> {
     }
 }
 
-/// Where K, S and T stand behind each event, and the four queues.
+/// The states of K, S and T after each event, and the four queues.
 const BY_HAND: &[u8] =
     b"sent.100 1 0 0 0\nsent.200 2 0 0 0\nqueue empty.200 2 0 0 0\nsent.201 2 1 0 0\ngot ready.211 1 1 0 0\nsent.221 1 1 1 0\ngot ready.321 1 0 1 0\ngot another.521 1 0 0 0\nsent.621 1 0 0 1\ngot another.622 1 0 0 0\ngot ready.632 0 0 0 0\n";
 

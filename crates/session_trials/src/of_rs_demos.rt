@@ -33,7 +33,7 @@ fn documents_are_the_stated_ones(rt: HostRuntime) {
     assert!(rt; has_text(rt.alloc(), Demo::Butterfly, 4, butterfly));
 }
 
-/// Whether a demo of two numbers prints this, where this natural number has come to its first role.
+/// Whether a demo of two numbers prints this, if its first role was given this natural number.
 fn is_printed_behind(alloc: Global, kind: Demo, bytes: &[u8], number: u64, wanted: &[u8]) -> bool {
     let Ok(mut actors) = demo_actors(alloc, kind, bytes) else {
         return false;

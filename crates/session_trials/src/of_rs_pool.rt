@@ -17,7 +17,7 @@ use std::thread::Threads;
 
 const WORKERS: [u8; 5] = [1, 2, 4, 8, 16];
 
-/// Whether a role of an endless session is stopped by so many workers, and all actors come back.
+/// Whether a role of an endless session is stopped in a run by that number of workers, and all actors come back.
 fn is_stopped<R: Threads + Wait + Sync>(rt: &R, alloc: Global, workers: u8) -> Result<bool, Fail>
     requires { (1 ≤ workers) × (workers ≤ 16) }
 {
@@ -47,7 +47,7 @@ fn a_role_stops_at_its_limit(rt: HostRuntime) -> Result<(), Fail> {
     Ok(())
 }
 
-/// The butterfly of eight numbers, run by so many workers past the gate.
+/// The butterfly of eight numbers, run by that number of workers, with the gate.
 fn butterfly_run<R: Threads + Wait + Sync, G: Gate + Sync>(
     rt: &R,
     alloc: Global,
@@ -69,7 +69,7 @@ fn butterfly_run<R: Threads + Wait + Sync, G: Gate + Sync>(
     pool_run(rt, alloc, text.as_slice(), actors, how, gate)
 }
 
-/// Whether the gate's calls lay round each turn of each role: one turn for each act, and one more that told its end.
+/// Whether the gate is called before and after each turn of each role: one turn for each act, and one more that finds its end.
 fn lay_round_each_turn(gate: &Recorder, transcripts: &[Transcript]) -> bool {
     let mut role: u8 = 0;
     for transcript in transcripts {

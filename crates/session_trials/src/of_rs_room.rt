@@ -11,7 +11,7 @@ use rs_room::{Bounded, BoundedFault};
 use rs_safety::Accepted;
 use std::alloc::Global;
 
-/// The room, who can go on after both roles have sent once by their first arms, and why the first one can't send again.
+/// The room, which role can go on after both roles have sent once by their first arms, and why the first one can't send again.
 #[derive(Drop)]
 struct RingsTold {
     room: u64,
@@ -57,7 +57,7 @@ fn told_of(alloc: Global, accepted: &Accepted, capacity: u16) -> Option<RingsTol
     })
 }
 
-/// What is told of the text's session over rings of that capacity: none where it isn't accepted, the two roles can't send,
+/// What is written of the text's session over rings of that capacity: none if it isn't accepted, the two roles can't send,
 /// or memory was refused.
 fn rings_of(alloc: Global, text: &[u8], capacity: u16) -> Option<RingsTold>
     requires { IsCapacity capacity }

@@ -268,7 +268,7 @@ fn both_blocked_on<R: Wait + RandomSource + AllocGlobal, A: Actor, M: TaskName<A
     (turns, one.into_task(), other.into_task())
 }
 
-/// The same, where what the second task began with is named first.
+/// The same, if what the second task began with is named first.
 fn both_named<R: Wait + RandomSource + AllocGlobal, A: Actor, M: TaskName<A>>(
     rt: &R,
     alloc: Global,

@@ -25,7 +25,7 @@ impl Counts {
         Ok(Counts { counts })
     }
 
-    /// The count at a place: 0 where there is none.
+    /// The count at a place: 0 if there is none.
     fn at(&self, place: usize) -> u64 {
         match self.counts.get(place) {
             Some(count) => count.load(SeqCst),
@@ -84,7 +84,7 @@ impl Recorder {
         usize::from(worker) * usize::from(self.roles) + usize::from(role)
     }
 
-    /// How many turns of the role lay between two calls of one worker: none where some worker's calls aren't as many before
+    /// How many turns of the role lay between two calls of one worker: none if some worker's calls aren't as many before
     /// turns as after them.
     pub(crate) fn turns_of(&self, role: u8) -> Option<u64> {
         let mut turns: u64 = 0;

@@ -20,7 +20,7 @@ pub(crate) struct HowToRun {
     pub limit: u32,
 }
 
-/// The run of an accepted session by workers, over rings of the room that it needs: none where that is more than a ring can hold,
+/// The run of an accepted session by workers, over rings of the room that it needs: none if that is more than a ring can hold,
 /// or memory was refused.
 fn pooled<R: Threads + Wait + Sync, A: Actor + Send, G: Gate + Sync>(
     rt: &R,
@@ -99,7 +99,7 @@ fn boundedly<A: Actor>(
     }
 }
 
-/// The run over rings of that capacity: none where there can be no such rings.
+/// The run over rings of that capacity: none if there can be no such rings.
 fn inlined<A: Actor>(
     alloc: Global,
     accepted: &Accepted,
@@ -133,7 +133,7 @@ fn run_over<A: Actor>(
     }
 }
 
-/// The run of the text's session by workers: none where the text is refused, there isn't an actor for each role, or memory was
+/// The run of the text's session by workers: none if the text is refused, there isn't an actor for each role, or memory was
 /// refused.
 pub(crate) fn pool_run<R: Threads + Wait + Sync, A: Actor + Send, G: Gate + Sync>(
     rt: &R,
@@ -151,7 +151,7 @@ pub(crate) fn pool_run<R: Threads + Wait + Sync, A: Actor + Send, G: Gate + Sync
     }
 }
 
-/// The run of the text's session on this thread, or why it has no outcome: none where the text is refused, there isn't an actor for
+/// The run of the text's session on this thread, or why it has no outcome: none if the text is refused, there isn't an actor for
 /// each role, there are no such rings, or memory was refused.
 pub(crate) fn session_run<A: Actor>(
     alloc: Global,
@@ -166,7 +166,7 @@ pub(crate) fn session_run<A: Actor>(
     }
 }
 
-/// An actor for each of so many roles, from one seed.
+/// An actor for each of `count` roles, from one seed.
 pub(crate) fn seeded(alloc: Global, roles: u8, seed: u32) -> Result<Vec<SeededActor>, NoMemory> {
     let mut actors = Vec::new(alloc);
     for number in 0..roles {

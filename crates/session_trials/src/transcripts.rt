@@ -14,7 +14,7 @@ fn word(words: &Words, number: usize) -> &'static str {
     }
 }
 
-/// The bytes of a value, each behind a blank.
+/// The bytes of a value, each after a blank.
 fn push_octets(text: &mut Text, value: &Value) -> Result<(), NoMemory> {
     if let Value::Octets(bytes) = value {
         for byte in bytes.as_slice() {
@@ -51,7 +51,7 @@ pub(crate) fn push_entries(
     Ok(())
 }
 
-/// How the run ended: the transcripts, each with a line of its own, or who was stopped.
+/// How the run ended: the transcripts, each with a line of its own, or which role was stopped.
 pub(crate) fn text_of<A: Actor>(
     alloc: Global,
     run: &Run<A>,

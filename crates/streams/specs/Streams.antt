@@ -20,7 +20,7 @@ abbrev pub bytes_of_value : Value → List ℕ
 bytes_of_value (value.Octets bytes) = bytes
 bytes_of_value other = []
 
--- the bytes of these parcels, one behind the other
+-- the bytes of these parcels, one after the other
 abbrev pub bytes_in : List Parcel → List ℕ
 bytes_in parcels = flat_map (λ (x : Parcel). bytes_of_value x.value) parcels
 
@@ -69,7 +69,7 @@ pub record HasEndedAs (session : Rings_data) (r : ℕ) (ended : Stage_data) : Ty
   pub at_end : IsEnded session ended
   pub role : ended.role.0 ≡ r
 
--- the source has ended, and where it is whole it has given these bytes to the kernel
+-- the source has ended, and if it is whole it has given these bytes to the kernel
 pub record Gives (session : Rings_data) (bytes : List ℕ) (ended : Stage_data) (is_whole : Bool) : Type 0 where
   pub ends : HasEndedAs session 0 ended
   pub gives : is_whole ≡ true → bytes_sent 1 ended.part.history ≡ bytes
@@ -79,7 +79,7 @@ pub record HandsOn (session : Rings_data) (ended : Stage_data) : Type 0 where
   pub ends : HasEndedAs session 1 ended
   pub same : bytes_sent 2 ended.part.history ≡ bytes_got 0 ended.part.history
 
--- the sink has ended, and these bytes, where there are some, are those that it got from the kernel
+-- the sink has ended, and these bytes, if there are any, are those that it got from the kernel
 pub record Gathers (session : Rings_data) (ended : Stage_data) (bytes : Option (List ℕ)) : Type 0 where
   pub ends : HasEndedAs session 2 ended
   pub gathers : IfSome bytes (λ b. b ≡ bytes_got 1 ended.part.history)

@@ -1,4 +1,4 @@
-//! Acts of stages that wait until they can be made. Where a state is none for such an act they wait for ever.
+//! Acts of stages that wait until they can be made. If the state doesn't have such an act, they wait for ever.
 
 ghost use Rattle.std.specs.Prelude.{◌≡◌, Some, true};
 ghost use Rattle.rs_core.specs.Histories as act;

@@ -86,7 +86,7 @@ fn two_play<R: Threads + Wait + Sync>(
     )
 }
 
-/// All three play, each on a thread of its own. Where no threads can be made it waits for ever.
+/// All three play, each on a thread of its own. If no thread can be started, it waits for ever.
 fn all_play<R: Threads + Wait + Sync>(
     rt: &R,
     alloc: Global,
@@ -134,7 +134,7 @@ fn last_stage(stages: &mut Vec<Stage>) -> Stage
     }
 }
 
-/// The bytes go through the session of three roles, which stand at their starts. The empty list has room for them.
+/// The bytes go through the session of three roles, which are at their starts. The empty list has room for them.
 fn flow<R: Threads + Wait + Sync>(
     rt: &R,
     alloc: Global,
@@ -172,8 +172,8 @@ fn flow<R: Threads + Wait + Sync>(
     if is_whole { output } else { None }
 }
 
-/// What the sink has got once all have ended: just the bytes that the source gave. None where memory was refused, or there are
-/// other roles than three.
+/// Returns what the sink has received once all have ended: exactly the bytes that the source gave. None if memory ran out, or
+/// if there aren't three roles.
 fn streamed<R: Threads + Wait + Sync>(
     rt: &R,
     alloc: Global,

@@ -32,7 +32,7 @@ fn taken(place: &mut Option<Stage>) -> Stage
     }
 }
 
-/// The stage of a role that has ended. It waits for ever where it hasn't.
+/// The stage of a role that has ended. If the role hasn't ended, it waits for ever.
 fn ended<R: Wait>(rt: &R, stage: Stage) -> Ended
     ensures { stage ≡ kind.Ended result }
 {
@@ -91,7 +91,7 @@ pub fn hand_on<R: Wait>(rt: &R, session: &Session, place: &mut Option<Stage>) ->
     unreachable!()
 }
 
-/// The sink gathers the bytes that come, until it has ended. None where memory was refused.
+/// The sink gathers the bytes that come, until it has ended. None if memory ran out.
 pub fn drain<R: Wait>(
     rt: &R,
     alloc: Global,

@@ -1,4 +1,4 @@
--- What a run by draws is told as.
+-- What is printed of a run with random choices.
 use Rattle.std.proofs.Common.{◌≡◌, ℕ, List, length, refl, sym}
 use Rattle.rs_runs.proofs.Outcomes.{tells_run}
 use Rattle.rs_answers.specs.Data.{Answer_data}

@@ -19,10 +19,10 @@ use std::process::ExitCode;
 /// How many acts a role makes at most.
 const LIMIT: u32 = 10_000;
 
-/// Where the draws begin.
+/// The seed of the random choices.
 const SEED: u32 = 0;
 
-/// What each role did, or which was stopped, in a run by draws: just what `run` prints of it.
+/// Returns what each role did, or which role was stopped, in a run with random choices: exactly what `run` prints of it.
 fn run_drawn(alloc: Global, session: &OpenSession) -> Result<Text, RunFault>
     ensures { IfOk result (λ text. (answer : Answer_data) × (text ≡ answer.text)
         × TellsRun session.now.names session.now.session.machines (actor_of SEED) LIMIT (min (room_of session.now.session.derivations) MOST_CAPACITY) answer) }
@@ -33,7 +33,7 @@ fn run_drawn(alloc: Global, session: &OpenSession) -> Result<Text, RunFault>
     Ok(session.told(alloc, run.outcome)?)
 }
 
-/// Prints what a run of the text's session comes to, or why the text is refused; true where a run was printed.
+/// Prints what each role did in a run of the text's session, or why the text is refused. Returns true if a run was printed.
 fn answer<R: Print>(rt: &R, alloc: Global, text: &[u8]) -> bool {
     match open(alloc, text) {
         Ok(session) => match run_drawn(alloc, &session) {

@@ -10,7 +10,7 @@ ghost use Rattle.rs_improve.specs.Swaps.{HaveSameMessages, LeadsToSends};
 use rs_model::{Arm, Machine, Role, State};
 use std::marker::Model;
 
-/// A receive that can be swapped: its number, from whom and what it takes, and to whom and what all states behind it send.
+/// A receive that can be swapped: its number, from whom and what it takes, and to whom and what all states after it send.
 #[derive(Drop)]
 pub(crate) struct Exchange<'a> {
     pub(crate) state: usize,

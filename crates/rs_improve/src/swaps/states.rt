@@ -58,7 +58,7 @@ fn old_nexts(alloc: Global, arms: &[Arm]) -> Result<Vec<SwappedState>, NoMemory>
     Ok(nexts)
 }
 
-// Where the sends with this place led behind each of the arms.
+// Where the sends with this place led after each of the arms.
 fn nexts_behind(
     alloc: Global,
     machine: &Machine,
