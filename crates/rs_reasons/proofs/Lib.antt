@@ -1,3 +1,4 @@
+pub mod Brought
 pub mod Hopeless
 pub mod Joins
 pub mod LeastBound

@@ -1,6 +1,7 @@
 pub mod Accepted
 pub mod Ahead
 pub mod Before
+pub mod Brought
 pub mod Explains
 pub mod Faults
 pub mod Flagged
