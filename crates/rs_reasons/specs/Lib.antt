@@ -5,6 +5,7 @@ pub mod Brought
 pub mod Explains
 pub mod Faults
 pub mod Flagged
+pub mod Malformed
 pub mod Marks
 pub mod Underivable
 pub mod Unprojectable

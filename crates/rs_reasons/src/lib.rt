@@ -9,9 +9,11 @@ mod explaining;
 mod faults;
 pub mod laws;
 mod lesser;
+mod malformed;
 mod underivable;
 mod unprojectable;
 mod uses;
 mod waits;
 
 pub use explaining::explain;
+pub use malformed::explain_fault;

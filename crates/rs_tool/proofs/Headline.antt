@@ -19,7 +19,7 @@ use Rattle.rs_tool.specs.declared.statuses.Reply.{Reply}
 use Rattle.rs_tool.specs.declared.statuses.Status.{Status}
 use Rattle.rs_tool.specs.declared.statuses.Status.TheVariants as status
 use Rattle.rs_tool.specs.Pipelines.{pipeline_text, pipeline_of}
-use Rattle.rs_tool.specs.Answers.{Answers, SpellsNothing, CarriesOut, AnswersPipeline, AnswersText, IsTooLong, IsFaulty, IsDocument, AnswersDocument, AnswersTask}
+use Rattle.rs_tool.specs.Answers.{Answers, SpellsNothing, CarriesOut, AnswersPipeline, AnswersText, IsTooLong, IsFaulty, IsDocument, AnswersDocument, AnswersTask, fault_answer_of}
 use Rattle.rs_tool.specs.Calls.{Ends, Tells, TellsAll, TellsPart, TellsReadFault, TellsNoMemory}
 use Rattle.rs_answers.proofs.Refusing.{IsRefusing, fault_refuses, refusal_refuses}
 use Rattle.rs_answers.specs.declared.verdicts.Verdict.{Verdict}
@@ -80,8 +80,20 @@ refusing_is_no_run verdict.Stopped h e = h
 refusing_is_no_run verdict.Full h e = h
 refusing_is_no_run verdict.RoomTooSmall h e = e
 
-pub fault_is_no_run : (bytes : List ℕ) (k : TextKind) (at : ℕ) → IsNoRun (fault_answer bytes k at)
-fault_is_no_run bytes k at = refusing_is_no_run ((fault_answer bytes k at).verdict) (fault_refuses bytes k at)
+-- what a task says of a fault has the verdict of a check
+pub fault_verdict : (t : DocumentTask) (bytes : List ℕ) (k : TextKind) (at : ℕ) → (fault_answer_of t bytes k at).verdict ≡ (fault_answer bytes k at).verdict
+fault_verdict (on_document.Check options) bytes k at = refl
+fault_verdict on_document.Verify bytes k at = refl
+fault_verdict on_document.Migrate bytes k at = refl
+fault_verdict on_document.Show bytes k at = refl
+fault_verdict on_document.Project bytes k at = refl
+fault_verdict (on_document.Run options workers) bytes k at = refl
+fault_verdict (on_document.Improve options) bytes k at = refl
+fault_verdict (on_document.Explain bound) bytes k at = refl
+fault_verdict (on_document.Draw role) bytes k at = refl
+
+pub fault_is_no_run : (t : DocumentTask) (bytes : List ℕ) (k : TextKind) (at : ℕ) → IsNoRun (fault_answer_of t bytes k at)
+fault_is_no_run t bytes k at run = refusing_is_no_run ((fault_answer bytes k at).verdict) (fault_refuses bytes k at) (subst (λ (v : Verdict). IsOfRun (status_of v)) (fault_verdict t bytes k at) run)
 
 pub refusal_is_no_run : (names : Names_data) (r : Refusal) → IsNoRun (refusal_answer names r)
 refusal_is_no_run names r = refusing_is_no_run ((refusal_answer names r).verdict) (refusal_refuses names r)
@@ -163,7 +175,7 @@ TellsSafe t bytes a = (d : Document_data) → SpellsDocument bytes d → Answers
 text_is_safe : (t : DocumentTask) (bytes : List ℕ) (a : Answer_data) → TellsSafe t bytes a → AnswersText t bytes a → IsOfRun (status_of a.verdict) → SpellsSafeMachines bytes
 text_is_safe t bytes a safe (IsDocument short d h answers) run = safe d h answers run
 text_is_safe t bytes a safe (IsTooLong long is) run = absurd (no_run a _ is (λ e. e) run)
-text_is_safe t bytes a safe (IsFaulty short k at h is) run = absurd (no_run a _ is (fault_is_no_run bytes k at) run)
+text_is_safe t bytes a safe (IsFaulty short k at h is) run = absurd (no_run a _ is (fault_is_no_run t bytes k at) run)
 
 -- what the words ask for is safe, where it was carried out on an accepted session
 checks_safely : (bound : ℕ) (asked : Bool) (bytes : List ℕ) (a : Answer_data) → AnswersText (on_document.Check (record { bound = bound; derivations = asked })) bytes a → IsOfRun (status_of a.verdict)
@@ -233,7 +245,7 @@ improves_safely options bytes a within (IsDocument short d doc h) fine =
     let v = whole_is_verified options.role options.bound options.swaps bytes d a within doc h fine in
     own_is_safe a.text v.document v.projections v.machines v.spells v.verified
 improves_safely options bytes a within (IsTooLong long is) fine = let no = sym (ap (λ (z : Answer_data). z.verdict) is) ∙ fine in absurd cc
-improves_safely options bytes a within (IsFaulty short k at h is) fine = absurd (no_run a _ is (fault_is_no_run bytes k at) (subst (λ (v : Verdict). IsOfRun (status_of v)) (sym fine) tt))
+improves_safely options bytes a within (IsFaulty short k at h is) fine = absurd (no_run a _ is (fault_is_no_run (on_document.Improve options) bytes k at) (subst (λ (v : Verdict). IsOfRun (status_of v)) (sym fine) tt))
 
 -- the same of answers to words
 pub migrated_answer_is_safe : (words : List (List ℕ)) (bytes : List ℕ) (a : Answer_data) → SpellsMigrate words → Answers words bytes a → IsOfRun (status_of a.verdict) → SpellsSafeMachines bytes

@@ -5,15 +5,15 @@ use Rattle.std.specs.Io.KnownBytes.{IsAtEnd}
 use Rattle.std.proofs.lemmas.Result.{IfOk-weaker}
 use Rattle.rs_answers.specs.Data.{Answer_data}
 use Rattle.rs_runs.specs.Ready.{ComesOf, IsReadyFor, Warrants}
-use Rattle.rs_answers.specs.RefusalTexts.{too_large, fault_answer, usage}
-use Rattle.rs_runs.specs.RunSessions.{GivesRun}
+use Rattle.rs_answers.specs.RefusalTexts.{too_large, usage}
+use Rattle.rs_runs.specs.RunSessions.{GivesRun, HasCome}
 use Rattle.rs_runs.specs.DemoSessions.{GivesDemo}
 use Rattle.rs_runs.specs.declared.answers.AnswerWithSession.{AnswerWithSession}
 use Rattle.rs_runs.specs.declared.ready.Prepared.{Prepared}
 use Rattle.rs_runs.specs.declared.ready.Prepared.TheVariants.{Answered}
 use Rattle.rs_answers.specs.declared.verdicts.Verdict.{Verdict}
 use Rattle.rs_runs.proofs.Leading.{HoldsAlone, made_leads}
-use Rattle.rs_runs.proofs.RunSessions.{alone, fault_is_alone, not_there, still_there}
+use Rattle.rs_runs.proofs.RunSessions.{IsAlone, alone, fault_is_alone, not_there, still_there}
 use Rattle.rs_documents.specs.Data.{Document_data}
 use Rattle.rs_documents.specs.Documents.{FirstFault, SpellsDocument}
 use Rattle.rs_model.specs.declared.limits.TheConstants.{DEFAULT_BOUND, MOST_BYTES}
@@ -23,8 +23,9 @@ use Rattle.rs_model.specs.declared.runs.Workers.{Workers}
 use Rattle.rs_model.specs.declared.runs.Workers.TheVariants.{One, Several}
 use Rattle.rs_tool.specs.Pipelines.{pipeline_of, pipeline_summary, pipeline_text}
 use Rattle.rs_text.specs.declared.faults.TextFault.{TextFault}
+use Rattle.rs_text.specs.declared.faults.TextKind.{TextKind}
 use Rattle.rs_text.specs.declared.faults.TextKind.TheVariants as kind
-use Rattle.rs_tool.specs.Answers.{AnswersDocument, AnswersPipeline, AnswersText, CarriesOut, DataIsShort, DataIsTooLong, IsDocument, IsFaulty, IsTooLong, SpellsNothing}
+use Rattle.rs_tool.specs.Answers.{AnswersDocument, AnswersPipeline, AnswersText, CarriesOut, DataIsShort, DataIsTooLong, IsDocument, IsFaulty, IsTooLong, SpellsNothing, fault_answer_of}
 use Rattle.rs_tool.specs.Calls.{ForInput}
 use Rattle.rs_tool.specs.Data.{CallInput}
 use Rattle.rs_tool.specs.Preparing.{AnswersTo, Prepares}
@@ -33,6 +34,7 @@ use Rattle.rs_tool.specs.Tasks.{AskForWorkers, ReadsTheInput}
 use Rattle.rs_tool.specs.declared.statuses.CallStop.{CallStop}
 use Rattle.rs_tool.specs.declared.statuses.CallStop.TheVariants as stop
 use Rattle.rs_tool.proofs.Answering.{for_any, nothing_reads, where_told}
+use Rattle.rs_tool.proofs.Headline.{fault_verdict}
 use Rattle.rs_words.proofs.Exact.{words_spell_one_task}
 use Rattle.rs_words.specs.Meaning.{IsMeaning, SpellsTask}
 use Rattle.rs_words.specs.Tasks.{workers_of}
@@ -46,7 +48,7 @@ use Rattle.rs_words.specs.declared.tasks.Task.TheVariants as task
 
 -- the first fault of a text, or that memory was refused
 pub of_fault : (t : DocumentTask) (bytes : List ℕ) (f : TextFault) (r : Result Answer_data NoMemory) → length bytes ≤ MOST_BYTES → (f.kind ≡ kind.NoMemory) ⊎ FirstFault bytes f.kind f.at
-    → IfOk r (λ m. m ≡ fault_answer bytes f.kind f.at)
+    → IfOk r (λ m. m ≡ fault_answer_of t bytes f.kind f.at)
     → OnOk r (f.kind ≡ kind.NoMemory → ⊥) → IfOk r (AnswersText t bytes)
 of_fault t bytes f (Err e) short why is never = tt
 of_fault t bytes f (Ok m) short (inl memory) is never = absurd (never memory)
@@ -61,11 +63,15 @@ pub gives_alone : (t : Task) (bytes : List ℕ) (a : Answer_data) → ((answer :
 gives_alone t bytes a h given same none =
     subst (λ z. Gives t bytes (record { answer = given.answer; closed = z })) (sym none) (h given.answer same)
 
+-- the answer to a fault says nothing of a run
+task_fault_is_alone : (t : DocumentTask) (bytes : List ℕ) (k : TextKind) (at : ℕ) → IsAlone (fault_answer_of t bytes k at)
+task_fault_is_alone t bytes k at run = fault_is_alone bytes k at (subst HasCome (fault_verdict t bytes k at) run)
+
 -- a text is at fault
-pub fault_alone : (t : DocumentTask) (bytes : List ℕ) (f : TextFault) (a : Answer_data) → AnswersText t bytes a × (a ≡ fault_answer bytes f.kind f.at) → HoldsAlone (Gives (task.OnDocument t) bytes) a
+pub fault_alone : (t : DocumentTask) (bytes : List ℕ) (f : TextFault) (a : Answer_data) → AnswersText t bytes a × (a ≡ fault_answer_of t bytes f.kind f.at) → HoldsAlone (Gives (task.OnDocument t) bytes) a
 fault_alone t bytes f a h given same none = (
   subst (AnswersText t bytes) (sym same) h.0,
-  not_there _ _ given.closed none (λ due. alone given.answer _ (same ∙ h.1) (fault_is_alone bytes f.kind f.at) due.1),
+  not_there _ _ given.closed none (λ due. alone given.answer _ (same ∙ h.1) (task_fault_is_alone t bytes f.kind f.at) due.1),
 )
 
 -- it spells a document, and nothing is run

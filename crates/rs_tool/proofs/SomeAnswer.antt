@@ -21,13 +21,13 @@ use Rattle.rs_words.specs.declared.tasks.DocumentTask.{DocumentTask}
 use Rattle.rs_words.specs.declared.tasks.DocumentTask.TheVariants as on_document
 use Rattle.rs_words.specs.declared.tasks.Task.{Task}
 use Rattle.rs_words.specs.declared.tasks.Task.TheVariants as task
-use Rattle.rs_tool.specs.Answers.{Answers, SpellsNothing, CarriesOut, AnswersText, IsTooLong, IsFaulty, IsDocument, AnswersDocument, AnswersTask, AnswersData, DataIsTooLong, DataIsShort}
+use Rattle.rs_tool.specs.Answers.{Answers, SpellsNothing, CarriesOut, AnswersText, IsTooLong, IsFaulty, IsDocument, AnswersDocument, AnswersTask, AnswersData, DataIsTooLong, DataIsShort, fault_answer_of}
 use Rattle.rs_answers.specs.Checks as checks
 use Rattle.rs_answers.specs.Checks.{TellsAccepted}
 use Rattle.rs_documents.specs.Data.{Document_data}
 use Rattle.rs_answers.specs.Data.{Answer_data}
 use Rattle.rs_documents.specs.Documents.{SpellsDocument}
-use Rattle.rs_answers.specs.RefusalTexts.{usage, too_large, fault_answer, wf_answer, proj_answer}
+use Rattle.rs_answers.specs.RefusalTexts.{usage, too_large, wf_answer, proj_answer}
 use Rattle.rs_answers.specs.Refusals.{IsWithoutSession, HasNoDerivation, refusal_answer}
 use Rattle.rs_answers.specs.Report.{report}
 use Rattle.rs_answers.proofs.OneImproved.{some_improving}
@@ -128,7 +128,7 @@ of_text : (t : DocumentTask) (bytes : List ℕ) → Some_text t bytes
 of_text t bytes = elim (leb_tells (length bytes) MOST_BYTES) [
   | inl short ↦ elim (spelt_or_faulty bytes) [
     | inl d ↦ let a = document_answer t bytes d.0 d.1 in record { answer = a.answer; answers = IsDocument short.1 d.0 d.1 a.answers }
-    | inr f ↦ record { answer = fault_answer bytes f.0 f.1; answers = IsFaulty short.1 f.0 f.1 f.2 refl }
+    | inr f ↦ record { answer = fault_answer_of t bytes f.0 f.1; answers = IsFaulty short.1 f.0 f.1 f.2 refl }
   ]
   | inr long ↦ record { answer = too_large (codes "text"); answers = IsTooLong long.1 refl }
 ]

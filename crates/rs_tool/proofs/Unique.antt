@@ -19,14 +19,14 @@ use Rattle.rs_words.specs.declared.tasks.DocumentTask.{DocumentTask}
 use Rattle.rs_words.specs.declared.tasks.DocumentTask.TheVariants as on_document
 use Rattle.rs_words.specs.declared.tasks.Task.{Task}
 use Rattle.rs_words.specs.declared.tasks.Task.TheVariants as task
-use Rattle.rs_tool.specs.Answers.{Answers, SpellsNothing, CarriesOut, AnswersText, IsTooLong, IsFaulty, IsDocument, AnswersDocument, AnswersPipeline, AnswersTask, AnswersData, DataIsTooLong}
+use Rattle.rs_tool.specs.Answers.{Answers, SpellsNothing, CarriesOut, AnswersText, IsTooLong, IsFaulty, IsDocument, AnswersDocument, AnswersPipeline, AnswersTask, AnswersData, DataIsTooLong, fault_answer_of}
 use Rattle.rs_tool.specs.Answers.{DataIsShort}
 use Rattle.rs_answers.specs.Checks as checks
 use Rattle.rs_answers.specs.Checks.{Checks, TellsAccepted, with_derivations}
 use Rattle.rs_documents.specs.Data.{Document_data}
 use Rattle.rs_answers.specs.Data.{Answer_data}
 use Rattle.rs_documents.specs.Documents.{SpellsDocument}
-use Rattle.rs_answers.specs.RefusalTexts.{fault_answer, wf_answer, proj_answer}
+use Rattle.rs_answers.specs.RefusalTexts.{wf_answer, proj_answer}
 use Rattle.rs_answers.specs.Refusals.{refusal_answer}
 use Rattle.rs_runs.specs.Pools.{RunsWith}
 use Rattle.rs_model.specs.declared.runs.RunOptions.{RunOptions}
@@ -137,7 +137,7 @@ one_text t bytes a b (IsTooLong l x) (IsDocument s d h y) = absurd (short_and_lo
 one_text t bytes a b (IsFaulty s k at h x) (IsTooLong m y) = absurd (short_and_long bytes s m)
 one_text t bytes a b (IsFaulty s k at h x) (IsFaulty r j place g y) =
     let same = one_fault bytes k j at place h g in
-    inl (x ∙ ap (λ z. fault_answer bytes z at) same.0 ∙ ap (λ z. fault_answer bytes j z) same.1 ∙ sym y)
+    inl (x ∙ ap (λ z. fault_answer_of t bytes z at) same.0 ∙ ap (λ z. fault_answer_of t bytes j z) same.1 ∙ sym y)
 one_text t bytes a b (IsFaulty s k at h x) (IsDocument r d g y) = absurd (no_text_fault bytes d k at g h)
 one_text t bytes a b (IsDocument s d h x) (IsTooLong m y) = absurd (short_and_long bytes s m)
 one_text t bytes a b (IsDocument s d h x) (IsFaulty r k at g y) = absurd (no_text_fault bytes d k at h g)

@@ -17,6 +17,7 @@ use Rattle.rs_model.specs.declared.limits.TheConstants.{DEFAULT_BOUND, MOST_BYTE
 use Rattle.rs_draw.specs.Draws.{Draws}
 use Rattle.rs_tool.specs.Pipelines.{pipeline_text, pipeline_of, pipeline_summary}
 use Rattle.rs_reasons.specs.Explains.{Explains}
+use Rattle.rs_reasons.specs.Malformed.{explained_fault}
 use Rattle.rs_text.specs.declared.faults.TextKind.{TextKind}
 use Rattle.rs_words.specs.Meaning.{IsMeaning, SpellsTask}
 use Rattle.rs_words.specs.declared.tasks.DocumentTask.{DocumentTask}
@@ -36,12 +37,17 @@ AnswersDocument (on_document.Improve options) bytes d answer = Improves options.
 AnswersDocument (on_document.Explain bound) bytes d answer = Explains bound bytes d answer
 AnswersDocument (on_document.Draw role) bytes d answer = Draws role d answer
 
+-- the answer of the task to the first fault of its text
+abbrev pub fault_answer_of : DocumentTask → List ℕ → TextKind → ℕ → Answer_data
+fault_answer_of (on_document.Explain bound) bytes kind at = explained_fault bytes kind at
+fault_answer_of _ bytes kind at = fault_answer bytes kind at
+
 -- the answer of the task to a text
 pub data AnswersText (spelt : DocumentTask) (bytes : List ℕ) (answer : Answer_data) : Type 0 where
   -- it is too long
   IsTooLong : MOST_BYTES < length bytes → answer ≡ too_large (codes "text") → AnswersText spelt bytes answer
   -- it is at fault
-  IsFaulty : length bytes ≤ MOST_BYTES → (kind : TextKind) (at : ℕ) → FirstFault bytes kind at → answer ≡ fault_answer bytes kind at
+  IsFaulty : length bytes ≤ MOST_BYTES → (kind : TextKind) (at : ℕ) → FirstFault bytes kind at → answer ≡ fault_answer_of spelt bytes kind at
       → AnswersText spelt bytes answer
   -- it spells a document
   IsDocument : length bytes ≤ MOST_BYTES → (d : Document_data) → SpellsDocument bytes d → AnswersDocument spelt bytes d answer

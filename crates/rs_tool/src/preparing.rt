@@ -6,6 +6,8 @@ ghost use Rattle.rs_runs.specs.Ready.{IsReadyFor, Warrants};
 ghost use Rattle.rs_io.specs.Faults.{Rose};
 ghost use Rattle.rs_model.specs.declared.limits.TheConstants.{MOST_BYTES};
 ghost use Rattle.rs_model.specs.declared.runs.Workers.{Workers};
+ghost use Rattle.rs_text.specs.declared.faults.TextKind.TheVariants as kind;
+ghost use Rattle.rs_tool.specs.Answers.{fault_answer_of};
 ghost use Rattle.rs_tool.specs.Data.{input_of};
 ghost use Rattle.rs_tool.specs.Preparing.{IsInput, Prepares};
 ghost use Rattle.rs_tool.specs.Sessions.{Gives};
@@ -17,15 +19,16 @@ use crate::generating::answer_to_gen;
 use crate::statuses::CallStop;
 use rs_answers::Piece::Words;
 use rs_answers::{
-    answer_to_fault, check, check_with_derivations, improve_role, migrate, project_all, show,
-    too_large, verify,
+    Answer, answer_to_fault, check, check_with_derivations, improve_role, migrate, project_all,
+    show, too_large, verify,
 };
 use rs_documents::read_document;
 use rs_draw::draw;
 use rs_io::{ReadStop, Source, read_all};
 use rs_model::{MOST_BYTES, NoMemory};
-use rs_reasons::explain;
+use rs_reasons::{explain, explain_fault};
 use rs_runs::{Prepared, ready_demo, ready_run};
+use rs_text::TextFault;
 use rs_words::{DocumentTask, Task};
 use std::alloc::Global;
 
@@ -44,6 +47,23 @@ fn read_input<S: Source>(alloc: Global, source: &mut S) -> Result<Option<Vec<u8>
     }
 }
 
+/// What the task answers to the first fault of its text.
+fn answer_of_task_to_fault(
+    alloc: Global,
+    task: &DocumentTask,
+    bytes: &[u8],
+    fault: TextFault,
+) -> Result<Answer, NoMemory>
+    requires { fault.at ≤ length bytes.now }
+    ensures answer { IfOk result (λ a. a ≡ fault_answer_of task.now bytes.now fault.kind fault.at) }
+    ensures memory { OnOk result (fault.kind ≡ kind.NoMemory → ⊥) }
+{
+    match task {
+        DocumentTask::Explain { .. } => explain_fault(alloc, bytes, fault),
+        _ => answer_to_fault(alloc, bytes, fault),
+    }
+}
+
 /// What comes of the task on a text: of the document that it spells, or of its first fault.
 fn on_text(alloc: Global, task: DocumentTask, bytes: &[u8]) -> Result<Prepared, NoMemory>
     requires short { length bytes.now ≤ MOST_BYTES }
@@ -51,7 +71,9 @@ fn on_text(alloc: Global, task: DocumentTask, bytes: &[u8]) -> Result<Prepared, 
 {
     let document = match read_document(alloc, bytes) {
         Ok(document) => document,
-        Err(fault) => return Prepared::answered(answer_to_fault(alloc, bytes, fault)),
+        Err(fault) => {
+            return Prepared::answered(answer_of_task_to_fault(alloc, &task, bytes, fault));
+        }
     };
     match task {
         DocumentTask::Check(options) => {

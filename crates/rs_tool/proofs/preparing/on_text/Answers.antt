@@ -15,10 +15,10 @@ use Rattle.rs_tool.proofs.preparing.on_text.Goals as goal
 
 pub returns-in-Err : goal.returns-in-Err
 returns-in-Err c =
-    made_leads (workers_of (OnDocument c.args.task)) _ (Gives (OnDocument c.args.task) c.args.bytes.now) c.answer_to_fault.result c.answered.result c.answered.ensures
-    (both_ok c.answer_to_fault.result _ _ _ (λ a p q. (p, q))
-    (of_fault c.args.task c.args.bytes.now c.in-Err.fault c.answer_to_fault.result c.requires.short c.in-Err.ensures.err c.answer_to_fault.ensures.answer c.answer_to_fault.ensures.memory)
-    c.answer_to_fault.ensures.answer)
+    made_leads (workers_of (OnDocument c.args.task)) _ (Gives (OnDocument c.args.task) c.args.bytes.now) c.answer_of_task_to_fault.result c.answered.result c.answered.ensures
+    (both_ok c.answer_of_task_to_fault.result _ _ _ (λ a p q. (p, q))
+    (of_fault c.args.task c.args.bytes.now c.in-Err.fault c.answer_of_task_to_fault.result c.requires.short c.in-Err.ensures.err c.answer_of_task_to_fault.ensures.answer c.answer_of_task_to_fault.ensures.memory)
+    c.answer_of_task_to_fault.ensures.answer)
     (λ a h. fault_alone c.args.task c.args.bytes.now c.in-Err.fault a h)
 
 pub check_with_derivations-requires-clause-shown : goal.check_with_derivations-requires-clause-shown
