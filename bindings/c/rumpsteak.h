@@ -234,7 +234,8 @@ uint32_t rumpsteak_state(rumpsteak_endpoint *endpoint, uint32_t *direction, uint
 uint32_t rumpsteak_arm(rumpsteak_endpoint *endpoint, uint32_t place, uint32_t *label, uint32_t *kind);
 
 /* Sends a message with the label to the state's peer. Each looks once. RUMPSTEAK_FULL, RUMPSTEAK_NOT_NOW or RUMPSTEAK_NO_MEMORY: nothing was
- * sent, and the role stands as before. Bytes and numbers are copied. */
+ * sent, and the role stands as before. Bytes and numbers are copied once there is room for them: a call that answers RUMPSTEAK_FULL or
+ * RUMPSTEAK_NOT_NOW has copied nothing and asked for no memory. */
 uint32_t rumpsteak_send_unit(rumpsteak_endpoint *endpoint, uint32_t label);
 uint32_t rumpsteak_send_bool(rumpsteak_endpoint *endpoint, uint32_t label, bool value);
 uint32_t rumpsteak_send_nat(rumpsteak_endpoint *endpoint, uint32_t label, uint64_t value);

@@ -1,12 +1,12 @@
 /* Refuses each allocation in turn, by the linker's --wrap. Each call then answers RUMPSTEAK_NO_MEMORY, or needs no memory and goes on; a call
- * that was refused can be made again; nothing leaks. */
+ * that was refused can be made again; nothing leaks. And a message that can't be sent now asks for no memory. */
 #include "rumpsteak.h"
 
 #include <stdio.h>
 #include <stdlib.h>
 #include <string.h>
 
-static long left = -1, live, refused;
+static long left = -1, live, refused, asked;
 
 void *__real_malloc(size_t length);
 void *__real_realloc(void *at, size_t length);
@@ -14,6 +14,7 @@ void __real_free(void *at);
 
 /* Allocations succeed until none is left; then one is refused, and the later ones succeed again. */
 static int is_refused(void) {
+    asked++;
     if (left < 0 || left-- > 0)
         return 0;
     refused++;
@@ -101,8 +102,36 @@ static long turn(void) {
     return again;
 }
 
+/* Where the ring is full, or the role may not send so, nothing is copied, also if memory would be refused. */
+static void waits_without_memory(void) {
+    rumpsteak_session session = {0};
+    rumpsteak_endpoint s = {0}, t = {0};
+    rumpsteak_text_handle answer = {0};
+    const uint8_t bytes[3] = {1, 2, 3};
+    const int64_t numbers[2] = {1, -1};
+    left = -1;
+    MUST(rumpsteak_open(at, length, 1, &session, &answer) == RUMPSTEAK_FINE);
+    MUST(rumpsteak_endpoint_of(&session, 0, &s) == RUMPSTEAK_FINE && rumpsteak_endpoint_of(&session, 1, &t) == RUMPSTEAK_FINE);
+    left = 0;
+    MUST(rumpsteak_send_bytes(&s, 0, bytes, 3) == RUMPSTEAK_NO_MEMORY);
+    MUST(rumpsteak_send_bytes(&s, 0, bytes, 3) == RUMPSTEAK_FINE);
+    left = 0;
+    long before = asked;
+    MUST(rumpsteak_send_bytes(&s, 0, bytes, 3) == RUMPSTEAK_FULL && rumpsteak_send_list(&s, 1, numbers, 2) == RUMPSTEAK_FULL);
+    MUST(rumpsteak_send_bytes(&s, 1, bytes, 3) == RUMPSTEAK_NOT_NOW && rumpsteak_send_list(&s, 0, numbers, 2) == RUMPSTEAK_NOT_NOW);
+    MUST(rumpsteak_send_bytes(&s, 3, bytes, 3) == RUMPSTEAK_NOT_NOW && rumpsteak_send_list(&s, 1 << 16, numbers, 2) == RUMPSTEAK_NOT_NOW);
+    MUST(rumpsteak_send_bytes(&t, 0, bytes, 3) == RUMPSTEAK_NOT_NOW && rumpsteak_send_list(&t, 1, numbers, 2) == RUMPSTEAK_NOT_NOW);
+    MUST(asked == before);
+    left = -1;
+    rumpsteak_leave(&s);
+    rumpsteak_leave(&t);
+    rumpsteak_close(&session);
+    MUST(live == 0);
+}
+
 int main(void) {
     long calls = 0;
+    waits_without_memory();
     for (long first = 0; first < 1000000; first++) {
         long before = refused;
         left = first;

@@ -1,5 +1,7 @@
 """Answers to texts: what the program `rumpsteak` prints, and why a text is refused."""
 
+import os
+import re
 from ctypes import byref
 from typing import NamedTuple, Optional, Tuple, Union
 
@@ -7,9 +9,17 @@ from ._library import CALLS, FINE, NO_MEMORY, Handle, status_text, text_of
 
 _REFUSALS = {1: "refused", 2: "usage", 3: "malformed", 4: "unprojectable", 5: "too large"}
 
+# The faults of a derivation that a text has, as `verify` prints them after the role. A search for derivations has none of them.
+_DERIVATION_FAULT = re.compile(r"bad start|(bad state|too long|no move) at node \d+|(wrong next|forgets) at node \d+ arm \d+")
+_OUTDATED = "The certificate (the derivations in the text) is for another version of the text: certify the text again."
+
 
 class RumpsteakError(Exception):
     """What goes wrong in this package."""
+
+
+class Closed(RumpsteakError):
+    """The session, endpoint or monitor was closed, so that it has no state and makes no act."""
 
 
 class Refused(RumpsteakError):
@@ -17,18 +27,22 @@ class Refused(RumpsteakError):
     text was to be opened.
 
     `status` is the program's status, `kind` the same in a word (refused, usage, malformed, unprojectable, too large), and `role` the role
-    whose machine or projection is at fault, or None.
+    whose machine or projection is at fault, or None. `is_outdated` says that the text has a certificate (as `certify` makes it) which isn't
+    one of this text, since a machine or the protocol was changed later; the exception's text then says so too.
     """
 
     def __init__(self, status: int, text: str) -> None:
-        super().__init__(text.rstrip("\n") or status_text(status))
         self.status = status
         self.text = text
         self.kind = _REFUSALS.get(status, "status %d" % status)
         self.role: Optional[str] = None
+        self.is_outdated = False
         lines = text.split("\n")
         if status in (1, 4) and len(lines) > 1 and ": " in lines[1]:
-            self.role = lines[1].split(": ")[0]
+            self.role, fault = lines[1].split(": ", 1)
+            self.is_outdated = _DERIVATION_FAULT.fullmatch(fault) is not None
+        told = text.rstrip("\n") or status_text(status)
+        super().__init__("%s\n%s" % (told, _OUTDATED) if self.is_outdated else told)
 
 
 class Answer(NamedTuple):
@@ -52,6 +66,22 @@ class Report:
         return "Report(%r)" % self.text
 
 
+def bytes_of_text(text: Union[str, bytes]) -> bytes:
+    """The text as the library reads it. The name of a file is a mistake: its text is wanted."""
+    if isinstance(text, bytes):
+        return text
+    if isinstance(text, os.PathLike) or (isinstance(text, str) and "\n" not in text and os.path.isfile(text)):
+        name = os.fspath(text)
+        raise ValueError("%r is the name of a file, and its text is wanted: read it by open(%r).read()" % (name, name))
+    return text.encode()
+
+
+def with_text_first(text: str, role: str) -> None:
+    """Raises ValueError if a role and a text were given the other way round."""
+    if isinstance(text, str) and len(text.split()) == 1 and len(role.split()) > 1:
+        raise ValueError("the text comes first, and then the role: %r is no text" % text)
+
+
 def ask(*words: str, text: Union[str, bytes] = "") -> Answer:
     """What the program `rumpsteak` prints if it is called with these words and reads this text, and its status.
 
@@ -61,7 +91,7 @@ def ask(*words: str, text: Union[str, bytes] = "") -> Answer:
     0 B!{hello(nat) 1}
     """
     spelt, answer = "\0".join(words).encode(), Handle()
-    data = text.encode() if isinstance(text, str) else text
+    data = bytes_of_text(text)
     status = CALLS["ask"](spelt, len(spelt), data, len(data), byref(answer))
     told = text_of(answer)
     if status == NO_MEMORY:
@@ -103,8 +133,13 @@ def certify(text: str, bound: Optional[int] = None) -> str:
     return told
 
 
-def improve(role: str, text: str, swaps: int = 1) -> str:
-    """The text with up to `swaps` sends of the role moved ahead of its receives, and with a derivation of each role."""
+def improve(text: str, role: str, swaps: int = 1) -> str:
+    """The text with up to `swaps` sends of the role moved ahead of its receives, and with a derivation of each role.
+
+    >>> improve("roles A, B protocol rec X. A->B:ping(). B->A:pong(). X", "B").split(chr(10))[0]
+    '# B: swaps 1, asked'
+    """
+    with_text_first(text, role)
     status, told = ask("improve", role, "--swaps", str(swaps), text=text)
     if status != FINE:
         raise Refused(status, told)

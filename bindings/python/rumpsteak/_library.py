@@ -3,9 +3,9 @@
 import ctypes
 import os
 from ctypes import POINTER, byref, c_bool, c_char_p, c_int64, c_size_t, c_uint16, c_uint32, c_uint64, c_void_p
-from typing import Any, Callable, Dict, List, Tuple
+from typing import Any, Callable, Dict, List, Optional, Tuple
 
-FINE, NO_MEMORY, TOO_SMALL, FULL, EMPTY, NOT_NOW, UNKNOWN, HANDED_OUT, GONE = 0, 8, 17, 19, 20, 21, 22, 23, 24
+FINE, NO_MEMORY, TOO_SMALL, CLOSED, FULL, EMPTY, NOT_NOW, UNKNOWN, HANDED_OUT, GONE = 0, 8, 17, 18, 19, 20, 21, 22, 23, 24
 KINDS = ("unit", "bool", "nat", "int", "bytes", "list")
 UNIT, BOOL, NAT, INT, BYTES, LIST = range(6)
 
@@ -109,17 +109,17 @@ def names_of(handle: Handle, call: str) -> Tuple[str, ...]:
     return tuple(names)
 
 
-def number_at(handle: Handle, call: str) -> int:
-    """The number that a call writes."""
+def number_at(handle: Handle, call: str) -> Optional[int]:
+    """The number that a call writes; None if the handle is closed."""
     number = c_uint64()
-    CALLS[call](byref(handle), byref(number))
-    return number.value
+    return number.value if CALLS[call](byref(handle), byref(number)) == FINE else None
 
 
-def state_of(handle: Handle, prefix: str) -> Tuple[int, int, List[Tuple[int, int]]]:
-    """The direction, the peer's number, and the arms, each with the numbers of its label and its kind."""
+def state_of(handle: Handle, prefix: str) -> Optional[Tuple[int, int, List[Tuple[int, int]]]]:
+    """The direction, the peer's number, and the arms, each with the numbers of its label and its kind; None if the handle is closed."""
     direction, peer, count, label, kind = c_uint32(), c_uint32(), c_uint32(), c_uint32(), c_uint32()
-    CALLS[prefix + "state"](byref(handle), byref(direction), byref(peer), byref(count))
+    if CALLS[prefix + "state"](byref(handle), byref(direction), byref(peer), byref(count)) != FINE:
+        return None
     arms = []
     for place in range(count.value):
         CALLS[prefix + "arm"](byref(handle), place, byref(label), byref(kind))

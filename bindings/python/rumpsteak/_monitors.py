@@ -5,8 +5,8 @@ from ctypes import byref
 from types import TracebackType
 from typing import Optional, Tuple, Type
 
-from ._answers import Refused, RumpsteakError, refusal
-from ._library import CALLS, FINE, KINDS, NAT, UNKNOWN, Handle, names_of, number_at
+from ._answers import Closed, Refused, RumpsteakError, bytes_of_text, refusal, with_text_first
+from ._library import CALLS, CLOSED, FINE, KINDS, NAT, NO_MEMORY, UNKNOWN, Handle, names_of, number_at, status_text
 from ._states import Sendable, State, kind_of, state_at
 
 _NUMBERS = range(-(2**63), 2**63)
@@ -48,7 +48,7 @@ class Monitor:
     The program calls `sent` before each message that it puts into a queue, and `received` after each that it took from one. An act that the
     machine doesn't have raises Departure, and changes nothing. If all programs go through their monitors, and there is one queue for each
     ordered pair of roles, which neither loses nor reorders messages and holds at least `room` of them, then what `check` promises of the
-    machines holds of the programs. The text is accepted as by Session.
+    machines holds of the programs. The text is accepted as by Session. A monitor that was closed raises Closed.
 
     >>> camera = Monitor("roles A, B protocol A->B:hello(nat). B->A:done(). end", "A")
     >>> camera.sent("B", "hello", 7)
@@ -59,7 +59,8 @@ class Monitor:
 
     def __init__(self, text: str, role: str) -> None:
         self._handle = Handle()
-        data, name, left = text.encode(), role.encode(), Handle()
+        with_text_first(text, role)
+        data, name, left = bytes_of_text(text), role.encode(), Handle()
         status = CALLS["monitor_open"](data, len(data), name, len(name), byref(self._handle), byref(left))
         if status == UNKNOWN:
             raise Refused(3, "the text has no role %s\n" % role)
@@ -69,7 +70,7 @@ class Monitor:
         self.role = role
         self.roles: Tuple[str, ...] = names_of(self._handle, "monitor_role_name")
         self.labels: Tuple[str, ...] = names_of(self._handle, "monitor_label_name")
-        self.room: int = number_at(self._handle, "monitor_room")
+        self.room: int = number_at(self._handle, "monitor_room") or 0
         self._role_numbers = {name: number for number, name in enumerate(self.roles)}
         self._label_numbers = {name: number for number, name in enumerate(self.labels)}
 
@@ -77,7 +78,10 @@ class Monitor:
     def state(self) -> State:
         """What the program may do next."""
         with self._lock:
-            return state_at(self._handle, "monitor_", self.roles, self.labels)
+            found = state_at(self._handle, "monitor_", self.roles, self.labels)
+        if found is None:
+            raise self._closed()
+        return found
 
     @property
     def has_ended(self) -> bool:
@@ -87,7 +91,10 @@ class Monitor:
     def acts(self) -> int:
         """How many acts were let through."""
         with self._lock:
-            return number_at(self._handle, "monitor_acts")
+            found = number_at(self._handle, "monitor_acts")
+        if found is None:
+            raise self._closed()
+        return found
 
     def may_send(self, peer: str, label: str, value: Sendable = None) -> bool:
         """Whether the program may send this message now; nothing changes."""
@@ -116,18 +123,24 @@ class Monitor:
     def __del__(self) -> None:
         CALLS["monitor_close"](byref(self._handle))
 
+    def _closed(self) -> Closed:
+        return Closed("the monitor of %s is closed" % self.role)
+
     def _judge(self, call: str, peer: str, label: str, value: Sendable) -> int:
         role, number, kind = self._role_numbers.get(peer), self._label_numbers.get(label), _own_kind(value)
         if role is None or number is None:
             return UNKNOWN
         with self._lock:
-            return CALLS["monitor_" + call](byref(self._handle), role, number, kind, value if kind == NAT else 0)
+            status = CALLS["monitor_" + call](byref(self._handle), role, number, kind, value if kind == NAT else 0)
+        if status == CLOSED:
+            raise self._closed()
+        if status == NO_MEMORY:
+            raise MemoryError(status_text(NO_MEMORY))
+        return status
 
     def _must(self, call: str, peer: str, label: str, value: Sendable) -> None:
         status = self._judge(call, peer, label, value)
         if status != FINE:
-            if status not in _REASONS:
-                raise RumpsteakError("the monitor is closed")
             sort, state = KINDS[kind_of(value)], self.state
             act = "%s(%s)" % (label, "" if sort == "unit" else sort)
             act = "send %s to %s" % (act, peer) if call == "sent" else "receive %s from %s" % (act, peer)

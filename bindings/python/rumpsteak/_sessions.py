@@ -8,8 +8,8 @@ from ctypes import byref, c_int64, c_size_t
 from types import TracebackType
 from typing import Dict, Iterator, List, NamedTuple, Optional, Tuple, Type
 
-from ._answers import RumpsteakError, refusal
-from ._library import (BOOL, BYTES, CALLS, EMPTY, FINE, FULL, GONE, HANDED_OUT, INT, KINDS, LIST, NAT, NO_MEMORY, UNIT, Handle, RawMessage,
+from ._answers import Closed, RumpsteakError, bytes_of_text, refusal
+from ._library import (BOOL, BYTES, CALLS, CLOSED, EMPTY, FINE, FULL, GONE, HANDED_OUT, INT, KINDS, LIST, NAT, NO_MEMORY, UNIT, Handle, RawMessage,
                        names_of, number_at, status_text)
 from ._states import Sendable, State, Value, bytes_of, kind_of, state_at
 
@@ -52,14 +52,14 @@ class Session:
         self._handle = Handle()
         if capacity is not None and not 1 <= capacity <= 1024:
             raise ValueError("a queue holds 1 to 1,024 messages")
-        data, left = text.encode(), Handle()
+        data, left = bytes_of_text(text), Handle()
         status = CALLS["open"](data, len(data), capacity or 0, byref(self._handle), byref(left))
         if status != FINE:
             raise refusal(status, left)
         self._lock = threading.Lock()
         self.roles: Tuple[str, ...] = names_of(self._handle, "role_name")
         self.labels: Tuple[str, ...] = names_of(self._handle, "label_name")
-        self.room: int = number_at(self._handle, "room")
+        self.room: int = number_at(self._handle, "room") or 0
 
     def endpoint(self, role: str) -> "Endpoint":
         """The endpoint of the role, once. It lives on when the session is closed."""
@@ -73,7 +73,7 @@ class Session:
         if status == HANDED_OUT:
             raise RumpsteakError("%s: %s" % (role, status_text(HANDED_OUT)))
         if status != FINE:
-            raise RumpsteakError("the session is closed")
+            raise Closed("the session is closed")
         return Endpoint(handle, role, self.roles, self.labels)
 
     def endpoints(self) -> "Dict[str, Endpoint]":
@@ -101,7 +101,8 @@ class Endpoint:
     no endpoint is closed before its role has ended, some role can always act until all have ended.
 
     A closed endpoint gives its role up. What it sent can still be received; then who receives from it gets the exception Gone, and who
-    sends to it waits for ever once the queue is full (so give a timeout, or use try_send, if peers may fail).
+    sends to it waits for ever once the queue is full (so give a timeout, or use try_send, if peers may fail). The closed endpoint itself has
+    no state any more: it raises Closed.
 
     One thread uses an endpoint at a time. An endpoint closes itself at the end of a `with` block, or when nothing refers to it.
     """
@@ -115,7 +116,10 @@ class Endpoint:
     def state(self) -> State:
         """What the role does next."""
         with self._lock:
-            return state_at(self._handle, "", self._roles, self._labels)
+            found = state_at(self._handle, "", self._roles, self._labels)
+        if found is None:
+            raise self._closed()
+        return found
 
     @property
     def has_ended(self) -> bool:
@@ -126,6 +130,8 @@ class Endpoint:
         status = self._post(label, value)
         if status == FINE or status == FULL:
             return status == FINE
+        if status == CLOSED:
+            raise self._closed()
         if status == NO_MEMORY:
             raise MemoryError(status_text(NO_MEMORY))
         sort = KINDS[kind_of(value)]
@@ -152,6 +158,8 @@ class Endpoint:
                 found = Message(self._labels[message.label], self._value(message))
         if status == FINE or status == EMPTY:
             return found
+        if status == CLOSED:
+            raise self._closed()
         if status == GONE:
             raise Gone("nothing comes any more: the endpoint of %s was closed" % self.state.peer)
         if status == NO_MEMORY:
@@ -198,6 +206,9 @@ class Endpoint:
 
     def __repr__(self) -> str:
         return "Endpoint(%s)" % self.role
+
+    def _closed(self) -> Closed:
+        return Closed("the endpoint of %s is closed" % self.role)
 
     def _post(self, label: str, value: Sendable) -> int:
         number, at = self._numbers.get(label, 0xFFFF_FFFF), byref(self._handle)

@@ -51,8 +51,12 @@ class State(NamedTuple):
 _DIRECTIONS = {1: "sends", 2: "receives"}
 
 
-def state_at(handle: Handle, prefix: str, roles: Sequence[str], labels: Sequence[str]) -> State:
-    direction, peer, arms = state_of(handle, prefix)
+def state_at(handle: Handle, prefix: str, roles: Sequence[str], labels: Sequence[str]) -> Optional[State]:
+    """The state behind the handle; None if the handle is closed."""
+    found = state_of(handle, prefix)
+    if found is None:
+        return None
+    direction, peer, arms = found
     if direction not in _DIRECTIONS:
         return State("ended", None, ())
     return State(_DIRECTIONS[direction], roles[peer], tuple(Arm(labels[label], KINDS[kind]) for label, kind in arms))

@@ -4,6 +4,7 @@ import asyncio
 import doctest
 import importlib
 import os
+import pathlib
 import shutil
 import subprocess
 import sys
@@ -12,7 +13,7 @@ import threading
 import unittest
 
 import rumpsteak
-from rumpsteak import Departure, Endpoint, Gone, Message, Monitor, NotNow, Refused, Session
+from rumpsteak import Closed, Departure, Endpoint, Gone, Message, Monitor, NotNow, Refused, Session
 
 VALUES = """
 roles A, B
@@ -62,11 +63,35 @@ class Answers(unittest.TestCase):
         self.assertEqual(str(Refused(16, "")), "the words ask for several workers, of which the library has none")
 
     def test_improve_moves_a_send_ahead(self):
-        improved = rumpsteak.improve("B", "roles A, B protocol rec X. A->B:ping(). B->A:pong(). X")
+        improved = rumpsteak.improve("roles A, B protocol rec X. A->B:ping(). B->A:pong(). X", "B")
         self.assertTrue(improved.startswith("# B: swaps 1, asked\n"), improved)
         rumpsteak.check(improved)
         with self.assertRaises(Refused):
-            rumpsteak.improve("Q", RING)
+            rumpsteak.improve(RING, "Q")
+
+    def test_the_text_comes_before_the_role(self):
+        for call in rumpsteak.improve, Monitor:
+            with self.assertRaises(ValueError) as caught:
+                call("Screen", FILM)
+            self.assertEqual(str(caught.exception), "the text comes first, and then the role: 'Screen' is no text")
+
+    def test_the_name_of_a_file_is_no_text(self):
+        with tempfile.TemporaryDirectory() as folder:
+            path = os.path.join(folder, "film.txt")
+            with open(path, "w") as file:
+                file.write(FILM)
+            calls = [rumpsteak.check, rumpsteak.explain, rumpsteak.certify, Session]
+            calls += [lambda text: rumpsteak.improve(text, "Screen"), lambda text: Monitor(text, "Screen"), lambda text: rumpsteak.ask("show", text=text)]
+            for call in calls:
+                for name in path, pathlib.Path(path):
+                    with self.assertRaises(ValueError) as caught:
+                        call(name)
+                    self.assertIn("read it by open(%r).read()" % path, str(caught.exception))
+            with self.assertRaises(Refused) as caught:
+                rumpsteak.check(path + ".old")
+            self.assertEqual(caught.exception.kind, "malformed")
+            with open(path) as file:
+                rumpsteak.check(file.read())
 
     def test_other_words_and_other_bytes(self):
         self.assertEqual(rumpsteak.ask("chek", text=RING)[0], 2)
@@ -155,8 +180,21 @@ class Sessions(unittest.TestCase):
         self.assertEqual(ends["A"].receive().value, 2)
         with self.assertRaises(Gone):
             ends["C"].receive()
-        with self.assertRaises(rumpsteak.RumpsteakError):
-            ends["B"].send("x", 1)
+
+    def test_a_closed_endpoint_says_that_it_is_closed(self):
+        a, _ = self.two()
+        a.close()
+        a.close()
+        reads = [lambda: a.state, lambda: a.has_ended, lambda: list(a)]
+        for call in [*reads, lambda: a.send("unit"), lambda: a.try_send("none"), lambda: a.send("octets", b"more"), a.receive, a.try_receive]:
+            with self.assertRaises(Closed) as caught:
+                call()
+            self.assertEqual(str(caught.exception), "the endpoint of A is closed")
+        session = Session(RING)
+        session.close()
+        with self.assertRaises(Closed) as caught:
+            session.endpoint("A")
+        self.assertEqual(str(caught.exception), "the session is closed")
 
     def test_endpoints_are_handed_out_once(self):
         session = Session(RING)
@@ -271,6 +309,38 @@ class Monitors(unittest.TestCase):
             with self.assertRaises(Refused) as caught:
                 opens()
             self.assertEqual((caught.exception.status, caught.exception.text), rumpsteak.ask("verify", text=wrong))
+            self.assertTrue(caught.exception.is_outdated)
+
+    def test_a_certificate_of_another_version_is_said_to_be_outdated(self):
+        first = "roles A, B protocol B->A:x(). A->B:y(). end machine A: B!y(). B?x(). end"
+        second = "roles A, B protocol B->A:x(). A->B:y(). A->B:z(). end machine A: B!y(). B?x(). B!z(). end"
+        certified = rumpsteak.certify(first)
+        mixed = second + "\n" + certified[certified.index("derivation"):]
+        status, told = rumpsteak.ask("verify", text=mixed)
+        self.assertEqual(status, 1)
+        for opens in (lambda: Monitor(mixed, "A")), (lambda: Session(mixed)):
+            with self.assertRaises(Refused) as caught:
+                opens()
+            self.assertTrue(caught.exception.is_outdated)
+            self.assertEqual(caught.exception.text, told)
+            lines = str(caught.exception).split("\n")
+            self.assertEqual(lines[:-1], told.rstrip("\n").split("\n"))
+            self.assertTrue(lines[-1].endswith("is for another version of the text: certify the text again."), lines[-1])
+        Session(rumpsteak.certify(mixed)).close()
+        for text in (WRONG, AHEAD):
+            with self.assertRaises(Refused) as caught:
+                Session(text)
+            self.assertFalse(caught.exception.is_outdated)
+            self.assertEqual(str(caught.exception), caught.exception.text.rstrip("\n"))
+
+    def test_a_closed_monitor_says_that_it_is_closed(self):
+        with Monitor(FILM, "Screen") as screen:
+            screen.sent("Camera", "ready")
+        reads = [lambda: screen.state, lambda: screen.has_ended, lambda: screen.acts, lambda: screen.may_send("Camera", "ready")]
+        for call in [*reads, lambda: screen.sent("Camera", "ready"), lambda: screen.sent("Cinema", "ready"), lambda: screen.received("Camera", "over")]:
+            with self.assertRaises(Closed) as caught:
+                call()
+            self.assertEqual(str(caught.exception), "the monitor of Screen is closed")
 
     def test_a_refused_text_has_no_monitor(self):
         for text, role in ((WRONG, "A"), (FILM, "Cinema")):

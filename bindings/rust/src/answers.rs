@@ -125,16 +125,16 @@ pub fn certify(text: &str) -> Result<String, Refusal> {
     }
 }
 
-/// Moves sends of the role ahead of its receives, as often as is asked: the document with the machine that results, and with a
+/// Moves sends of the role ahead of its receives, as often as `swaps` says: the document with the machine that results, and with a
 /// derivation of each role.
 ///
 /// ```
 /// let text = "roles A, B protocol rec X. A->B:ping(). B->A:pong(). X";
-/// let improved = rumpsteak::improve("B", 1, text).unwrap();
+/// let improved = rumpsteak::improve(text, "B", 1).unwrap();
 /// assert!(improved.starts_with("# B: swaps 1, asked\n"));
 /// assert!(rumpsteak::check(&improved).is_ok());
 /// ```
-pub fn improve(role: &str, swaps: u32, text: &str) -> Result<String, Refusal> {
+pub fn improve(text: &str, role: &str, swaps: u32) -> Result<String, Refusal> {
     let answer = ask(&["improve", role, "--swaps", &swaps.to_string()], text);
     if answer.status == raw::FINE {
         Ok(answer.text)
@@ -278,10 +278,34 @@ impl Refusal {
 
     /// The role whose machine, or whose projection, is at fault.
     pub fn role(&self) -> Option<&str> {
+        self.blame().map(|(role, _)| role)
+    }
+
+    /// The second line of a refusal for a role: the role, and what is wrong with its machine, its projection or its derivation.
+    fn blame(&self) -> Option<(&str, &str)> {
         match self.kind {
-            RefusalKind::Refused | RefusalKind::Unprojectable => self.text.lines().nth(1)?.split_once(": ").map(|(role, _)| role),
+            RefusalKind::Refused | RefusalKind::Unprojectable => self.text.lines().nth(1)?.split_once(": "),
             _ => None,
         }
+    }
+
+    /// Whether the text has a certificate (as [`certify`] makes it) that isn't one of this text, since a machine or the protocol was changed
+    /// later. The error's message then says so in its last line.
+    ///
+    /// ```
+    /// use rumpsteak::{certify, Session};
+    ///
+    /// let certified = certify("roles A, B protocol B->A:x(). A->B:y(). end machine A: B!y(). B?x(). end")?;
+    /// let certificate = &certified[certified.find("derivation").unwrap()..];
+    /// let changed = format!("roles A, B protocol B->A:x(). A->B:y(). end machine A: B?x(). B!y(). end\n{certificate}");
+    /// let refusal = Session::open(&changed).unwrap_err();
+    /// assert!(refusal.is_outdated());
+    /// assert!(refusal.to_string().ends_with("is for another version of the text: certify the text again."));
+    /// Session::open(&certify(&changed)?)?;
+    /// # Ok::<(), rumpsteak::Refusal>(())
+    /// ```
+    pub fn is_outdated(&self) -> bool {
+        self.blame().is_some_and(|(_, fault)| is_derivation_fault(fault))
     }
 
     /// The lines that the program prints.
@@ -290,9 +314,26 @@ impl Refusal {
     }
 }
 
+/// Whether this is a fault of a derivation that the text has, as `verify` prints them. A search for derivations has none of them.
+fn is_derivation_fault(fault: &str) -> bool {
+    let Some((what, place)) = fault.split_once(" at node ") else {
+        return fault == "bad start";
+    };
+    match what {
+        "bad state" | "too long" | "no move" => true,
+        "wrong next" | "forgets" => place.contains(" arm "),
+        _ => false,
+    }
+}
+
+/// The lines that the program prints; for an outdated certificate, a line more says what to do.
 impl fmt::Display for Refusal {
     fn fmt(&self, f: &mut fmt::Formatter<'_>) -> fmt::Result {
-        f.write_str(self.text.trim_end())
+        f.write_str(self.text.trim_end())?;
+        if self.is_outdated() {
+            f.write_str("\nThe certificate (the derivations in the text) is for another version of the text: certify the text again.")?;
+        }
+        Ok(())
     }
 }
 

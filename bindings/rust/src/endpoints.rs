@@ -27,7 +27,8 @@ pub struct Endpoint {
     role: Role,
 }
 
-// SAFETY: a handle may be used by any thread, by one call at a time; each call that uses it takes `&mut self`.
+// SAFETY: a handle may be used by any thread, by one call at a time. A call that acts takes `&mut self`; calls that read take `&self`, which
+// is a reference of one thread, as an endpoint isn't `Sync` (`Handle::place`).
 unsafe impl Send for Endpoint {}
 
 /// A message that was received: its label, by name and number, and its value.
@@ -91,15 +92,15 @@ impl Endpoint {
     /// assert!(a.has_ended());
     /// # Ok::<(), Box<dyn std::error::Error>>(())
     /// ```
-    pub fn state(&mut self) -> State<'_> {
-        state(&mut self.raw, &self.names, raw::rumpsteak_state, raw::rumpsteak_arm)
+    pub fn state(&self) -> State<'_> {
+        state(&self.raw, &self.names, raw::rumpsteak_state, raw::rumpsteak_arm)
     }
 
     /// Whether the role has ended.
-    pub fn has_ended(&mut self) -> bool {
+    pub fn has_ended(&self) -> bool {
         let (mut direction, mut peer, mut arms) = (0, 0, 0);
-        // SAFETY: the handle is open and ours alone, and the places are ours.
-        unsafe { raw::rumpsteak_state(&mut self.raw, &mut direction, &mut peer, &mut arms) };
+        // SAFETY: the handle is open, and no other call has it (`Handle::place` says why); the places are ours.
+        unsafe { raw::rumpsteak_state(self.raw.place(), &mut direction, &mut peer, &mut arms) };
         direction != raw::SENDS && direction != raw::RECEIVES
     }
 
@@ -245,7 +246,7 @@ impl Endpoint {
     }
 
     #[cold]
-    fn cannot_send(&mut self, label: &impl AsLabel, value: &Value) -> ActError {
+    fn cannot_send(&self, label: &impl AsLabel, value: &Value) -> ActError {
         let act = format!("send {}({})", label.told(&NameTable(&self.names)), value.sort());
         ActError::NotNow { role: self.role().to_owned(), act, state: self.state().to_string() }
     }

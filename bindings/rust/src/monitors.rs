@@ -29,6 +29,13 @@ use std::sync::Arc;
 /// assert_eq!(error.to_string(), "Screen can't send ready() to Camera now: its state is Camera?{frame(bytes)}");
 /// # Ok::<(), Box<dyn std::error::Error>>(())
 /// ```
+///
+/// A monitor may be moved to another thread, but not shared:
+///
+/// ```compile_fail
+/// fn shared<T: Sync>() {}
+/// shared::<rumpsteak::Monitor>();
+/// ```
 pub struct Monitor {
     raw: Handle,
     names: Arc<Names>,
@@ -36,7 +43,8 @@ pub struct Monitor {
     room: u64,
 }
 
-// SAFETY: a handle may be used by any thread, by one call at a time; each call that uses it takes `&mut self`.
+// SAFETY: a handle may be used by any thread, by one call at a time. A call that lets an act through takes `&mut self`; calls that read
+// take `&self`, which is a reference of one thread, as a monitor isn't `Sync` (`Handle::place`).
 unsafe impl Send for Monitor {}
 
 /// A call that asks a monitor about an act: the peer, the label, the kind of the value, and the value of a natural number.
@@ -91,25 +99,25 @@ impl Monitor {
     }
 
     /// What the program may do next.
-    pub fn state(&mut self) -> State<'_> {
-        state(&mut self.raw, &self.names, raw::rumpsteak_monitor_state, raw::rumpsteak_monitor_arm)
+    pub fn state(&self) -> State<'_> {
+        state(&self.raw, &self.names, raw::rumpsteak_monitor_state, raw::rumpsteak_monitor_arm)
     }
 
     /// Whether the role has ended.
-    pub fn has_ended(&mut self) -> bool {
+    pub fn has_ended(&self) -> bool {
         self.state() == State::Ended
     }
 
     /// How many acts were let through.
-    pub fn acts(&mut self) -> u64 {
+    pub fn acts(&self) -> u64 {
         let mut acts = 0;
-        // SAFETY: the handle is open and ours alone, and the place is ours.
-        unsafe { raw::rumpsteak_monitor_acts(&mut self.raw, &mut acts) };
+        // SAFETY: the handle is open, and no other call has it (`Handle::place` says why); the place is ours.
+        unsafe { raw::rumpsteak_monitor_acts(self.raw.place(), &mut acts) };
         acts
     }
 
     /// Whether the program may send this message now; nothing changes.
-    pub fn may_send(&mut self, peer: impl AsRole, label: impl AsLabel, value: &Value) -> Result<(), Departure> {
+    pub fn may_send(&self, peer: impl AsRole, label: impl AsLabel, value: &Value) -> Result<(), Departure> {
         self.judge(raw::rumpsteak_monitor_may_send, "send", &peer, &label, value)
     }
 
@@ -128,13 +136,13 @@ impl Monitor {
     }
 
     #[inline]
-    fn judge(&mut self, call: Judge, verb: &str, peer: &impl AsRole, label: &impl AsLabel, value: &Value) -> Result<(), Departure> {
+    fn judge(&self, call: Judge, verb: &str, peer: &impl AsRole, label: &impl AsLabel, value: &Value) -> Result<(), Departure> {
         let table = NameTable(&self.names);
         let status = match (peer.number(&table), label.number(&table)) {
             (Some(peer), Some(label)) => {
                 let natural = if let Value::Nat(number) = value { *number } else { 0 };
-                // SAFETY: the handle is open and ours alone.
-                unsafe { call(&mut self.raw, peer, label, value.kind(), natural) }
+                // SAFETY: the handle is open, and no other call has it (`Handle::place` says why).
+                unsafe { call(self.raw.place(), peer, label, value.kind(), natural) }
             }
             _ => raw::UNKNOWN,
         };
@@ -146,7 +154,7 @@ impl Monitor {
     }
 
     #[cold]
-    fn departure(&mut self, status: u32, verb: &str, peer: &impl AsRole, label: &impl AsLabel, value: &Value) -> Departure {
+    fn departure(&self, status: u32, verb: &str, peer: &impl AsRole, label: &impl AsLabel, value: &Value) -> Departure {
         let reason = match status {
             raw::ANOTHER_PEER => Reason::AnotherPeer,
             raw::STATE_RECEIVES => Reason::StateReceives,

@@ -1,16 +1,30 @@
 //! What the C header declares.
+use std::cell::UnsafeCell;
 use std::ffi::c_void;
 use std::ptr::null_mut;
 
 /// A handle: null, or what a call of the library opened.
+///
+/// Each call may write to its handle, also one that only reads what is open: it takes that out, and puts it back before it returns.
+/// The pointer is in an `UnsafeCell`, so that such a call can be made through a shared reference.
 #[repr(C)]
 pub struct Handle {
-    at: *mut c_void,
+    at: UnsafeCell<*mut c_void>,
 }
 
 impl Handle {
     pub const fn closed() -> Handle {
-        Handle { at: null_mut() }
+        Handle { at: UnsafeCell::new(null_mut()) }
+    }
+
+    /// The handle's place, for a call that reads what is open.
+    ///
+    /// Such a call may be made through a shared reference, since a handle isn't `Sync`, nor is a type that has one: all its references are
+    /// of one thread. A call of the library doesn't call the program back, so one call on the handle ends before the next begins. And
+    /// nothing here ever makes a reference to what is in the cell, or keeps a pointer to what is open.
+    #[inline]
+    pub fn place(&self) -> *mut Handle {
+        (self as *const Handle).cast_mut()
     }
 }
 

@@ -65,15 +65,15 @@ impl fmt::Display for State<'_> {
 }
 
 /// The state behind an open handle, by its calls for the state and an arm.
-pub(crate) fn state<'a>(handle: &mut Handle, names: &'a Names, state: StateOf, arm: ArmOf) -> State<'a> {
+pub(crate) fn state<'a>(handle: &Handle, names: &'a Names, state: StateOf, arm: ArmOf) -> State<'a> {
     let (mut direction, mut peer, mut count) = (0, 0, 0);
-    // SAFETY: the handle is open and ours alone, and the places are ours.
-    unsafe { state(handle, &mut direction, &mut peer, &mut count) };
+    // SAFETY: the handle is open, and no other call has it (`Handle::place` says why); the places are ours.
+    unsafe { state(handle.place(), &mut direction, &mut peer, &mut count) };
     let arms = (0..count)
         .map_while(|place| {
             let (mut label, mut kind) = (0, 0);
             // SAFETY: as above.
-            let status = unsafe { arm(handle, place, &mut label, &mut kind) };
+            let status = unsafe { arm(handle.place(), place, &mut label, &mut kind) };
             let label = Label(label);
             (status == raw::FINE).then(|| Arm { name: names.label_name(label), label, sort: Sort::of_kind(kind) })
         })

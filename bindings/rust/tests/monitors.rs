@@ -1,5 +1,5 @@
 //! What monitors let through, and why they refuse.
-use rumpsteak::{ask, explain, explain_within, Monitor, Reason, RefusalKind, Value};
+use rumpsteak::{ask, certify, explain, explain_within, Monitor, Reason, RefusalKind, Session, Value};
 
 const FILM: &str = "roles Camera, Screen, Audience
 protocol rec X. Screen->Camera:ready(). Camera->Screen{frame(nat). Screen->Audience:shown(). X, over(). Screen->Audience:over(). end}";
@@ -20,6 +20,16 @@ fn a_monitor_lets_through_what_its_machine_does() {
     assert!(screen.has_ended());
     assert_eq!((screen.acts(), screen.role()), (6, "Screen"));
     assert!(screen.room() > 0);
+}
+
+#[test]
+fn a_shared_reference_is_enough_to_read_a_monitor() {
+    let mut screen = Monitor::open(FILM, "Screen").unwrap();
+    screen.sent("Camera", "ready", &Value::Unit).unwrap();
+    let (one, other) = (&screen, &screen);
+    let state = one.state();
+    assert_eq!(other.may_send("Camera", "ready", &Value::Unit).unwrap_err().reason(), Reason::StateReceives);
+    assert_eq!((state.to_string(), one.acts(), other.has_ended()), ("Camera?{frame(nat), over()}".to_owned(), 1, false));
 }
 
 #[test]
@@ -77,6 +87,29 @@ fn a_text_with_derivations_is_opened_by_them() {
     let refusal = Monitor::open(&wrong, "A").unwrap_err();
     assert_eq!((refusal.kind(), refusal.role()), (RefusalKind::Refused, Some("A")));
     assert_eq!(refusal.text(), ask(&["verify"], &wrong).text);
+    assert!(refusal.is_outdated());
+}
+
+#[test]
+fn a_certificate_of_another_version_is_said_to_be_outdated() {
+    let certified = certify("roles A, B protocol B->A:x(). A->B:y(). end machine A: B!y(). B?x(). end").unwrap();
+    let certificate = &certified[certified.find("derivation").unwrap()..];
+    let second = "roles A, B protocol B->A:x(). A->B:y(). A->B:z(). end machine A: B!y(). B?x(). B!z(). end";
+    let mixed = format!("{second}\n{certificate}");
+    for refusal in [Monitor::open(&mixed, "A").unwrap_err(), Session::open(&mixed).unwrap_err()] {
+        assert!(refusal.is_outdated());
+        assert_eq!(refusal.text(), ask(&["verify"], &mixed).text);
+        let told = refusal.to_string();
+        let (first, last) = told.rsplit_once('\n').unwrap();
+        assert_eq!(first, refusal.text().trim_end());
+        assert!(last.ends_with("is for another version of the text: certify the text again."), "{last}");
+    }
+    Session::open(&certify(&mixed).unwrap()).unwrap();
+    for text in [&ahead_by_seventeen(), "roles A, B protocol A->B:x(). B->A:y(). end machine A: B?y(). B!x(). end", "roles A"] {
+        let refusal = Session::open(text).unwrap_err();
+        assert!(!refusal.is_outdated());
+        assert_eq!(refusal.to_string(), refusal.text().trim_end());
+    }
 }
 
 #[test]

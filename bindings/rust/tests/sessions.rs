@@ -75,6 +75,17 @@ fn an_act_that_the_state_does_not_have_is_refused_and_changes_nothing() {
 }
 
 #[test]
+fn a_shared_reference_is_enough_to_read_a_state() {
+    let (mut a, b) = two(VALUES, 1);
+    let (one, other) = (&a, &a);
+    let before = one.state();
+    assert_eq!(before, other.state());
+    assert!(!one.has_ended() && before.peer() == Some("B"));
+    a.send("last", ()).unwrap();
+    assert!(a.has_ended() && !(&b).has_ended());
+}
+
+#[test]
 fn a_dropped_endpoint_is_gone_once_its_messages_are_received() {
     let (mut a, mut b) = two(VALUES, 4);
     a.send("octets", "last words").unwrap();

@@ -1,3 +1,4 @@
+pub mod Copying
 pub mod Explained
 pub mod Keeping
 pub mod Roles

@@ -3,4 +3,5 @@ pub mod Handles
 pub mod Monitors
 pub mod Opens
 pub mod Refusals
+pub mod Sends
 pub mod Sessions

@@ -1,17 +1,19 @@
 //! The calls of endpoints.
 
-ghost use Rattle.std.specs.Prelude.{◌≡◌, ⊤};
-ghost use Rattle.rs_endpoints.specs.Endpoints.{StandsAt};
-ghost use Rattle.rs_held.specs.Endpoints.{CopySendTells, NumbersTell, OctetsTell, ReceiveTells, SendTells};
+ghost use Rattle.std.specs.Prelude.{◌≡◌, ⊤, IfErr, IfNone, IfOk, IfSome};
+ghost use Rattle.rs_endpoints.specs.Endpoints.{HasArmFor, LookTells, StandsAt};
+ghost use Rattle.rs_endpoints.specs.declared.acts.Room.TheVariants as room;
+ghost use Rattle.rs_held.specs.Endpoints.{CopySendTells, HasNoArm, NumbersTell, OctetsTell, ReceiveTells, SendTells, numbered};
 ghost use Rattle.rs_held.specs.Opens.{Changes, Closes, Reads};
+ghost use Rattle.rs_held.specs.Sends.{NoRoomTells, SendByTells};
 ghost use Rattle.rs_model.specs.declared.machines.State.{State as AnyState};
 ghost use Rattle.rs_model.specs.declared.values.Value.TheVariants as kind;
 ghost use Rattle.rs_numbered.specs.States.{ArmTells, Shows};
 ghost use Rattle.rs_numbered.specs.declared.statuses.CallStatus.TheVariants.{Fine};
 
 use crate::{EndpointHandle, HeldEndpoint};
-use rs_endpoints::{Endpoint, Fetched, Posted};
-use rs_model::{Label, Numbers, Octets, Value};
+use rs_endpoints::{Endpoint, Fetched, Posted, Room};
+use rs_model::{Label, Numbers, Octets, Sort, Value};
 use rs_numbered::{CallStatus, MessageView, arm_at, hand_out, standing, view_of};
 use std::alloc::Global;
 
@@ -57,20 +59,35 @@ pub fn arm(
     }
 }
 
-/// Sends the value by the arm with the label.
-fn post(endpoint: &mut Endpoint, label: u32, value: Value) -> CallStatus
-    ensures { SendTells endpoint.old label value endpoint.new result }
+/// The place of an arm with the label, if the role's state sends by one.
+fn place_of(endpoint: &Endpoint, label: u32) -> Option<u16>
+    ensures some { IfSome result (λ place. HasArmFor endpoint.now place (numbered label)) }
+    ensures none { IfNone result (HasNoArm endpoint.now label) }
 {
     if label > 65_535 {
-        return CallStatus::NotNow;
+        return None;
     }
-    let Some(place) = endpoint.place(Label(label as u16)) else {
-        return CallStatus::NotNow;
-    };
+    endpoint.place(Label(label as u16))
+}
+
+/// Sends the value by the arm at that place.
+fn post_at(endpoint: &mut Endpoint, place: u16, value: Value) -> CallStatus
+    ensures { SendByTells endpoint.old place value endpoint.new result }
+{
     match endpoint.send(place, value) {
         Posted::Went => CallStatus::Fine,
         Posted::Full { .. } => CallStatus::Full,
         Posted::Refused { .. } => CallStatus::NotNow,
+    }
+}
+
+/// Sends the value by the arm with the label.
+fn post(endpoint: &mut Endpoint, label: u32, value: Value) -> CallStatus
+    ensures { SendTells endpoint.old label value endpoint.new result }
+{
+    match place_of(endpoint, label) {
+        Some(place) => post_at(endpoint, place, value),
+        None => CallStatus::NotNow,
     }
 }
 
@@ -88,23 +105,45 @@ pub fn send(alloc: Global, endpoint: &mut EndpointHandle, label: u32, value: Val
     }
 }
 
-/// Sends a copy of the bytes.
-fn post_octets(alloc: Global, endpoint: &mut Endpoint, label: u32, bytes: &[u8]) -> CallStatus
-    ensures { CopySendTells endpoint.old label (kind.Octets bytes.now) endpoint.new result }
+/// Looks for room for a value of the sort by the arm with the label, before the value is made. Returns the arm's place if there is
+/// room, and otherwise the status of the send.
+fn see_room(endpoint: &mut Endpoint, label: u32, sort: Sort) -> Result<u16, CallStatus>
+    ensures room { IfOk result (λ place. HasArmFor endpoint.old place (numbered label) × LookTells endpoint.old place sort endpoint.new room.Free) }
+    ensures none { IfErr result (λ status. NoRoomTells endpoint.old label sort endpoint.new status) }
 {
-    match Octets::of(alloc, bytes) {
-        Ok(octets) => post(endpoint, label, Value::Octets(octets)),
-        Err(_) => CallStatus::NoMemory,
+    let Some(place) = place_of(endpoint, label) else {
+        return Err(CallStatus::NotNow);
+    };
+    match endpoint.look_for_room(place, sort) {
+        Room::Free => Ok(place),
+        Room::Full => Err(CallStatus::Full),
+        Room::Refused => Err(CallStatus::NotNow),
     }
 }
 
-/// Sends a copy of the numbers.
+/// Sends a copy of the bytes, which is made once there is room for it.
+fn post_octets(alloc: Global, endpoint: &mut Endpoint, label: u32, bytes: &[u8]) -> CallStatus
+    ensures { CopySendTells endpoint.old label (kind.Octets bytes.now) endpoint.new result }
+{
+    match see_room(endpoint, label, Sort::Octets) {
+        Ok(place) => match Octets::of(alloc, bytes) {
+            Ok(octets) => post_at(endpoint, place, Value::Octets(octets)),
+            Err(_) => CallStatus::NoMemory,
+        },
+        Err(status) => status,
+    }
+}
+
+/// Sends a copy of the numbers, which is made once there is room for it.
 fn post_numbers(alloc: Global, endpoint: &mut Endpoint, label: u32, items: &[i64]) -> CallStatus
     ensures { CopySendTells endpoint.old label (kind.Numbers items.now) endpoint.new result }
 {
-    match Numbers::of(alloc, items) {
-        Ok(numbers) => post(endpoint, label, Value::Numbers(numbers)),
-        Err(_) => CallStatus::NoMemory,
+    match see_room(endpoint, label, Sort::Numbers) {
+        Ok(place) => match Numbers::of(alloc, items) {
+            Ok(numbers) => post_at(endpoint, place, Value::Numbers(numbers)),
+            Err(_) => CallStatus::NoMemory,
+        },
+        Err(status) => status,
     }
 }
 
