@@ -15,6 +15,7 @@ use Rattle.rs_text.specs.Signs.{Sign, finish}
 abbrev pub IsNever : Sign → Type 0
 IsNever t = (c : Class) → accepts c t ≡ false
 
+-- the end of the text is of no class
 pub never_end : IsNever finish
 never_end class.Sort = refl
 never_end _ = refl

@@ -25,10 +25,11 @@ where_numbered false peer label value = None
 abbrev pub message_of : ℕ → ℕ → ℕ → ℕ → Option (Role × Label × Value)
 message_of peer label kind natural = where_numbered (nat_le peer 255 && nat_le label 65535) peer label (stand_in kind natural)
 
--- a send, or a receive, of a message with such a label and value
+-- the send of a message
 abbrev pub sent_act : Role × Label × Value → ProgramAct
 sent_act m = Sent m.0 (record { label = m.1; value = m.2 })
 
+-- the receive of a message
 abbrev pub received_act : Role × Label × Value → ProgramAct
 received_act m = Received m.0 (record { label = m.1; value = m.2 })
 

@@ -6,6 +6,7 @@ use Rattle.rs_model.specs.declared.machines.State.TheVariants.{Puts, Takes, Done
 use Rattle.rs_numbered.specs.Kinds.{kind_of}
 use Rattle.rs_numbered.specs.Statuses.{CallStatus, Fine, Unknown}
 
+-- the arms of a state
 abbrev pub arms_of : State → List Arm
 arms_of (Puts peer arms) = arms
 arms_of (Takes peer arms) = arms

@@ -55,17 +55,19 @@ abbrev pub sort_beside : List Arm → Option Act → List ℕ
 sort_beside arms None = []
 sort_beside arms (Some a) = arm_sort_name (arm_of arms (label_of a))
 
--- that act without its sort, and its sort
+-- that act without its sort
 abbrev pub own_bare : WalkSource_data → Spot → ℕ → List ℕ
 own_bare source p place = maybe_bare_text source.names (own_deed source p place)
 
+-- the sort of that act
 abbrev pub own_sort : WalkSource_data → Spot → ℕ → List ℕ
 own_sort source p place = act_sort_name (own_deed source p place)
 
--- the act that is owed at the place without its sort, and its sort
+-- the act that is owed at the place, without its sort
 abbrev pub owed_bare : WalkSource_data → Spot → ℕ → List ℕ
 owed_bare source p place = maybe_bare_text source.names (slice_get p.pending place)
 
+-- the sort of the act that is owed at the place
 abbrev pub owed_sort : Spot → ℕ → List ℕ
 owed_sort p place = act_sort_name (slice_get p.pending place)
 
