@@ -1,0 +1,6 @@
+//! What `draw --run` answers to a document: the picture of a run of its session.
+#![tactic(auto)]
+
+mod acts;
+mod lines;
+mod scenes;
