@@ -1,4 +1,2 @@
 pub mod Acts
 pub mod Rounds
-pub mod Lines
-pub mod Draws

@@ -2,5 +2,4 @@
 #![tactic(auto)]
 
 mod acts;
-mod lines;
 mod scenes;

@@ -264,6 +264,16 @@ impl Scene {
         }
         Ok(())
     }
+
+    /// For each of these numbers as many rounds.
+    fn rounds_for(&mut self, capacity: u16, counts: &[usize]) -> Result<(), NoMemory>
+        ensures { OnOk result (self.new ≡ spec.rounds_for capacity counts.now self.old) }
+    {
+        for many in counts {
+            self.rounds(capacity, *many)?;
+        }
+        Ok(())
+    }
 }
 
 /// How many acts each role has.
@@ -287,8 +297,6 @@ pub(crate) fn acts_in_rounds(
 {
     let counts = counts_of(alloc, &acts)?;
     let mut scene = Scene::new(alloc, acts)?;
-    for count in &counts {
-        scene.rounds(capacity, *count)?;
-    }
+    scene.rounds_for(capacity, &counts)?;
     Ok(scene.drawn)
 }
