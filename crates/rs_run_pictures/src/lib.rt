@@ -2,4 +2,5 @@
 #![tactic(auto)]
 
 mod acts;
+mod plain;
 mod scenes;
