@@ -1,2 +1,3 @@
 pub mod Acts
 pub mod Rounds
+pub mod Lines

@@ -2,5 +2,6 @@
 #![tactic(auto)]
 
 mod acts;
+mod lines;
 mod plain;
 mod scenes;
