@@ -29,6 +29,6 @@ pub acts_behind : (names : Names_data) (before : Option DrawnAct) (k : ℕ) (act
 acts_behind names before k acts d next old new low n h =
     let a = slice_index_or acts k d in
     rw (one_more k) (
-      ap (λ z. z ++ acts_text names (Some a) (drop (suc k) acts)) (h ∙ ap (λ z. old ++ act_text names before a z) (n ∙ ap (slice_get acts) (one_more k)))
-      ∙ append_assoc old (act_text names before a (slice_get acts (suc k))) (acts_text names (Some a) (drop (suc k) acts))
-      ∙ ap (λ z. old ++ z) (sym (acts_on names before k acts a (got acts k d low))))
+    ap (λ z. z ++ acts_text names (Some a) (drop (suc k) acts)) (h ∙ ap (λ z. old ++ act_text names before a z) (n ∙ ap (slice_get acts) (one_more k)))
+    ∙ append_assoc old (act_text names before a (slice_get acts (suc k))) (acts_text names (Some a) (drop (suc k) acts))
+    ∙ ap (λ z. old ++ z) (sym (acts_on names before k acts a (got acts k d low))))

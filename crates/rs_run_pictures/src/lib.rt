@@ -2,6 +2,9 @@
 #![tactic(auto)]
 
 mod acts;
+mod drawing;
 mod lines;
 mod plain;
 mod scenes;
+
+pub use drawing::draw_run;
