@@ -3,6 +3,7 @@
 
 mod acts;
 mod drawing;
+pub mod laws;
 mod lines;
 mod plain;
 mod scenes;
