@@ -48,10 +48,12 @@ use Rattle.rs_runs.specs.Pools as pools
 use Rattle.rs_runs.specs.Pools.{RunsByWorkers, RunsWith}
 use Rattle.rs_runs.specs.Runs as runs
 use Rattle.rs_runs.specs.Runs.{Runs}
+use Rattle.rs_run_pictures.specs.Draws as drawing
+use Rattle.rs_run_pictures.specs.Draws.{DrawsRun}
 use Rattle.rs_model.specs.declared.runs.RunOptions.{RunOptions}
 use Rattle.rs_model.specs.declared.runs.Workers.{Workers}
 use Rattle.rs_model.specs.declared.runs.Workers.TheVariants.{One, Several}
-use Rattle.rs_tool.specs.Tasks.{ReadTheInput, ReadsTheInput, SpellsCheck, SpellsExplain, SpellsImprove, SpellsMigrate, SpellsRun, SpellsVerify}
+use Rattle.rs_tool.specs.Tasks.{ReadTheInput, ReadsTheInput, SpellsCheck, SpellsDrawnRun, SpellsExplain, SpellsImprove, SpellsMigrate, SpellsRun, SpellsVerify}
 use Rattle.rs_words.specs.Meaning.{SpellsTask}
 use Rattle.rs_words.proofs.Exact.{words_spell_one_task}
 use Rattle.rs_words.proofs.Ranges.{spelt_numbers_are_in_range}
