@@ -386,30 +386,63 @@ class Drawing:
         return f'([{",".join(str(self.draw() - 16_384) for _ in range(length))}])'
 
 
-def run(text, seed=0, limit=1_000, bound=16):
-    """The status of `run` on one thread over queues of the room, and the lines of its answer."""
+class RunAct:
+    """An act of a run: who sends or receives, by which mark, with whom, which label of which sort, with which value as a transcript
+    shows it, and how many messages the queue holds after it."""
+
+    def __init__(self, role, mark, peer, label, sort, value, waiting):
+        self.role, self.mark, self.peer, self.label, self.sort, self.value, self.waiting = role, mark, peer, label, sort, value, waiting
+
+    def queue(self):
+        return (self.role, self.peer) if self.mark == '!' else (self.peer, self.role)
+
+    def word(self):
+        """The act as a transcript writes it."""
+        return f'{self.peer}{self.mark}{self.label}{self.value if self.mark == "?" else ""}'
+
+
+def run_acts(text, seed=0, limit=1_000, bound=16, ring=None):
+    """The acts of a run on one thread in their order, and how it ended: `ended`, `stopped` and a role, or `full`, a sender and a
+    receiver. Queues hold as many messages as the ring says, or as the room."""
     document = Document(text)
-    try:
-        machines, _, room = derived(document, bound)
-    except Refused as refused:
-        return refused.status, list(refused.lines)
-    roles, capacity = document.roles, min(room, MOST_CAPACITY)
+    machines, _, room = derived(document, bound)
+    roles, capacity = document.roles, ring or min(room, MOST_CAPACITY)
     drawings, at = [Drawing(seed + place) for place in range(len(roles))], [0] * len(roles)
-    acts, queues = [[] for _ in roles], {}
+    made, acts, queues = [0] * len(roles), [], {}
     while any(machine[state] for machine, state in zip(machines, at)):
+        before = len(acts)
         for place, role in enumerate(roles):
             state = machines[place][at[place]]
             if state is None:
                 continue
-            if len(acts[place]) == limit:
-                return 9, [f'stopped {role}']
+            if made[place] == limit:
+                return acts, ('stopped', role)
             queue = queues.setdefault((role, state.peer) if state.mark == '!' else (state.peer, role), [])
             if state.mark == '!' and len(queue) < capacity:
                 label, sort, at[place] = state.arms[drawings[place].draw() % len(state.arms)]
-                queue.append((label, drawings[place].value(sort)))
-                acts[place].append(f' {state.peer}!{label}')
+                value = drawings[place].value(sort)
+                queue.append((label, value))
             elif state.mark == '?' and queue:
                 label, value = queue.pop(0)
-                at[place] = next(after for it, _, after in state.arms if it == label)
-                acts[place].append(f' {state.peer}?{label}{value}')
-    return 0, ['ended', *(f'{role}:{"".join(its)}' for role, its in zip(roles, acts))]
+                sort, at[place] = next((sort, after) for it, sort, after in state.arms if it == label)
+            else:
+                continue
+            made[place] += 1
+            acts.append(RunAct(role, state.mark, state.peer, label, sort, value, len(queue)))
+        if len(acts) == before:
+            return acts, next(('full', role, machine[state].peer) for role, machine, state in zip(roles, machines, at) if machine[state] and machine[state].mark == '!')
+    return acts, ('ended',)
+
+
+def run(text, seed=0, limit=1_000, bound=16):
+    """The status of `run` on one thread over queues of the room, and the lines of its answer."""
+    try:
+        acts, end = run_acts(text, seed, limit, bound)
+    except Refused as refused:
+        return refused.status, list(refused.lines)
+    if end[0] == 'stopped':
+        return 9, [f'stopped {end[1]}']
+    lines = {role: f'{role}:' for role in Document(text).roles}
+    for act in acts:
+        lines[act.role] += f' {act.word()}'
+    return 0, ['ended', *lines.values()]

@@ -48,10 +48,12 @@ use Rattle.rs_runs.specs.Pools as pools
 use Rattle.rs_runs.specs.Pools.{RunsByWorkers, RunsWith}
 use Rattle.rs_runs.specs.Runs as runs
 use Rattle.rs_runs.specs.Runs.{Runs}
+use Rattle.rs_run_pictures.specs.Draws as drawing
+use Rattle.rs_run_pictures.specs.Draws.{DrawsRun}
 use Rattle.rs_model.specs.declared.runs.RunOptions.{RunOptions}
 use Rattle.rs_model.specs.declared.runs.Workers.{Workers}
 use Rattle.rs_model.specs.declared.runs.Workers.TheVariants.{One, Several}
-use Rattle.rs_tool.specs.Tasks.{ReadTheInput, ReadsTheInput, SpellsCheck, SpellsExplain, SpellsImprove, SpellsMigrate, SpellsRun, SpellsVerify}
+use Rattle.rs_tool.specs.Tasks.{ReadTheInput, ReadsTheInput, SpellsCheck, SpellsDrawnRun, SpellsExplain, SpellsImprove, SpellsMigrate, SpellsRun, SpellsVerify}
 use Rattle.rs_words.specs.Meaning.{SpellsTask}
 use Rattle.rs_words.proofs.Exact.{words_spell_one_task}
 use Rattle.rs_words.proofs.Ranges.{spelt_numbers_are_in_range}
@@ -142,6 +144,11 @@ runs_with_are_safe : (options : RunOptions) (workers : Workers) (bytes : List �
 runs_with_are_safe options One bytes d a doc h run = run_is_safe options bytes d a doc h run
 runs_with_are_safe options (Several n) bytes d a doc h run = pool_is_safe options bytes d a doc h run
 
+drawn_run_is_safe : (options : RunOptions) (bytes : List ℕ) (d : Document_data) (a : Answer_data) → SpellsDocument bytes d → DrawsRun options d a → IsOfRun (status_of a.verdict)
+    → SpellsSafeMachines bytes
+drawn_run_is_safe options bytes d a doc (drawing.IsRefused r h is) run = absurd (no_run a _ is (refusal_is_no_run d.names r) run)
+drawn_run_is_safe options bytes d a doc (drawing.IsDrawn projections machines derivations h found drawn) run = derived_is_safe options.bound bytes d projections machines derivations doc h found
+
 -- machines whose document is verified are safe
 own_is_safe : (bytes : List ℕ) (d : Document_data) (ps : List Projection_data) (ms : List Machine_data) → SpellsDocument bytes d → IsVerified d ps ms → SpellsSafeMachines bytes
 own_is_safe bytes d ps ms doc verified =
@@ -194,6 +201,9 @@ migrates_safely bytes a h run = text_is_safe on_document.Migrate bytes a (λ d d
 runs_safely : (options : RunOptions) (workers : Workers) (bytes : List ℕ) (a : Answer_data) → AnswersText (on_document.Run options workers) bytes a → IsOfRun (status_of a.verdict)
     → SpellsSafeMachines bytes
 runs_safely options workers bytes a h run = text_is_safe (on_document.Run options workers) bytes a (λ d doc k is. runs_with_are_safe options workers bytes d a doc k is) h run
+
+draws_safely : (options : RunOptions) (bytes : List ℕ) (a : Answer_data) → AnswersText (on_document.DrawRun options) bytes a → IsOfRun (status_of a.verdict) → SpellsSafeMachines bytes
+draws_safely options bytes a h run = text_is_safe (on_document.DrawRun options) bytes a (λ d doc k is. drawn_run_is_safe options bytes d a doc k is) h run
 
 pipes_safely : (number : ℕ) (a : Answer_data) → AnswersPipeline number a → IsOfRun (status_of a.verdict) → SpellsSafeMachines (pipeline_text (pipeline_of number))
 pipes_safely number a h run =
@@ -256,6 +266,10 @@ pub run_answer_is_safe : (words : List (List ℕ)) (options : RunOptions) (bytes
 run_answer_is_safe words options bytes a spells h run =
     runs_safely options spells.0 bytes a (task_is_answered words (task.OnDocument (on_document.Run options spells.0)) bytes a spells.1 h) run
 
+pub drawn_answer_is_safe : (words : List (List ℕ)) (options : RunOptions) (bytes : List ℕ) (a : Answer_data) → SpellsDrawnRun words options → Answers words bytes a → IsOfRun (status_of a.verdict)
+    → SpellsSafeMachines bytes
+drawn_answer_is_safe words options bytes a spells h run = draws_safely options bytes a (task_is_answered words (task.OnDocument (on_document.DrawRun options)) bytes a spells h) run
+
 pub improved_answer_is_safe : (words : List (List ℕ)) (bytes : List ℕ) (a : Answer_data) → SpellsImprove words → Answers words bytes a → a.verdict ≡ verdict.Fine → SpellsSafeMachines a.text
 improved_answer_is_safe words bytes a spells h fine =
     let within = (spelt_numbers_are_in_range words (task.OnDocument (on_document.Improve spells.0)) spells.1).0 in
@@ -296,6 +310,11 @@ module _ {S K : Type 0} (call : Call S K) (reply : Reply) (ends : Ends call repl
   runs_are_safe options spells = if_told call.input.left _ _ (λ bytes told run.
       let is = told_is_run call.words (task.OnDocument (on_document.Run options spells.0)) bytes call.output reply spells.1 told run in
       runs_safely options spells.0 bytes is.0 is.1 is.2) ends.answer.told
+
+  pub drawn_runs_are_safe : (options : RunOptions) → SpellsDrawnRun call.words options → IfSome call.input.left (λ bytes. IsOfRun reply.status → SpellsSafeMachines bytes)
+  drawn_runs_are_safe options spells = if_told call.input.left _ _ (λ bytes told run.
+      let is = told_is_run call.words (task.OnDocument (on_document.DrawRun options)) bytes call.output reply spells told run in
+      draws_safely options bytes is.0 is.1 is.2) ends.answer.told
 
   pub pipeline_is_safe : (number : ℕ) → SpellsTask call.words (task.Gen number) → reply.status ≡ status.Fine → SpellsSafeMachines (pipeline_text (pipeline_of number))
   pipeline_is_safe number spells fine =

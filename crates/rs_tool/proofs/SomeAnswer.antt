@@ -33,6 +33,7 @@ use Rattle.rs_answers.specs.Report.{report}
 use Rattle.rs_answers.proofs.OneImproved.{some_improving}
 use Rattle.rs_reasons.proofs.OneExplanation.{some_explaining}
 use Rattle.rs_draw.proofs.OneDrawing.{some_drawing}
+use Rattle.rs_run_pictures.proofs.OneRunPicture.{some_run_picture}
 use Rattle.rs_runs.proofs.PoolAnswers.{some_with}
 use Rattle.rs_answers.specs.Shown.{Shows}
 use Rattle.rs_documents.specs.Canonical.{derivations_text}
@@ -113,6 +114,9 @@ document_answer (on_document.Explain bound) bytes d h =
     record { answer = a.0; answers = a.1 }
 document_answer (on_document.Draw role) bytes d h =
     let a = some_drawing role bytes d h in
+    record { answer = a.0; answers = a.1 }
+document_answer (on_document.DrawRun options) bytes d h =
+    let a = some_run_picture options bytes d h (prepared options.bound bytes d h (first_fault d.protocol) refl) in
     record { answer = a.0; answers = a.1 }
 document_answer on_document.Show bytes d h = shown bytes d h
 document_answer on_document.Project bytes d h = some_tables bytes d (first_fault d.protocol) refl

@@ -15,6 +15,7 @@ use Rattle.rs_runs.proofs.OneDemo.{one_demo}
 use Rattle.rs_answers.proofs.OneImproved.{one_improving}
 use Rattle.rs_reasons.proofs.OneExplanation.{one_explaining}
 use Rattle.rs_draw.proofs.OneDrawing.{one_drawing}
+use Rattle.rs_run_pictures.proofs.OneRunPicture.{one_run_picture}
 use Rattle.rs_words.specs.declared.tasks.DocumentTask.{DocumentTask}
 use Rattle.rs_words.specs.declared.tasks.DocumentTask.TheVariants as on_document
 use Rattle.rs_words.specs.declared.tasks.Task.{Task}
@@ -127,6 +128,7 @@ one_of_document (on_document.Run options workers) bytes d a b doc h k = one_with
 one_of_document (on_document.Improve options) bytes d a b doc h k = inl (one_improving options.role options.bound options.swaps bytes d a b doc h k)
 one_of_document (on_document.Explain bound) bytes d a b doc h k = inl (one_explaining bound bytes d a b doc h k)
 one_of_document (on_document.Draw role) bytes d a b doc h k = inl (one_drawing role bytes d a b doc h k)
+one_of_document (on_document.DrawRun options) bytes d a b doc h k = inl (one_run_picture options bytes d a b doc h k)
 one_of_document on_document.Show bytes d a b doc h k = inl (one_show bytes d a b doc h k)
 one_of_document on_document.Project bytes d a b doc h k = inl (one_tables d a b h k)
 

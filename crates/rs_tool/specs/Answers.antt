@@ -15,6 +15,7 @@ use Rattle.rs_documents.specs.Documents.{FirstFault, SpellsDocument}
 use Rattle.rs_model.specs.declared.demos.Demo.{Demo}
 use Rattle.rs_model.specs.declared.limits.TheConstants.{DEFAULT_BOUND, MOST_BYTES}
 use Rattle.rs_draw.specs.Draws.{Draws}
+use Rattle.rs_run_pictures.specs.Draws.{DrawsRun}
 use Rattle.rs_tool.specs.Pipelines.{pipeline_text, pipeline_of, pipeline_summary}
 use Rattle.rs_reasons.specs.Explains.{Explains}
 use Rattle.rs_reasons.specs.Malformed.{explained_fault}
@@ -36,6 +37,7 @@ AnswersDocument (on_document.Run options workers) bytes d answer = RunsWith work
 AnswersDocument (on_document.Improve options) bytes d answer = Improves options.role options.bound options.swaps d answer
 AnswersDocument (on_document.Explain bound) bytes d answer = Explains bound bytes d answer
 AnswersDocument (on_document.Draw role) bytes d answer = Draws role d answer
+AnswersDocument (on_document.DrawRun options) bytes d answer = DrawsRun options d answer
 
 -- the answer of the task to the first fault of its text
 abbrev pub fault_answer_of : DocumentTask → List ℕ → TextKind → ℕ → Answer_data

@@ -48,6 +48,10 @@ SpellsImprove words = (options : ImproveOptions) × SpellsTask words (task.OnDoc
 abbrev pub SpellsRun : List (List ℕ) → RunOptions → Type 0
 SpellsRun words options = (workers : Workers) × SpellsTask words (task.OnDocument (on_document.Run options workers))
 
+-- the words are those of a `draw --run` with these options
+abbrev pub SpellsDrawnRun : List (List ℕ) → RunOptions → Type 0
+SpellsDrawnRun words options = SpellsTask words (task.OnDocument (on_document.DrawRun options))
+
 -- the words are those of a `demo`, with rings of this capacity where one is asked for, by any number of workers
 abbrev pub SpellsDemo : List (List ℕ) → Demo → Option ℕ → Type 0
 SpellsDemo words kind ring = (workers : Workers) × SpellsTask words (task.OnData (record { kind = kind; ring = ring; workers = workers }))

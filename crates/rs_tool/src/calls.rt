@@ -16,7 +16,7 @@ ghost use Rattle.rs_tool.specs.ImproveHeadline.{WritesSafeMachines};
 ghost use Rattle.rs_tool.specs.Preparing.{AnswersAlone, AnswersTo, Delivers};
 ghost use Rattle.rs_tool.specs.RunHeadline.{IsOfRun};
 ghost use Rattle.rs_tool.specs.Sessions.{HasItsSession};
-ghost use Rattle.rs_tool.specs.Tasks.{SpellsCheck, SpellsDemo, SpellsExplain, SpellsImprove, SpellsMigrate, SpellsRun, SpellsVerify};
+ghost use Rattle.rs_tool.specs.Tasks.{SpellsCheck, SpellsDemo, SpellsDrawnRun, SpellsExplain, SpellsImprove, SpellsMigrate, SpellsRun, SpellsVerify};
 ghost use Rattle.rs_words.specs.Meaning.{SpellsTask};
 ghost use Rattle.rs_words.specs.Words.{bytes_of_words};
 
@@ -150,6 +150,8 @@ pub fn command_serial<S: Source, K: Sink>(
         → IfSome (S.left source.old) (λ bytes. reply.status ≡ Status.Fine → WritesSafeMachines (bytes_of_words words.now) bytes output)) }
     ensures run { IfAnswered result (λ reply. (options : RunOptions) → SpellsRun (bytes_of_words words.now) options
         → IfSome (S.left source.old) (λ bytes. IsOfRun reply.status → SpellsSafeMachines bytes)) }
+    ensures drawn { IfAnswered result (λ reply. (options : RunOptions) → SpellsDrawnRun (bytes_of_words words.now) options
+        → IfSome (S.left source.old) (λ bytes. IsOfRun reply.status → SpellsSafeMachines bytes)) }
     ensures demo { IfAnswered result (λ reply. (kind : Demo) (ring : Option ℕ) → SpellsDemo (bytes_of_words words.now) kind ring
         → IfSome (S.left source.old) (λ bytes. (IsOfRun reply.status → HasSafeDemo kind bytes) × (reply.status ≡ Status.Full → ⊥))) }
     ensures pipeline { IfAnswered result (λ reply. (number : ℕ) → SpellsTask (bytes_of_words words.now) (Task.Gen number)
@@ -222,6 +224,8 @@ pub fn command<R: Threads + Wait + Sync, S: Source, K: Sink, G: Gate + Sync>(
         SpellsImprove (bytes_of_words words.now)
         → IfSome (S.left source.old) (λ bytes. result.status ≡ Status.Fine → WritesSafeMachines (bytes_of_words words.now) bytes output) }
     ensures run { (options : RunOptions) → SpellsRun (bytes_of_words words.now) options
+        → IfSome (S.left source.old) (λ bytes. IsOfRun result.status → SpellsSafeMachines bytes) }
+    ensures drawn { (options : RunOptions) → SpellsDrawnRun (bytes_of_words words.now) options
         → IfSome (S.left source.old) (λ bytes. IsOfRun result.status → SpellsSafeMachines bytes) }
     ensures demo { (kind : Demo) (ring : Option ℕ) → SpellsDemo (bytes_of_words words.now) kind ring
         → IfSome (S.left source.old) (λ bytes. (IsOfRun result.status → HasSafeDemo kind bytes) × (result.status ≡ Status.Full → ⊥)) }

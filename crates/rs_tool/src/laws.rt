@@ -22,7 +22,7 @@ ghost use Rattle.rs_model.specs.declared.runs.RunOptions.{RunOptions};
 ghost use Rattle.rs_answers.specs.declared.verdicts.Verdict.TheVariants.{Fine, Full, Refused, Stopped};
 ghost use Rattle.rs_tool.specs.RunHeadline.{IsOfRun};
 ghost use Rattle.rs_tool.specs.Statuses.{status_of};
-ghost use Rattle.rs_tool.specs.Tasks.{AskForWorkers, SpellsExplain, SpellsImprove, SpellsMigrate, SpellsRun};
+ghost use Rattle.rs_tool.specs.Tasks.{AskForWorkers, SpellsDrawnRun, SpellsExplain, SpellsImprove, SpellsMigrate, SpellsRun};
 
 /// There is an answer to all words and bytes.
 pub fn all_have_an_answer()
@@ -55,11 +55,13 @@ pub fn headline_tells_of_safe_machines()
         → CanStep (machines_of h.machines h.projections) c ⊎ AllEnded (machines_of h.machines h.projections) c }
 {}
 
-/// The machines of a text are safe wherever the answer to `migrate` is fine, or that to `run` tells of a run; and so are those of
-/// the text that `improve` writes.
+/// The machines of a text are safe wherever the answer to `migrate` is fine, or that to `run` or `draw --run` tells of a run; and so are
+/// those of the text that `improve` writes.
 pub fn answers_tell_of_safe_machines()
     ensures migrated { (words : List (List ℕ)) (bytes : List ℕ) (a : Answer_data) → SpellsMigrate words → Answers words bytes a → IsOfRun (status_of a.verdict) → SpellsSafeMachines bytes }
     ensures run { (words : List (List ℕ)) (options : RunOptions) (bytes : List ℕ) (a : Answer_data) → SpellsRun words options → Answers words bytes a → IsOfRun (status_of a.verdict)
+        → SpellsSafeMachines bytes }
+    ensures drawn { (words : List (List ℕ)) (options : RunOptions) (bytes : List ℕ) (a : Answer_data) → SpellsDrawnRun words options → Answers words bytes a → IsOfRun (status_of a.verdict)
         → SpellsSafeMachines bytes }
     ensures improved { (words : List (List ℕ)) (bytes : List ℕ) (a : Answer_data) → SpellsImprove words → Answers words bytes a → a.verdict ≡ Fine → SpellsSafeMachines a.text }
 {}

@@ -27,6 +27,7 @@ use rs_draw::draw;
 use rs_io::{ReadStop, Source, read_all};
 use rs_model::{MOST_BYTES, NoMemory};
 use rs_reasons::{explain, explain_fault};
+use rs_run_pictures::draw_run;
 use rs_runs::{Prepared, ready_demo, ready_run};
 use rs_text::TextFault;
 use rs_words::{DocumentTask, Task};
@@ -99,6 +100,9 @@ fn on_text(alloc: Global, task: DocumentTask, bytes: &[u8]) -> Result<Prepared, 
             Prepared::answered(explain(alloc, &document, bytes, bound))
         }
         DocumentTask::Draw { role } => Prepared::answered(draw(alloc, &document, &role)),
+        DocumentTask::DrawRun { options } => {
+            Prepared::answered(draw_run(alloc, document, options))
+        }
     }
 }
 

@@ -56,6 +56,16 @@ to_clap words spelt s =
       found = task_is f s.is_command s.rest (s.uses, u) rows ∙ s.task_is;
     })
 
+-- uses of a command spell one thing at most: what they ask for
+pub asked : (form : Form) → IsKnown form → (rest : List Bytes) (uses : List Use) → SpellsUses form rest uses → (spelt : Task) → SpellsTask (form.name ∷ rest) spelt
+    → task_of form.name (λ id. text_of_use id uses) ≡ Some spelt
+asked f k rest uses u spelt s =
+    let m = made f k in
+    let once = subst (AllNew []) u.uses_are u.all_new in
+    let t = complete f m.good m.names u.pieces u.ending u.ending_stands [] None false tt refl u.pieces_stand once (λ id w e. absurd (true≢false (sym e))) in
+    let rows : run_rows f start rest ≡ rows_of_uses uses = subst (λ l. run_rows f start l ≡ rows_of_uses uses) (sym u.words_are) (t.rows_are ∙ ap rows_of_uses (sym u.uses_are)) in
+    sym (task_is f k rest (uses, u) rows) ∙ (to_clap (f.name ∷ rest) spelt s).found
+
 -- what clap takes is spelt
 record IsSpelt (words : List Bytes) : Type 0 where
   form : Form

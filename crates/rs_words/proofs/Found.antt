@@ -12,10 +12,10 @@ use Rattle.rs_words.proofs.Sound.{HasOwnWord, word_is}
 use Rattle.rs_words.proofs.Complete.{HasPlainNames}
 use Rattle.clap.specs.declared.parser.matches.ValueSource.TheVariants.{DefaultValue}
 use Rattle.clap.specs.declared.builder.value_parser.Reading.TheVariants as reading
-use Rattle.rs_words.specs.Clap.{found_text, is_true_text}
+use Rattle.rs_words.specs.Clap.{found_text, is_flag_name, is_true_text}
 use Rattle.rs_words.specs.Grammar.{AllStand, CommandOption, EndingStands, WordsEnd, Form, WordPiece, PieceStands, Bytes, Use, value_behind, begins_with_dash, dashes_and_word, forms, ending_uses}
 use Rattle.rs_words.specs.Grammar.{flag, HasChoice, value_joined, nothing, use_of, positional, dashes_alone}
-use Rattle.rs_words.specs.Meaning.{text_of_use}
+use Rattle.rs_words.specs.Meaning.{draw_task, task_of, text_of_use}
 use Rattle.rs_words.proofs.Lookups.{built_choice, built_rules, built_word, flagger, same_text, taker}
 use Rattle.rs_words.proofs.Turns.{rows_of_uses, row_of_use}
 
@@ -131,16 +131,13 @@ after_defaults id w (c ∷ cs) rows = by_kind c.is_valued c.name (after_defaults
 
 -- ---- what a form must be for the texts to be told by their ids
 
-abbrev pub derivations : Bytes
-derivations = codes "derivations"
-
--- no `=` in the option's name, which is not empty, and is `derivations` exactly where it has no value
+-- no `=` in the option's name, which is not empty, and is that of a flag exactly where it has no value
 abbrev pub choice_test : CommandOption → Bool
-choice_test c = not (list_any (λ x. x == 61) c.name) && (nat_lt 0 (length c.name) && cond c.is_valued (not (bytes_eq c.name derivations)) (bytes_eq c.name derivations))
+choice_test c = not (list_any (λ x. x == 61) c.name) && (nat_lt 0 (length c.name) && cond c.is_valued (not (is_flag_name c.name)) (is_flag_name c.name))
 
 abbrev pub word_test : Option Bytes → List CommandOption → Bool
 word_test None cs = true
-word_test (Some id) cs = not (is_some (find (λ k. bytes_eq k.name id) cs)) && not (bytes_eq id derivations)
+word_test (Some id) cs = not (is_some (find (λ k. bytes_eq k.name id) cs)) && not (is_flag_name id)
 
 abbrev pub form_test : Form → Bool
 form_test f = not (begins_with_dash f.name) && (list_all choice_test f.choices && word_test f.word f.choices)
@@ -160,9 +157,9 @@ pub record WellMade (f : Form) : Type 0 where
   pub plain : begins_with_dash f.name ≡ false
   pub good : HasOwnWord f
   pub names : HasPlainNames f
-  pub flags : (id : Bytes) → flags_named id f.choices ≡ true → bytes_eq id derivations ≡ true
-  pub unvalued : HasChoice f derivations true → ⊥
-  pub other_word : (id : Bytes) → f.word ≡ Some id → bytes_eq id derivations ≡ false
+  pub flags : (id : Bytes) → flags_named id f.choices ≡ true → is_flag_name id ≡ true
+  pub unvalued : (name : Bytes) → is_flag_name name ≡ true → HasChoice f name true → ⊥
+  pub other_word : (id : Bytes) → f.word ≡ Some id → is_flag_name id ≡ false
 
 some_text : (xs : Bytes) → nat_lt 0 (length xs) ≡ true → (x : ℕ) × (ys : Bytes) × (xs ≡ x ∷ ys)
 some_text [] e = absurd (true≢false (sym e))
@@ -172,32 +169,33 @@ is_none : {X : Type 0} (o : Option X) → not (is_some o) ≡ true → o ≡ Non
 is_none None e = refl
 is_none (Some x) e = absurd (true≢false (sym e))
 
-flags_are : (id : Bytes) (cs : List CommandOption) → list_all choice_test cs ≡ true → flags_named id cs ≡ true → bytes_eq id derivations ≡ true
+flags_are : (id : Bytes) (cs : List CommandOption) → list_all choice_test cs ≡ true → flags_named id cs ≡ true → is_flag_name id ≡ true
 flags_are id [] a e = absurd (true≢false (sym e))
 flags_are id (c ∷ cs) a e = go c.is_valued c.name (both (choice_test c) (list_all choice_test cs) a).0 e (flags_are id cs (both (choice_test c) (list_all choice_test cs) a).1)
   where
     go : (v : Bool) (name : Bytes) → choice_test (record { name = name; is_valued = v }) ≡ true → ((not v && bytes_eq name id) || flags_named id cs) ≡ true
-        → (flags_named id cs ≡ true → bytes_eq id derivations ≡ true) → bytes_eq id derivations ≡ true
+        → (flags_named id cs ≡ true → is_flag_name id ≡ true) → is_flag_name id ≡ true
     go true name t h later = later h
     go false name t h later = by_name (bytes_eq name id) refl h
       where
-        own : bytes_eq name derivations ≡ true
-        own = (both (nat_lt 0 (length name)) (bytes_eq name derivations) (both (not (list_any (λ x. x == 61) name)) (nat_lt 0 (length name) && bytes_eq name derivations) t).1).1
+        own : is_flag_name name ≡ true
+        own = (both (nat_lt 0 (length name)) (is_flag_name name) (both (not (list_any (λ x. x == 61) name)) (nat_lt 0 (length name) && is_flag_name name) t).1).1
 
-        by_name : (b : Bool) → bytes_eq name id ≡ b → (b || flags_named id cs) ≡ true → bytes_eq id derivations ≡ true
-        by_name true same k = subst (λ n. bytes_eq n derivations ≡ true) (same_text name id same) own
+        by_name : (b : Bool) → bytes_eq name id ≡ b → (b || flags_named id cs) ≡ true → is_flag_name id ≡ true
+        by_name true same k = subst (λ n. is_flag_name n ≡ true) (same_text name id same) own
         by_name false other k = later k
 
 pub well_made : (f : Form) → form_test f ≡ true → WellMade f
 well_made f e = record {
   plain = is_false (begins_with_dash f.name) first.0;
   good = λ id w. is_none (find (λ k. bytes_eq k.name id) f.choices) (words id w).0;
-  names = λ name b has. let t = tested name b has in let u = both (not (list_any (λ x. x == 61) name)) (nat_lt 0 (length name) && cond b (not (bytes_eq name derivations)) (bytes_eq name derivations))
+  names = λ name b has. let t = tested name b has in let u = both (not (list_any (λ x. x == 61) name)) (nat_lt 0 (length name) && cond b (not (is_flag_name name)) (is_flag_name name))
       t in
-      (is_false (list_any (λ x. x == 61) name) u.0, some_text name (both (nat_lt 0 (length name)) (cond b (not (bytes_eq name derivations)) (bytes_eq name derivations)) u.1).0);
+      (is_false (list_any (λ x. x == 61) name) u.0, some_text name (both (nat_lt 0 (length name)) (cond b (not (is_flag_name name)) (is_flag_name name)) u.1).0);
   flags = λ id h. flags_are id f.choices second.0 h;
-  unvalued = λ has. true≢false (sym (tested derivations true has));
-  other_word = λ id w. is_false (bytes_eq id derivations) (words id w).1;
+  unvalued = λ name is has. let t = tested name true has in
+      true≢false (sym is ∙ is_false (is_flag_name name) (both (nat_lt 0 (length name)) (not (is_flag_name name)) (both (not (list_any (λ x. x == 61) name)) (nat_lt 0 (length name) && not (is_flag_name name)) t).1).1);
+  other_word = λ id w. is_false (is_flag_name id) (words id w).1;
 }
   where
     first : (not (begins_with_dash f.name) ≡ true) × ((list_all choice_test f.choices && word_test f.word f.choices) ≡ true)
@@ -206,8 +204,8 @@ well_made f e = record {
     second : (list_all choice_test f.choices ≡ true) × (word_test f.word f.choices ≡ true)
     second = both (list_all choice_test f.choices) (word_test f.word f.choices) first.1
 
-    words : (id : Bytes) → f.word ≡ Some id → (not (is_some (find (λ k. bytes_eq k.name id) f.choices)) ≡ true) × (not (bytes_eq id derivations) ≡ true)
-    words id w = both (not (is_some (find (λ k. bytes_eq k.name id) f.choices))) (not (bytes_eq id derivations)) (subst (λ o. word_test o f.choices ≡ true) w second.1)
+    words : (id : Bytes) → f.word ≡ Some id → (not (is_some (find (λ k. bytes_eq k.name id) f.choices)) ≡ true) × (not (is_flag_name id) ≡ true)
+    words id w = both (not (is_some (find (λ k. bytes_eq k.name id) f.choices))) (not (is_flag_name id)) (subst (λ o. word_test o f.choices ≡ true) w second.1)
 
     tested : (name : Bytes) (b : Bool) → HasChoice f name b → choice_test (record { name = name; is_valued = b }) ≡ true
     tested name b has = found_test choice_test (λ k. bytes_eq k.name name) f.choices (record { name = name; is_valued = b }) second.0 has
@@ -217,23 +215,22 @@ well_made f e = record {
 -- a use of the flag has the text `true`
 abbrev pub TrueOnly : List Use → Type 0
 TrueOnly [] = Unit {0}
-TrueOnly (u ∷ us) = (bytes_eq u.id derivations ≡ true → u.value ≡ codes "true") × TrueOnly us
+TrueOnly (u ∷ us) = (is_flag_name u.id ≡ true → u.value ≡ codes "true") × TrueOnly us
 
-flag_value : (us : List Use) → TrueOnly us → (text_of_use derivations us ≡ None) ⊎ (text_of_use derivations us ≡ Some (codes "true"))
-flag_value [] t = inl refl
-flag_value (u ∷ us) t = go (bytes_eq u.id derivations) refl (flag_value us t.1)
+flag_value : (us : List Use) (id : Bytes) → is_flag_name id ≡ true → TrueOnly us → (text_of_use id us ≡ None) ⊎ (text_of_use id us ≡ Some (codes "true"))
+flag_value [] id is t = inl refl
+flag_value (u ∷ us) id is t = go (bytes_eq u.id id) refl (flag_value us id is t.1)
   where
-    go : (b : Bool) → bytes_eq u.id derivations ≡ b → (text_of_use derivations us ≡ None) ⊎ (text_of_use derivations us ≡ Some (codes "true"))
-        → (option_map (λ v. v.value) (cond b (Some u) (find (λ v. bytes_eq v.id derivations) us)) ≡ None)
-        ⊎ (option_map (λ v. v.value) (cond b (Some u) (find (λ v. bytes_eq v.id derivations) us)) ≡ Some (codes "true"))
-    go true e later = inr (ap (λ v. Some v) (t.0 e))
+    go : (b : Bool) → bytes_eq u.id id ≡ b → (text_of_use id us ≡ None) ⊎ (text_of_use id us ≡ Some (codes "true"))
+        → (option_map (λ v. v.value) (cond b (Some u) (find (λ v. bytes_eq v.id id) us)) ≡ None) ⊎ (option_map (λ v. v.value) (cond b (Some u) (find (λ v. bytes_eq v.id id) us)) ≡ Some (codes "true"))
+    go true e later = inr (ap (λ v. Some v) (t.0 (subst (λ n. is_flag_name n ≡ true) (sym (same_text u.id id e)) is)))
     go false e later = later
 
-use_true : (f : Form) → WellMade f → (p : WordPiece) → PieceStands f p → bytes_eq (use_of f p).id derivations ≡ true → (use_of f p).value ≡ codes "true"
-use_true f m (value_behind name v) s e = absurd (m.unvalued (subst (λ n. HasChoice f n true) (same_text name derivations e) s.0))
-use_true f m (value_joined name v) s e = absurd (m.unvalued (subst (λ n. HasChoice f n true) (same_text name derivations e) s))
+use_true : (f : Form) → WellMade f → (p : WordPiece) → PieceStands f p → is_flag_name (use_of f p).id ≡ true → (use_of f p).value ≡ codes "true"
+use_true f m (value_behind name v) s e = absurd (m.unvalued name e s.0)
+use_true f m (value_joined name v) s e = absurd (m.unvalued name e s)
 use_true f m (flag name) s e = refl
-use_true f m (positional t) s e = absurd (true≢false (sym e ∙ ap (λ i. bytes_eq i derivations) (ap (λ u. u.id) (word_is f s.0 t s.1)) ∙ m.other_word s.0 s.1))
+use_true f m (positional t) s e = absurd (true≢false (sym e ∙ ap (λ i. is_flag_name i) (ap (λ u. u.id) (word_is f s.0 t s.1)) ∙ m.other_word s.0 s.1))
 
 pub uses_true : (f : Form) → WellMade f → (pieces : List WordPiece) (ending : WordsEnd) → AllStand f pieces → EndingStands f ending → TrueOnly (map (use_of f) pieces ++ ending_uses f ending)
 uses_true f m [] nothing a e = tt
@@ -242,19 +239,31 @@ uses_true f m [] (dashes_and_word t) a e = (use_true f m (positional t) e, tt)
 uses_true f m (p ∷ ps) ending a e = (use_true f m p a.0, uses_true f m ps ending a.1 e)
 
 pub texts_found : (f : Form) → WellMade f → (us : List Use) → TrueOnly us → (id : Bytes) → found_text (fold with_default (rows_of_uses us) (built_rules f)) id ≡ text_of_use id us
-texts_found f m us t id = go (bytes_eq id derivations) refl (after_defaults id f.word f.choices (rows_of_uses us))
+texts_found f m us t id = go (is_flag_name id) refl (after_defaults id f.word f.choices (rows_of_uses us))
   where
     rows : List Row
     rows = fold with_default (rows_of_uses us) (map built_choice f.choices ++ built_word f.word)
 
-    go : (b : Bool) → bytes_eq id derivations ≡ b → Unchanged id (rows_of_uses us) (fold with_default (rows_of_uses us) (map built_choice f.choices ++ built_word f.word)) (flags_named id f.choices)
+    go : (b : Bool) → is_flag_name id ≡ b → Unchanged id (rows_of_uses us) (fold with_default (rows_of_uses us) (map built_choice f.choices ++ built_word f.word)) (flags_named id f.choices)
         → cond b (cond (is_true_text (first_of id (fold with_default (rows_of_uses us) (map built_choice f.choices ++ built_word f.word)))) (Some (codes "true")) None)
         (first_of id (fold with_default (rows_of_uses us) (map built_choice f.choices ++ built_word f.word))) ≡ text_of_use id us
     go true e (inl h) =
-        let value : (text_of_use id us ≡ None) ⊎ (text_of_use id us ≡ Some (codes "true")) =
-        subst (λ i. (text_of_use i us ≡ None) ⊎ (text_of_use i us ≡ Some (codes "true"))) (sym (same_text id derivations e)) (flag_value us t) in
+        let value : (text_of_use id us ≡ None) ⊎ (text_of_use id us ≡ Some (codes "true")) = flag_value us id e t in
         ⊎_elim (λ v. let none : first_of id (fold with_default (rows_of_uses us) (map built_choice f.choices ++ built_word f.word)) ≡ None = h ∙ first_is id us ∙ v in rw none (sym v))
         (λ v. let some : first_of id (fold with_default (rows_of_uses us) (map built_choice f.choices ++ built_word f.word)) ≡ Some (codes "true") = h ∙ first_is id us ∙ v in rw some (sym v)) value
     go true e (inr h) = let unused : text_of_use id us ≡ None = sym (first_is id us) ∙ h.0 in rw h.1 (sym unused)
     go false e (inl h) = h ∙ first_is id us
     go false e (inr h) = absurd (true≢false (sym (m.flags id h.2) ∙ e))
+
+-- what `draw` asks for, by the texts that clap found
+pub draw_found : (rows : List Row)
+    → draw_task (is_true_text (first_of (codes "run") rows)) (first_of (codes "role") rows) (first_of (codes "bound") rows) (first_of (codes "ring") rows) (first_of (codes "limit") rows)
+    (first_of (codes "seed") rows) ≡ task_of (codes "draw") (found_text rows)
+draw_found rows = go (is_true_text (first_of (codes "run") rows))
+  where
+    go : (b : Bool)
+        → draw_task b (first_of (codes "role") rows) (first_of (codes "bound") rows) (first_of (codes "ring") rows) (first_of (codes "limit") rows) (first_of (codes "seed") rows)
+        ≡ draw_task (is_some (cond b (Some (codes "true")) None)) (first_of (codes "role") rows) (first_of (codes "bound") rows) (first_of (codes "ring") rows) (first_of (codes "limit") rows)
+        (first_of (codes "seed") rows)
+    go true = refl
+    go false = refl

@@ -10,12 +10,12 @@ use Rattle.rs_model.specs.Limits.{IsFromTo}
 use Rattle.rs_model.specs.declared.limits.TheConstants.{DEFAULT_BOUND, MOST_BOUND, MOST_CAPACITY, MOST_WORKERS}
 use Rattle.rs_model.specs.declared.runs.Workers.TheVariants.{One, Several}
 use Rattle.rs_model.specs.declared.demos.Demo.{Demo}
-use Rattle.rs_words.specs.declared.limits.TheConstants.{DEFAULT_LIMIT, MOST_GEN, MOST_LIMIT, MOST_SEED, MOST_SWAPS}
+use Rattle.rs_words.specs.declared.limits.TheConstants.{DEFAULT_DRAWN_LIMIT, DEFAULT_LIMIT, MOST_GEN, MOST_LIMIT, MOST_SEED, MOST_SWAPS}
 use Rattle.rs_words.specs.declared.tasks.Task.{Task}
 use Rattle.rs_words.specs.declared.tasks.DocumentTask.TheVariants as on_document
 use Rattle.rs_words.specs.declared.tasks.Task.TheVariants as task
 use Rattle.rs_words.specs.Grammar.{Bytes}
-use Rattle.rs_words.specs.Meaning.{AreWorkers, IsInRange, SpellsTask, bound_of_option, check_task, demo_of_name, demo_task, explain_task, gen_task, improve_task, limit_in, number_from_to, number_or_else, optional_in, ring_in}
+use Rattle.rs_words.specs.Meaning.{AreWorkers, IsInRange, SpellsTask, bound_of_option, check_task, demo_of_name, demo_task, draw_plain_task, draw_run_task, draw_task, drawn_limit_in, explain_task, has_run_options, gen_task, improve_task, limit_in, number_from_to, number_or_else, optional_in, ring_in}
 use Rattle.rs_words.specs.Meaning.{run_task, seed_in, swaps_in, task_of, text_of_use, workers_in, workers_of_number}
 
 -- numbers
@@ -109,6 +109,19 @@ either_is_in : (b : Bool) (x y : Option Task) → IfSome x IsInRange → IfSome 
 either_is_in true x y h k = h
 either_is_in false x y h k = k
 
+draw_run_is_in : (bound ring limit seed : Option Bytes) → IfSome (draw_run_task bound ring limit seed) IsInRange
+draw_run_is_in bound ring limit seed =
+    and_then_is_in (IsFromTo 1 MOST_BOUND) IsInRange _ (bound_of_option bound) (number_or_is_in DEFAULT_BOUND 1 MOST_BOUND bound (omega arith, omega arith)) (λ k hk.
+    and_then_is_in (λ o. IfSome o (IsFromTo 1 MOST_CAPACITY)) IsInRange _ (ring_in ring) (optional_is_in 1 MOST_CAPACITY ring) (λ c hc.
+    and_then_is_in (IsFromTo 1 MOST_LIMIT) IsInRange _ (drawn_limit_in limit) (number_or_is_in DEFAULT_DRAWN_LIMIT 1 MOST_LIMIT limit (omega arith, omega arith)) (λ l hl.
+    map_is_in (IsFromTo 0 MOST_SEED) (λ x. task.OnDocument (on_document.DrawRun (record { bound = k; ring = c; limit = l; seed = x }))) (seed_in seed)
+    (number_or_is_in 0 0 MOST_SEED seed (omega arith, omega arith)) (λ x hx. (hk, hc, hl, hx)))))
+
+draw_is_in : (is_run : Bool) (role bound ring limit seed : Option Bytes) → IfSome (draw_task is_run role bound ring limit seed) IsInRange
+draw_is_in is_run role bound ring limit seed =
+    either_is_in is_run _ _ (either_is_in (is_some role) None (draw_run_task bound ring limit seed) tt (draw_run_is_in bound ring limit seed))
+    (either_is_in (has_run_options bound ring limit seed) None (Some (draw_plain_task role)) tt tt)
+
 task_is_in : (name : Bytes) (value : Bytes → Option Bytes) → IfSome (task_of name value) IsInRange
 task_is_in name value =
     either_is_in (bytes_eq name (codes "check")) _ _ (check_is_in (value (codes "bound")) (is_some (value (codes "derivations")))) (
@@ -121,7 +134,8 @@ task_is_in name value =
     either_is_in (bytes_eq name (codes "gen")) _ _ (gen_is_in (value (codes "number"))) (
     either_is_in (bytes_eq name (codes "improve")) _ _ (improve_is_in (value (codes "role")) (value (codes "swaps")) (value (codes "bound"))) (
     either_is_in (bytes_eq name (codes "explain")) _ _ (explain_is_in (value (codes "bound"))) (
-    either_is_in (bytes_eq name (codes "draw")) _ None tt tt))))))))))
+    either_is_in (bytes_eq name (codes "draw")) _ None
+    (draw_is_in (is_some (value (codes "run"))) (value (codes "role")) (value (codes "bound")) (value (codes "ring")) (value (codes "limit")) (value (codes "seed"))) tt))))))))))
 
 pub spelt_numbers_are_in_range : (words : List Bytes) (t : Task) → SpellsTask words t → IsInRange t
 spelt_numbers_are_in_range words t s = go (task_of s.form.name (λ id. text_of_use id s.uses)) s.task_is (task_is_in s.form.name (λ id. text_of_use id s.uses))

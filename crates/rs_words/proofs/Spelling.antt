@@ -1,5 +1,5 @@
 -- The shortest words of each command, and what they spell.
-use Rattle.std.proofs.Common.{◌≡◌, ◌≤◌, ◌<◌, ◌^◌, ◌==◌, ◌&&◌, ℕ, Bool, true, false, nat_le, List, [], ◌∷◌, ◌++◌, Option, Some, None, cond, refl, sym, ap, ◌∙◌, subst, codes, arith}
+use Rattle.std.proofs.Common.{◌≡◌, ◌≤◌, ◌<◌, ◌^◌, ◌==◌, ◌&&◌, ℕ, Bool, true, false, nat_le, List, [], ◌∷◌, ◌++◌, Option, Some, None, cond, refl, ap, ◌∙◌, subst, codes, arith}
 use Rattle.std.specs.Prelude.{find, map, option_and_then, option_map}
 use Rattle.std.specs.Fmt.{decimal}
 use Rattle.std.specs.Str.{bytes_eq}
@@ -9,14 +9,15 @@ use Rattle.std.proofs.lemmas.Bool.{eqb-true}
 use Rattle.std.proofs.lemmas.Bool.Decides.{nat_tests}
 use Rattle.std.proofs.lemmas.Fmt.{decimal_is_IsNumeral}
 use Rattle.std.proofs.lemmas.Slice.Eq.{bytes_eq-Decides}
-use Rattle.rs_model.specs.Limits.{IsBound}
-use Rattle.rs_model.specs.declared.limits.TheConstants.{MOST_BOUND}
-use Rattle.rs_words.specs.declared.limits.TheConstants.{MOST_GEN}
+use Rattle.rs_model.specs.Limits.{IsBound, IsCapacity, IsFromTo}
+use Rattle.rs_model.specs.declared.limits.TheConstants.{MOST_BOUND, MOST_CAPACITY}
+use Rattle.rs_words.specs.declared.limits.TheConstants.{MOST_GEN, MOST_LIMIT, MOST_SEED}
 use Rattle.rs_words.specs.declared.tasks.DocumentTask.TheVariants as on_document
 use Rattle.rs_words.specs.declared.tasks.Task.{Task}
 use Rattle.rs_words.specs.declared.tasks.Task.TheVariants as task
-use Rattle.rs_words.specs.Grammar.{Bytes, Form, WordPiece, value_joined, flag, positional, nothing, AllStand, AllNew, begins_with_dash, bare_form, check_form, draw_form, forms, gen_form, improve_form, use_of, words_of}
-use Rattle.rs_words.specs.Meaning.{SpellsTask, number_from_to, task_of, text_of_use}
+use Rattle.rs_words.specs.Grammar.{Bytes, Form, WordPiece, value_joined, flag, positional, nothing, begins_with_dash, check_form, draw_form, forms, gen_form, improve_form, option_word, use_of}
+use Rattle.rs_words.specs.Meaning.{IsMeaning, SpellsTask, draw_run_task, number_from_to, task_of, text_of_use}
+use Rattle.rs_words.proofs.Exact.{asked}
 
 -- ---- numbers
 
@@ -115,3 +116,92 @@ gen_of n most =
     let fits : n < 2 ^ 64 = omega (arith, most) in
     with_word gen_form (codes "number") (decimal n) (task.Gen n) refl refl (no_dash (decimal n) (decimal_is_IsNumeral n fits).0.1)
     (ap (λ z. option_map (λ k. task.Gen k) z) (text_is_number 0 MOST_GEN n (omega arith) most fits))
+
+-- ---- `draw --run`
+
+pub draw_run_alone : SpellsTask (codes "draw" ∷ codes "--run" ∷ []) (task.OnDocument (on_document.DrawRun (record { bound = 16; ring = None; limit = 20; seed = 0 })))
+draw_run_alone = record {
+  form = draw_form;
+  rest = codes "--run" ∷ [];
+  uses = use_of draw_form (flag (codes "run")) ∷ [];
+  is_command = refl;
+  words_are = refl;
+  rest_spells = record {
+    pieces = flag (codes "run") ∷ [];
+    ending = nothing;
+    words_are = refl;
+    pieces_stand = (refl, tt);
+    ending_stands = tt;
+    uses_are = refl;
+    all_new = (refl, tt);
+  };
+  task_is = refl;
+}
+
+-- the task of four texts that are numbers
+of_numbers : (k c l x : ℕ) (bound ring limit seed : Bytes) → number_from_to 1 MOST_BOUND bound ≡ Some k → number_from_to 1 MOST_CAPACITY ring ≡ Some c
+    → number_from_to 1 MOST_LIMIT limit ≡ Some l → number_from_to 0 MOST_SEED seed ≡ Some x
+    → draw_run_task (Some bound) (Some ring) (Some limit) (Some seed) ≡ Some (task.OnDocument (on_document.DrawRun (record { bound = k; ring = Some c; limit = l; seed = x })))
+of_numbers k c l x bound ring limit seed is_bound is_ring is_limit is_seed =
+    ap (λ o. option_and_then (λ b. option_and_then (λ r. option_and_then (λ m. option_map (λ s. drawn b r m s) (number_from_to 0 MOST_SEED seed))
+    (number_from_to 1 MOST_LIMIT limit)) (option_map (λ n. Some n) (number_from_to 1 MOST_CAPACITY ring))) o) is_bound
+    ∙ ap (λ o. option_and_then (λ r. option_and_then (λ m. option_map (λ s. drawn k r m s) (number_from_to 0 MOST_SEED seed)) (number_from_to 1 MOST_LIMIT limit)) (option_map (λ n. Some n) o)) is_ring
+    ∙ ap (λ o. option_and_then (λ m. option_map (λ s. drawn k (Some c) m s) (number_from_to 0 MOST_SEED seed)) o) is_limit
+    ∙ ap (λ o. option_map (λ s. drawn k (Some c) l s) o) is_seed
+  where
+    drawn : ℕ → Option ℕ → ℕ → ℕ → Task
+    drawn b r m s = task.OnDocument (on_document.DrawRun (record { bound = b; ring = r; limit = m; seed = s }))
+
+pub draw_run_with_options : (k c l x : ℕ) → IsBound k → IsCapacity c → IsFromTo 1 MOST_LIMIT l → IsFromTo 0 MOST_SEED x
+    → SpellsTask (codes "draw" ∷ codes "--run" ∷ (codes "--bound=" ++ decimal k) ∷ (codes "--ring=" ++ decimal c) ∷ (codes "--limit=" ++ decimal l) ∷ (codes "--seed=" ++ decimal x) ∷ [])
+    (task.OnDocument (on_document.DrawRun (record { bound = k; ring = Some c; limit = l; seed = x })))
+draw_run_with_options k c l x bound ring limit seed =
+    let pieces : List WordPiece = flag (codes "run") ∷ value_joined (codes "bound") (decimal k) ∷ value_joined (codes "ring") (decimal c) ∷ value_joined (codes "limit") (decimal l)
+    ∷ value_joined (codes "seed") (decimal x) ∷ [] in
+    record {
+      form = draw_form;
+      rest = codes "--run" ∷ (codes "--bound=" ++ decimal k) ∷ (codes "--ring=" ++ decimal c) ∷ (codes "--limit=" ++ decimal l) ∷ (codes "--seed=" ++ decimal x) ∷ [];
+      uses = map (use_of draw_form) pieces;
+      is_command = refl;
+      words_are = refl;
+      rest_spells = record {
+        pieces = pieces;
+        ending = nothing;
+        words_are = refl;
+        pieces_stand = (refl, (refl, (refl, (refl, (refl, tt)))));
+        ending_stands = tt;
+        uses_are = refl;
+        all_new = (refl, (refl, (refl, (refl, (refl, tt)))));
+      };
+      task_is = of_numbers k c l x (decimal k) (decimal c) (decimal l) (decimal x) (text_is_number 1 MOST_BOUND k bound.0 bound.1 (let most = bound.1 in omega arith))
+          (text_is_number 1 MOST_CAPACITY c ring.0 ring.1 (let most = ring.1 in omega arith)) (text_is_number 1 MOST_LIMIT l limit.0 limit.1 (let most = limit.1 in omega arith))
+          (text_is_number 0 MOST_SEED x seed.0 seed.1 (let most = seed.1 in omega arith));
+    }
+
+-- no task is asked for
+asks_for_none : (o : Option Task) (t : Task) → o ≡ None → o ≡ Some t → ⊥
+asks_for_none o t a b = cc
+
+pub draw_run_of_no_role : (role : Bytes) → begins_with_dash role ≡ false → IsMeaning (codes "draw" ∷ codes "--run" ∷ role ∷ []) None
+draw_run_of_no_role role plain = λ any s. asks_for_none _ any refl (asked draw_form refl (codes "--run" ∷ role ∷ []) (map (use_of draw_form) (flag (codes "run") ∷ positional role ∷ [])) (record {
+  pieces = flag (codes "run") ∷ positional role ∷ [];
+  ending = nothing;
+  words_are = refl;
+  pieces_stand = (refl, ((codes "role", refl, plain), tt));
+  ending_stands = tt;
+  uses_are = refl;
+  all_new = (refl, (refl, tt));
+}) any s)
+
+-- `draw` with one option of a run alone
+pub draw_with_option : (name text : Bytes) → find (λ c. bytes_eq c.name name) draw_form.choices ≡ Some (record { name = name; is_valued = true })
+    → task_of (codes "draw") (λ id. text_of_use id (record { id = name; value = text } ∷ [])) ≡ None → IsMeaning (codes "draw" ∷ option_word (name ++ 61 ∷ text) ∷ []) None
+draw_with_option name text has none = λ any s. asks_for_none _ any none (asked draw_form refl (option_word (name ++ 61 ∷ text) ∷ []) (record { id = name; value = text } ∷ []) (record {
+  pieces = value_joined name text ∷ [];
+  ending = nothing;
+  words_are = refl;
+  pieces_stand = (has, tt);
+  ending_stands = tt;
+  uses_are = refl;
+  all_new = (refl, tt);
+}) any s)

@@ -42,9 +42,13 @@ abbrev pub is_true_text : Option Bytes → Bool
 is_true_text None = false
 is_true_text (Some text) = bytes_eq text (codes "true")
 
+-- the name is that of an option without a value
+abbrev pub is_flag_name : Bytes → Bool
+is_flag_name name = bytes_eq name (codes "derivations") || bytes_eq name (codes "run")
+
 -- the text that clap found for an id; of an option without a value only where it is used
 abbrev pub found_text : List Row → Bytes → Option Bytes
-found_text rows id = if bytes_eq id (codes "derivations") then (if is_true_text (first_of id rows) then Some (codes "true") else None) else first_of id rows
+found_text rows id = if is_flag_name id then (if is_true_text (first_of id rows) then Some (codes "true") else None) else first_of id rows
 
 -- what the command that clap found asks for, by the rows that it found
 abbrev pub task_found : Option (Bytes × List Row) → Option Task

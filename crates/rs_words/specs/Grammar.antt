@@ -50,9 +50,13 @@ improve_form = record { name = codes "improve"; choices = with_values (codes "sw
 abbrev pub explain_form : Form
 explain_form = record { name = codes "explain"; choices = with_values (codes "bound" ∷ []); word = None }
 
--- draw [ROLE]
+-- draw [--bound K] [--ring C] [--limit L] [--seed X] [--run] [ROLE]; which of them go together is a matter of meaning
 abbrev pub draw_form : Form
-draw_form = record { name = codes "draw"; choices = []; word = Some (codes "role") }
+draw_form = record {
+  name = codes "draw";
+  choices = with_values (codes "bound" ∷ codes "ring" ∷ codes "limit" ∷ codes "seed" ∷ []) ++ record { name = codes "run"; is_valued = false } ∷ [];
+  word = Some (codes "role");
+}
 
 -- all commands
 abbrev pub forms : List Form

@@ -1,5 +1,5 @@
 -- Headline: what a list of words asks for.
-use Rattle.std.specs.Prelude.{◌≡◌, ◌==◌, ◌&&◌, ℕ, Bool, List, ◌∷◌, codes, Option, Some, None, option_map, option_and_then, find, if◌then◌else◌, nat_le, is_some, IfSome}
+use Rattle.std.specs.Prelude.{◌≡◌, ◌==◌, ◌&&◌, ◌||◌, ℕ, Bool, List, ◌∷◌, codes, Option, Some, None, option_map, option_and_then, find, if◌then◌else◌, nat_le, is_some, IfSome}
 use Rattle.std.specs.Str.{bytes_eq}
 use Rattle.std.specs.Str.Parse.{digits_value}
 use Rattle.std.specs.Fmt.{decimal}
@@ -9,7 +9,7 @@ use Rattle.rs_model.specs.declared.demos.Demo.{Demo}
 use Rattle.rs_model.specs.declared.demos.Demo.TheVariants as demo
 use Rattle.rs_model.specs.declared.runs.Workers.{Workers}
 use Rattle.rs_model.specs.declared.runs.Workers.TheVariants.{One, Several}
-use Rattle.rs_words.specs.declared.limits.TheConstants.{DEFAULT_LIMIT, MOST_GEN, MOST_LIMIT, MOST_SEED, MOST_SWAPS}
+use Rattle.rs_words.specs.declared.limits.TheConstants.{DEFAULT_DRAWN_LIMIT, DEFAULT_LIMIT, MOST_GEN, MOST_LIMIT, MOST_SEED, MOST_SWAPS}
 use Rattle.rs_words.specs.declared.tasks.DocumentTask.TheVariants as on_document
 use Rattle.rs_words.specs.declared.tasks.Task.{Task}
 use Rattle.rs_words.specs.declared.tasks.Task.TheVariants as task
@@ -62,6 +62,10 @@ workers_in text = option_map workers_of_number (number_or_else 1 1 MOST_WORKERS 
 abbrev pub limit_in : Option Bytes → Option ℕ
 limit_in text = number_or_else DEFAULT_LIMIT 1 MOST_LIMIT text
 
+-- how many acts a role may make in a run that is drawn
+abbrev pub drawn_limit_in : Option Bytes → Option ℕ
+drawn_limit_in text = number_or_else DEFAULT_DRAWN_LIMIT 1 MOST_LIMIT text
+
 -- how many swaps are asked
 abbrev pub swaps_in : Option Bytes → Option ℕ
 swaps_in text = number_or_else 1 1 MOST_SWAPS text
@@ -96,9 +100,27 @@ improve_task role swaps bound =
 abbrev pub explain_task : Option Bytes → Option Task
 explain_task bound = option_map (λ k. task.OnDocument (on_document.Explain k)) (bound_of_option bound)
 
--- what `draw` asks for, by the text of its role, which may be left out
-abbrev pub draw_task : Option Bytes → Task
-draw_task role = task.OnDocument (on_document.Draw role)
+-- what `draw` without `--run` asks for, by the text of its role, which may be left out
+abbrev pub draw_plain_task : Option Bytes → Task
+draw_plain_task role = task.OnDocument (on_document.Draw role)
+
+-- what `draw --run` asks for, by the texts of its options
+abbrev pub draw_run_task : Option Bytes → Option Bytes → Option Bytes → Option Bytes → Option Task
+draw_run_task bound ring limit seed =
+    option_and_then (λ k. option_and_then (λ c. option_and_then (λ l. option_map (λ x. task.OnDocument (on_document.DrawRun (record { bound = k; ring = c; limit = l; seed = x })))
+    (seed_in seed)) (drawn_limit_in limit)) (ring_in ring)) (bound_of_option bound)
+
+-- one of the options is used that only `draw --run` takes
+abbrev pub has_run_options : Option Bytes → Option Bytes → Option Bytes → Option Bytes → Bool
+has_run_options bound ring limit seed = is_some bound || is_some ring || is_some limit || is_some seed
+
+-- what `draw` asks for, by whether `--run` is used, the text of its role and those of its options: with `--run` no role may
+-- be given, and without it none of the options
+abbrev pub draw_task : Bool → Option Bytes → Option Bytes → Option Bytes → Option Bytes → Option Bytes → Option Task
+draw_task is_run role bound ring limit seed =
+    if is_run then (if is_some role then None else draw_run_task bound ring limit seed)
+    else if has_run_options bound ring limit seed then None
+    else Some (draw_plain_task role)
 
 -- what `gen` asks for, by the text of its number
 abbrev pub gen_task : Option Bytes → Option Task
@@ -117,7 +139,7 @@ task_of name value =
     else if bytes_eq name (codes "gen") then gen_task (value (codes "number"))
     else if bytes_eq name (codes "improve") then improve_task (value (codes "role")) (value (codes "swaps")) (value (codes "bound"))
     else if bytes_eq name (codes "explain") then explain_task (value (codes "bound"))
-    else if bytes_eq name (codes "draw") then Some (draw_task (value (codes "role")))
+    else if bytes_eq name (codes "draw") then draw_task (is_some (value (codes "run"))) (value (codes "role")) (value (codes "bound")) (value (codes "ring")) (value (codes "limit")) (value (codes "seed"))
     else None
 
 -- the words spell the task: a command's name, and behind it uses of what the command takes, whose texts ask for the task
@@ -145,6 +167,7 @@ abbrev pub IsInRange : Task → Type 0
 IsInRange (task.OnDocument (on_document.Check options)) = IsBound options.bound
 IsInRange (task.OnDocument (on_document.Run options workers)) =
     IsBound options.bound × IfSome options.ring IsCapacity × AreWorkers workers × IsFromTo 1 MOST_LIMIT options.limit × IsFromTo 0 MOST_SEED options.seed
+IsInRange (task.OnDocument (on_document.DrawRun options)) = IsBound options.bound × IfSome options.ring IsCapacity × IsFromTo 1 MOST_LIMIT options.limit × IsFromTo 0 MOST_SEED options.seed
 IsInRange (task.OnDocument (on_document.Improve options)) = IsBound options.bound × IsFromTo 1 MOST_SWAPS options.swaps
 IsInRange (task.OnDocument (on_document.Explain bound)) = IsBound bound
 IsInRange (task.OnData demo) = IfSome demo.ring IsCapacity × AreWorkers demo.workers

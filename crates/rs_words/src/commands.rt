@@ -120,7 +120,10 @@ fn draw_command<'a>(alloc: Global) -> Result<Command<'a>, AllocError>
     ensures app { IfOk result (λ r. app_of r ≡ spec.app_of_form draw_form) }
     ensures local { IfOk result (λ r. (out-Command r).has_globals ≡ false) }
 {
-    with_word(alloc, Command::new(alloc, "draw"), "role")
+    let command = with_values(alloc, Command::new(alloc, "draw"), "bound", "ring")?;
+    let command = with_values(alloc, command, "limit", "seed")?;
+    let command = with_flag(alloc, command, "run")?;
+    with_word(alloc, command, "role")
 }
 
 /// The program, before its commands are added.

@@ -2,11 +2,11 @@
 
 ghost use Rattle.std.specs.Fmt.{decimal};
 ghost use Rattle.std.specs.Prelude.{◌≡◌, ◌∷◌, ◌++◌, ◌≤◌, [], List, ℕ, None, Option, Some, codes, false, true};
-ghost use Rattle.rs_model.specs.Limits.{IsBound};
+ghost use Rattle.rs_model.specs.Limits.{IsBound, IsCapacity, IsFromTo};
 ghost use Rattle.rs_model.specs.declared.demos.Demo.TheVariants as demo;
 ghost use Rattle.rs_model.specs.declared.runs.Workers.TheVariants.{One};
 ghost use Rattle.rs_words.specs.Grammar.{begins_with_dash};
-ghost use Rattle.rs_words.specs.declared.limits.TheConstants.{MOST_GEN};
+ghost use Rattle.rs_words.specs.declared.limits.TheConstants.{MOST_GEN, MOST_LIMIT, MOST_SEED};
 ghost use Rattle.rs_words.specs.declared.tasks.DocumentTask.TheVariants as on_document;
 ghost use Rattle.rs_words.specs.declared.tasks.Task.{Task};
 ghost use Rattle.rs_words.specs.declared.tasks.Task.TheVariants as task;
@@ -62,4 +62,22 @@ pub fn names_and_a_word_spell_their_tasks()
     ensures ring { SpellsTask (codes "demo" ∷ codes "ring" ∷ []) (task.OnData (record { kind = demo.Ring; ring = None; workers = One })) }
     ensures stream { SpellsTask (codes "demo" ∷ codes "stream" ∷ []) (task.OnData (record { kind = demo.Stream; ring = None; workers = One })) }
     ensures butterfly { SpellsTask (codes "demo" ∷ codes "butterfly" ∷ []) (task.OnData (record { kind = demo.Butterfly; ring = None; workers = One })) }
+{}
+
+/// `draw --run` alone spells the picture of a run within the bound 16 over queues of the room, of up to 20 acts of each role and with the seed 0. Each option
+/// changes its own number. With a role's name the words spell nothing.
+pub fn words_spell_a_drawn_run()
+    ensures alone { SpellsTask (codes "draw" ∷ codes "--run" ∷ []) (task.OnDocument (on_document.DrawRun (record { bound = 16; ring = None; limit = 20; seed = 0 }))) }
+    ensures options { (k c l x : ℕ) → IsBound k → IsCapacity c → IsFromTo 1 MOST_LIMIT l → IsFromTo 0 MOST_SEED x
+        → SpellsTask (codes "draw" ∷ codes "--run" ∷ (codes "--bound=" ++ decimal k) ∷ (codes "--ring=" ++ decimal c) ∷ (codes "--limit=" ++ decimal l) ∷ (codes "--seed=" ++ decimal x) ∷ [])
+        (task.OnDocument (on_document.DrawRun (record { bound = k; ring = Some c; limit = l; seed = x }))) }
+    ensures role { (role : List ℕ) → begins_with_dash role ≡ false → IsMeaning (codes "draw" ∷ codes "--run" ∷ role ∷ []) None }
+{}
+
+/// `draw` takes the options of a run with `--run` alone: without it they spell nothing.
+pub fn draw_without_run_takes_no_option()
+    ensures bound { (text : List ℕ) → IsMeaning (codes "draw" ∷ (codes "--bound=" ++ text) ∷ []) None }
+    ensures ring { (text : List ℕ) → IsMeaning (codes "draw" ∷ (codes "--ring=" ++ text) ∷ []) None }
+    ensures limit { (text : List ℕ) → IsMeaning (codes "draw" ∷ (codes "--limit=" ++ text) ∷ []) None }
+    ensures seed { (text : List ℕ) → IsMeaning (codes "draw" ∷ (codes "--seed=" ++ text) ∷ []) None }
 {}

@@ -10,6 +10,6 @@ mod numbers;
 mod reading;
 mod tasks;
 
-pub use limits::{DEFAULT_LIMIT, MOST_GEN, MOST_LIMIT, MOST_SEED, MOST_SWAPS};
+pub use limits::{DEFAULT_DRAWN_LIMIT, DEFAULT_LIMIT, MOST_GEN, MOST_LIMIT, MOST_SEED, MOST_SWAPS};
 pub use reading::read_words;
 pub use tasks::{CheckOptions, DemoTask, DocumentTask, ImproveOptions, Task};

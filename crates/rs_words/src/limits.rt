@@ -3,6 +3,9 @@
 /// The most acts of a role in a run where no limit is given.
 pub const DEFAULT_LIMIT: u32 = 10_000;
 
+/// The most acts of a role in a run that is drawn, where no limit is given. A picture of more acts can't be read.
+pub const DEFAULT_DRAWN_LIMIT: u32 = 20;
+
 /// The greatest limit of the acts of a role in a run.
 pub const MOST_LIMIT: u32 = 1_000_000;
 

@@ -6,7 +6,9 @@ ghost use Rattle.rs_words.specs.Clap as clap;
 ghost use Rattle.rs_words.specs.Meaning as spec;
 
 use crate::limits::MOST_GEN;
-use crate::numbers::{bound_in, limit_in, number_in, ring_in, seed_in, swaps_in, workers_in};
+use crate::numbers::{
+    bound_in, drawn_limit_in, limit_in, number_in, ring_in, seed_in, swaps_in, workers_in,
+};
 use crate::tasks::{CheckOptions, DemoTask, DocumentTask, ImproveOptions, Task};
 use clap::ArgMatches;
 use rs_model::{Demo, Name, NoMemory, RunOptions};
@@ -144,15 +146,47 @@ fn explain_task(alloc: Global, bound: Option<&str>) -> Result<Option<Task>, Allo
     Ok(Some(Task::OnDocument(DocumentTask::Explain { bound })))
 }
 
-/// What `draw` asks for, by the text of its role.
-fn draw_task(alloc: Global, role: Option<&str>) -> Result<Task, NoMemory>
-    ensures { IfOk result (λ r. r ≡ spec.draw_task (option_map (λ s. s.now) role.entry)) }
+/// What `draw` without `--run` asks for, by the text of its role.
+fn draw_plain_task(alloc: Global, role: Option<&str>) -> Result<Task, NoMemory>
+    ensures { IfOk result (λ r. r ≡ spec.draw_plain_task (option_map (λ s. s.now) role.entry)) }
 {
     let role = match role {
         Some(role) => Some(Name::of(alloc, role.as_bytes())?),
         None => None,
     };
     Ok(Task::OnDocument(DocumentTask::Draw { role }))
+}
+
+/// What `draw --run` asks for, by the texts of its options.
+fn draw_run_task(
+    alloc: Global,
+    bound: Option<&str>,
+    ring: Option<&str>,
+    limit: Option<&str>,
+    seed: Option<&str>,
+) -> Result<Option<Task>, AllocError>
+    ensures { IfOk result (λ r. r ≡ spec.draw_run_task (option_map (λ s. s.now) bound.entry) (option_map (λ s. s.now) ring.entry)
+        (option_map (λ s. s.now) limit.entry) (option_map (λ s. s.now) seed.entry)) }
+{
+    let Some(bound) = bound_in(alloc, bound)? else {
+        return Ok(None);
+    };
+    let Some(ring) = ring_in(alloc, ring)? else {
+        return Ok(None);
+    };
+    let Some(limit) = drawn_limit_in(alloc, limit)? else {
+        return Ok(None);
+    };
+    let Some(seed) = seed_in(alloc, seed)? else {
+        return Ok(None);
+    };
+    let options = RunOptions {
+        bound,
+        ring,
+        limit,
+        seed,
+    };
+    Ok(Some(Task::OnDocument(DocumentTask::DrawRun { options })))
 }
 
 /// What `gen` asks for, by the text of its number.
@@ -226,6 +260,50 @@ fn improve_task_in(alloc: Global, found: &ArgMatches<'_>) -> Result<Option<Task>
     )
 }
 
+/// Whether an option is used that only `draw --run` takes.
+fn has_run_options(found: &ArgMatches<'_>) -> bool
+    ensures { result ≡ spec.has_run_options (first_of (codes "bound") (rows_of (found_of found.now))) (first_of (codes "ring") (rows_of (found_of found.now)))
+        (first_of (codes "limit") (rows_of (found_of found.now))) (first_of (codes "seed") (rows_of (found_of found.now))) }
+{
+    text_found(found, "bound").is_some()
+        || text_found(found, "ring").is_some()
+        || text_found(found, "limit").is_some()
+        || text_found(found, "seed").is_some()
+}
+
+/// What `draw --run` asks for, by the texts that clap found.
+fn draw_run_task_in(alloc: Global, found: &ArgMatches<'_>) -> Result<Option<Task>, AllocError>
+    ensures { IfOk result (λ r. r ≡ spec.draw_run_task (first_of (codes "bound") (rows_of (found_of found.now))) (first_of (codes "ring") (rows_of (found_of found.now)))
+        (first_of (codes "limit") (rows_of (found_of found.now))) (first_of (codes "seed") (rows_of (found_of found.now)))) }
+{
+    draw_run_task(
+        alloc,
+        text_found(found, "bound"),
+        text_found(found, "ring"),
+        text_found(found, "limit"),
+        text_found(found, "seed"),
+    )
+}
+
+/// What `draw` asks for, by the texts that clap found.
+fn draw_task_in(alloc: Global, found: &ArgMatches<'_>) -> Result<Option<Task>, NoMemory>
+    ensures { IfOk result (λ r. r ≡ spec.draw_task (clap.is_true_text (first_of (codes "run") (rows_of (found_of found.now)))) (first_of (codes "role") (rows_of (found_of found.now)))
+        (first_of (codes "bound") (rows_of (found_of found.now))) (first_of (codes "ring") (rows_of (found_of found.now)))
+        (first_of (codes "limit") (rows_of (found_of found.now))) (first_of (codes "seed") (rows_of (found_of found.now)))) }
+{
+    let role = text_found(found, "role");
+    if is_used(found, "run") {
+        if role.is_some() {
+            return Ok(None);
+        }
+        Ok(draw_run_task_in(alloc, found)?)
+    } else if has_run_options(found) {
+        Ok(None)
+    } else {
+        Ok(Some(draw_plain_task(alloc, role)?))
+    }
+}
+
 /// What the command of this name asks for, by the texts that clap found.
 fn task_of(alloc: Global, name: &str, found: &ArgMatches<'_>) -> Result<Option<Task>, NoMemory>
     ensures { IfOk result (λ r. r ≡ spec.task_of name.now (clap.found_text (rows_of (found_of found.now)))) }
@@ -252,7 +330,7 @@ fn task_of(alloc: Global, name: &str, found: &ArgMatches<'_>) -> Result<Option<T
     } else if name == "explain" {
         Ok(explain_task(alloc, text_found(found, "bound"))?)
     } else if name == "draw" {
-        Ok(Some(draw_task(alloc, text_found(found, "role"))?))
+        draw_task_in(alloc, found)
     } else {
         Ok(None)
     }

@@ -4,7 +4,7 @@ ghost use Rattle.std.specs.Prelude.{◌≡◌, IfOk, IfSome, option_map};
 ghost use Rattle.rs_model.specs.Limits.{IsFromTo};
 ghost use Rattle.rs_words.specs.Meaning as spec;
 
-use crate::limits::{DEFAULT_LIMIT, MOST_LIMIT, MOST_SEED, MOST_SWAPS};
+use crate::limits::{DEFAULT_DRAWN_LIMIT, DEFAULT_LIMIT, MOST_LIMIT, MOST_SEED, MOST_SWAPS};
 use rs_model::{
     Bound, Capacity, Crew, DEFAULT_BOUND, MOST_BOUND, MOST_CAPACITY, MOST_WORKERS, Workers,
 };
@@ -117,6 +117,13 @@ pub(crate) fn limit_in(alloc: Global, text: Option<&str>) -> Result<Option<u32>,
     ensures { IfOk result (λ r. r ≡ spec.limit_in (option_map (λ s. s.now) text.entry)) }
 {
     number_or(alloc, DEFAULT_LIMIT, 1, MOST_LIMIT, text)
+}
+
+/// The most acts of each role in a run that is drawn.
+pub(crate) fn drawn_limit_in(alloc: Global, text: Option<&str>) -> Result<Option<u32>, AllocError>
+    ensures { IfOk result (λ r. r ≡ spec.drawn_limit_in (option_map (λ s. s.now) text.entry)) }
+{
+    number_or(alloc, DEFAULT_DRAWN_LIMIT, 1, MOST_LIMIT, text)
 }
 
 /// The most swaps of an improvement.

@@ -51,6 +51,11 @@ pub enum DocumentTask {
         /// The name of the role, if one is given.
         role: Option<Name>,
     },
+    /// It is checked, its machines are run, and the run is drawn.
+    DrawRun {
+        /// How they are derived and run.
+        options: RunOptions,
+    },
 }
 
 /// How a document is checked.

@@ -2,7 +2,7 @@ use Rattle.rs_tool.proofs.Complete.{complete}
 use Rattle.rs_tool.proofs.DemoComplete.{complete_demo}
 use Rattle.rs_tool.proofs.DemoHeadline.{demos_are_safe_and_never_full}
 use Rattle.rs_tool.proofs.ItsSession.{has_its_session}
-use Rattle.rs_tool.proofs.Headline.{explained_is_fine, fine_is_safe, improved_is_safe, migrated_is_safe, pipeline_is_safe, runs_are_safe, verified_is_safe}
+use Rattle.rs_tool.proofs.Headline.{drawn_runs_are_safe, explained_is_fine, fine_is_safe, improved_is_safe, migrated_is_safe, pipeline_is_safe, runs_are_safe, verified_is_safe}
 use Rattle.rs_tool.proofs.Hopeless.{hopeless_is_told}
 use Rattle.rs_tool.proofs.calls.command.Goals as goal
 
@@ -29,6 +29,9 @@ returns-clause-improved g c = improved_is_safe _ _ c.carry_out.ensures
 
 pub returns-clause-run : goal.returns-clause-run
 returns-clause-run g c = runs_are_safe _ _ c.carry_out.ensures
+
+pub returns-clause-drawn : goal.returns-clause-drawn
+returns-clause-drawn g c = drawn_runs_are_safe _ _ c.carry_out.ensures
 
 pub returns-clause-demo : goal.returns-clause-demo
 returns-clause-demo g c = demos_are_safe_and_never_full _ _ c.carry_out.ensures

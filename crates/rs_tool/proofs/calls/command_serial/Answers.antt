@@ -3,7 +3,7 @@ use Rattle.rs_tool.proofs.Complete.{complete}
 use Rattle.rs_tool.proofs.DemoComplete.{complete_demo}
 use Rattle.rs_tool.proofs.DemoHeadline.{demos_are_safe_and_never_full}
 use Rattle.rs_tool.proofs.ItsSession.{has_its_session}
-use Rattle.rs_tool.proofs.Headline.{explained_is_fine, fine_is_safe, improved_is_safe, migrated_is_safe, pipeline_is_safe, runs_are_safe, verified_is_safe}
+use Rattle.rs_tool.proofs.Headline.{drawn_runs_are_safe, explained_is_fine, fine_is_safe, improved_is_safe, migrated_is_safe, pipeline_is_safe, runs_are_safe, verified_is_safe}
 use Rattle.rs_tool.proofs.Hopeless.{hopeless_is_told}
 use Rattle.rs_tool.proofs.calls.command_serial.Goals as goal
 
@@ -54,6 +54,12 @@ returns-in-Some-clause-run g c =
     let alone = rw c.in-Some.is at c.answer_alone.ensures in
     let ends = ends_delivered _ _ _ _ _ alone.0 c.deliver.ensures in
     runs_are_safe _ _ ends
+
+pub returns-in-Some-clause-drawn : goal.returns-in-Some-clause-drawn
+returns-in-Some-clause-drawn g c =
+    let alone = rw c.in-Some.is at c.answer_alone.ensures in
+    let ends = ends_delivered _ _ _ _ _ alone.0 c.deliver.ensures in
+    drawn_runs_are_safe _ _ ends
 
 pub returns-in-Some-clause-demo : goal.returns-in-Some-clause-demo
 returns-in-Some-clause-demo g c =

@@ -91,3 +91,8 @@ pub returns-in-Explain : goal.returns-in-Explain
 returns-in-Explain c =
     document_leads c.args.task (on_document.Explain c.in-Explain.bound) c.args.bytes.now c.in-Ok.document c.explain.result c.answered-in-Explain.result c.in-Explain.is c.requires.short c.in-Ok.ensures.ok (λ h. h)
     c.answered-in-Explain.ensures c.explain.ensures
+
+pub returns-in-DrawRun : goal.returns-in-DrawRun
+returns-in-DrawRun c =
+    document_leads c.args.task (on_document.DrawRun c.in-DrawRun.options) c.args.bytes.now c.in-Ok.document c.draw_run.result c.answered-in-DrawRun.result c.in-DrawRun.is c.requires.short c.in-Ok.ensures.ok (λ h. h)
+    c.answered-in-DrawRun.ensures c.draw_run.ensures

@@ -1,0 +1,4 @@
+pub mod Acts
+pub mod Rounds
+pub mod Lines
+pub mod Draws
