@@ -96,7 +96,7 @@ made_keeps s p a later x y many r e = elim (eqb_tells p r) [
       ∙ append_assoc (acts_by p s.drawn) (a ∷ []) later
       ∙ ap (λ z. acts_by p s.drawn ++ z) (sym e))
   | inr t ↦ ap (λ z. acts_by r (made s p a x y many).drawn ++ z) (left_other s p r a x y many (λ h. t.1 (sym h)))
-    ∙ ap (λ z. z ++ left_of s r) (by_other r p many a s.drawn t.1)
+      ∙ ap (λ z. z ++ left_of s r) (by_other r p many a s.drawn t.1)
 ]
 
 turn_keeps : (capacity p : ℕ) (s : Scene_data) (r : ℕ) (xs : List Act) → left_of s p ≡ xs → all_of (turn capacity p s) r ≡ all_of s r
