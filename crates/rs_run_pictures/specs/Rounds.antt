@@ -5,7 +5,7 @@ use Rattle.rs_model.specs.declared.machines.Act.{Act}
 use Rattle.rs_model.specs.declared.machines.Act.TheVariants as act
 use Rattle.rs_run_pictures.specs.declared.scenes.DrawnAct.{DrawnAct}
 
--- what a picture has come to: the acts of each role that aren't drawn yet, for each sender a row with the number of messages that
+-- a picture in the making: the acts of each role that aren't drawn yet, for each sender a row with the number of messages that
 -- wait for each receiver, and the acts that are drawn
 pub record Scene_data : Type 0 where
   pub left : List (List Act)
@@ -16,11 +16,11 @@ pub record Scene_data : Type 0 where
 abbrev pub many_waiting : List (List ℕ) → (sender receiver : ℕ) → ℕ
 many_waiting rows sender receiver = slice_index_or (slice_index_or rows sender []) receiver 0
 
--- so many messages wait in the queue, and as many as before in the others
+-- the rows after that number of messages waits in this queue; the other queues don't change
 abbrev pub with_waiting : List (List ℕ) → (sender receiver many : ℕ) → List (List ℕ)
 with_waiting rows sender receiver many = slice_set rows sender (slice_set (slice_index_or rows sender []) receiver many)
 
--- the role has made its next act, and then so many messages wait in the queue from the sender to the receiver
+-- the role has made its next act, and then this number of messages waits in the queue from the sender to the receiver
 abbrev pub made : Scene_data → (role : ℕ) → Act → (sender receiver many : ℕ) → Scene_data
 made scene role a sender receiver many = record {
   left = slice_set scene.left role (drop 1 (slice_index_or scene.left role []));
@@ -57,12 +57,12 @@ turns capacity (suc roles) scene = turn capacity roles (turns capacity roles sce
 abbrev pub round : (capacity : ℕ) → Scene_data → Scene_data
 round capacity scene = turns capacity (length scene.left) scene
 
--- so many rounds
+-- that number of rounds
 abbrev pub rounds : (capacity many : ℕ) → Scene_data → Scene_data
 rounds capacity zero scene = scene
 rounds capacity (suc many) scene = round capacity (rounds capacity many scene)
 
--- for each of these numbers as many rounds
+-- for each number of the list that number of rounds, one after the other
 abbrev pub rounds_for : (capacity : ℕ) → List ℕ → Scene_data → Scene_data
 rounds_for capacity [] scene = scene
 rounds_for capacity (many ∷ later) scene = rounds_for capacity later (rounds capacity many scene)
