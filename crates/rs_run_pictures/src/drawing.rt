@@ -17,7 +17,7 @@ use rs_documents::Document;
 use rs_model::{Capacity, Machine, Names, NoMemory, Role, RunOptions, copies_of};
 use std::alloc::Global;
 
-/// An actor for each of so many roles, whose draws begin at the seed and the role's number.
+/// An actor for each role, whose draws begin at the seed and the role's number.
 fn actors_of(alloc: Global, roles: usize, seed: u32) -> Result<Vec<SeededActor>, NoMemory>
     requires { roles ≤ 16 }
     ensures many { IfOk result (λ actors. length actors.items ≡ roles) }

@@ -85,7 +85,7 @@ impl Model for Row {
 impl Row {
     ghost use Rattle.std.specs.Prelude.{◌≡◌, IfOk, replicate, slice_index_or, slice_set};
 
-    /// No message waits for so many receivers.
+    /// A row in which no message waits for any receiver.
     fn new(alloc: Global, receivers: usize) -> Result<Row, NoMemory>
         ensures { IfOk result (λ row. row ≡ replicate receivers 0) }
     {
@@ -114,7 +114,7 @@ impl Row {
     }
 }
 
-/// What a picture has come to: the acts of each role that aren't drawn yet, how many messages wait in each queue, and the acts
+/// A picture in the making: the acts of each role that aren't drawn yet, how many messages wait in each queue, and the acts
 /// that are drawn.
 #[derive(Drop)]
 pub(crate) struct Scene {
@@ -195,7 +195,7 @@ impl Scene {
         }
     }
 
-    /// The role makes its next act, after which so many messages wait in the queue.
+    /// The role makes its next act, after which this number of messages waits in the queue.
     fn make(
         &mut self,
         role: usize,
