@@ -2,6 +2,7 @@
 use Rattle.std.specs.Prelude.{◌≡◌, ◌≢◌, ◌<◌, ◌≤◌, ℕ, List, [], ◌∷◌, ◌++◌, codes, Bool, true, false, not, ◌&&◌, ◌||◌, slice_get, Option, Some, None}
 use Rattle.std.specs.Fmt.{decimal}
 use Rattle.rs_derive.specs.Data.{Derivation_data}
+use Rattle.rs_derive.specs.Moves.{Spot}
 use Rattle.rs_explain.specs.Explanations.{Explanation_data, IsExplanation}
 use Rattle.rs_explain.specs.Forcing.{is_forced}
 use Rattle.rs_explain.specs.Forgetting.{Forgetting_data, IsForgetting}
@@ -22,14 +23,18 @@ use Rattle.rs_text.specs.NamePlaces.{name_at}
 use Rattle.rs_walk_texts.specs.Data.{WalkSource_data}
 use Rattle.rs_walk_texts.specs.Dues.{act_dues}
 use Rattle.rs_walk_texts.specs.Heads.{act_text, owed_line}
+use Rattle.rs_walk_texts.specs.Hints.{hints_text}
 use Rattle.rs_walk_texts.specs.Stops.{stop_text}
 use Rattle.rs_walk_texts.specs.Rounds.{walk_text}
 use Rattle.rs_walk_texts.specs.Walks.{steps_text}
 
+-- why a walk from the spot ends, and what may help to find the mistake
+abbrev pub end_text : WalkSource_data → Spot → List WalkStep_data → Ending → ℕ → List ℕ
+end_text source first steps ending bound = stop_text source (end_of first steps) ending bound ++ hints_text source first steps (end_of first steps) ending
+
 -- the steps of a walk from the start, and why it ends
 abbrev pub way_text : WalkSource_data → ℕ → List WalkStep_data → Ending → List ℕ
-way_text source bound steps ending =
-    walk_text source steps ++ stop_text source (end_of (start_spot source.machine source.projection.machine) steps) ending bound
+way_text source bound steps ending = walk_text source steps ++ end_text source (start_spot source.machine source.projection.machine) steps ending bound
 
 -- an obstacle stands at the end
 abbrev pub is_blocked : Ending → Bool

@@ -4,11 +4,9 @@ ghost use Rattle.std.specs.Prelude.{◌≡◌, ◌≤◌, ◌++◌, codes, false
 ghost use Rattle.std.specs.Fmt.{decimal};
 ghost use Rattle.rs_derive.specs.Derivations.{IsProper};
 ghost use Rattle.rs_explain.specs.Explanations.{IsExplanation};
-ghost use Rattle.rs_explain.specs.Walks.{end_of};
 ghost use Rattle.rs_model.specs.declared.limits.TheConstants.{MOST_BOUND};
 ghost use Rattle.rs_search.specs.Canonical.{IsCanonical, IsForgets, IsNotFound, SearchRefuses};
 ghost use Rattle.rs_text.specs.NamePlaces.{name_at};
-ghost use Rattle.rs_walk_texts.specs.Stops.{stop_text};
 ghost use Rattle.rs_reasons.specs.Underivable as spec;
 
 use crate::lesser::too_large_text;
@@ -24,12 +22,14 @@ use rs_search::{SearchFault, search};
 use rs_text::Text;
 use rs_text::shown::push_name;
 use rs_walk_texts::{
-    SpotRef, WalkSource, push_act, push_dues, push_owed_line, push_steps, push_stop, push_walk,
+    SpotRef, WalkSource, push_act, push_dues, push_hints, push_owed_line, push_steps, push_stop,
+    push_walk,
 };
 use std::alloc::Global;
 
-// The lines behind a walk that begins at the spot.
+// Why a walk that begins at the spot ends, and what may help to find the mistake.
 fn push_end<'a>(
+    alloc: Global,
     text: &mut Text,
     source: &WalkSource,
     first: &SpotRef<'a>,
@@ -37,7 +37,7 @@ fn push_end<'a>(
     ending: Ending,
     bound: u8,
 ) -> Result<(), NoMemory>
-    ensures { OnOk result (text.new ≡ text.old ++ stop_text source.now (end_of first.now steps.now) ending bound) }
+    ensures { OnOk result (text.new ≡ text.old ++ spec.end_text source.now first.now steps.now ending bound) }
 {
     let mut state = first.state;
     let mut pending = first.pending;
@@ -52,7 +52,8 @@ fn push_end<'a>(
         pending,
         above,
     };
-    push_stop(text, source, &end, ending, bound)
+    push_stop(text, source, &end, ending, bound)?;
+    push_hints(alloc, text, source, first, steps, &end, ending)
 }
 
 // The steps of a walk from the start, and why it ends.
@@ -75,7 +76,7 @@ fn push_way(
         pending: &pending,
         above: projection.machine.start,
     };
-    push_end(text, source, &start, steps, ending, bound)
+    push_end(alloc, text, source, &start, steps, ending, bound)
 }
 
 // The name of the machine's role.

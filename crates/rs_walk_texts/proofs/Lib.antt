@@ -3,3 +3,4 @@ pub mod Joins
 pub mod Near
 pub mod Least
 pub mod Toward
+pub mod StillOwed

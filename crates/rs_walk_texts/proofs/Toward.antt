@@ -6,8 +6,7 @@ use Rattle.std.proofs.lemmas.Option.{none-some, same_Some}
 use Rattle.std.proofs.Math.ListN.{drop_of_length-le}
 use Rattle.rs_derive.specs.Moves.{Spot}
 use Rattle.rs_explain.specs.Walks.{WalkStep_data}
-use Rattle.rs_graph.proofs.Buckets.{got}
-use Rattle.rs_graph.proofs.Growth.{at_within, drop_here}
+use Rattle.rs_graph.proofs.Growth.{drop_here}
 use Rattle.rs_model.specs.Data.{Protocol_data}
 use Rattle.rs_model.specs.FirstFailed.{or_later}
 use Rattle.rs_model.specs.declared.graph.Arm.{Arm}
@@ -16,11 +15,12 @@ use Rattle.rs_model.specs.declared.graph.Node.{Node}
 use Rattle.rs_model.specs.declared.graph.Node.TheVariants.{Finished, Talk}
 use Rattle.rs_model.specs.declared.graph.Role.{Role}
 use Rattle.rs_project.proofs.Flags.{none_on, set_only}
-use Rattle.rs_project.specs.Graph.{AllPassBy, Involves, IsPath, LeadsTo, MeetsFirst, PassesBy, PathStep}
+use Rattle.rs_project.specs.Graph.{Involves, IsPath, LeadsTo, MeetsFirst, PassesBy}
 use Rattle.rs_walk_texts.specs.Data.{WalkSource_data}
 use Rattle.rs_walk_texts.specs.OneWay.{any_on, first_some, flagged, is_own, leads_on, meeting, spread_over, toward}
 use Rattle.rs_walk_texts.specs.Passed.{first_flagged, first_talk, passed_talk, talk_with, talks_of}
-use Rattle.rs_walk_texts.specs.Walks.{lines_text, spot_before, step_talk, step_text, talks_along}
+use Rattle.rs_walk_texts.specs.Owing.{owed_after, owed_along}
+use Rattle.rs_walk_texts.specs.Walks.{lines_text, rule_of, spot_before, step_talk, step_text, talks_along}
 use Rattle.rs_walk_texts.specs.declared.passed.TalkArm.{TalkArm}
 
 -- flags that spread
@@ -277,3 +277,14 @@ line_on source p steps talks i s t e f =
 pub along_length : (source : WalkSource_data) (p : Spot) (steps : List WalkStep_data) → length (talks_along source p steps) ≡ length steps
 along_length source p [] = refl
 along_length source p (s ∷ later) = ap suc (along_length source s.spot later)
+
+-- what is owed after a step more
+pub owed_on : (source : WalkSource_data) (p : Spot) (steps : List WalkStep_data) (talks owed : List (Option TalkArm)) (i : ℕ) (s : WalkStep_data) (t : Option TalkArm) → slice_get steps i ≡ Some s
+    → slice_get talks i ≡ Some t
+    → owed_along source (spot_before p steps i) (drop i steps) (drop i talks) owed
+    ≡ owed_along source (spot_before p steps (i + 1)) (drop (i + 1) steps) (drop (i + 1) talks) (owed_after (rule_of source (spot_before p steps i)) t owed)
+owed_on source p steps talks owed i s t e f =
+    let one : i + 1 ≡ suc i = omega arith in
+    let spot : s.spot ≡ spot_before p steps (i + 1) = sym (before_next p steps i s e) ∙ ap (λ (z : ℕ). spot_before p steps z) (sym one) in
+    ap₂ (λ (y : List WalkStep_data) (z : List (Option TalkArm)). owed_along source (spot_before p steps i) y z owed) (drop_here steps i s e) (drop_here talks i t f)
+    ∙ ap (λ (z : Spot). owed_along source z (drop (i + 1) steps) (drop (i + 1) talks) (owed_after (rule_of source (spot_before p steps i)) t owed)) spot

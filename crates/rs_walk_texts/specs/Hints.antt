@@ -1,8 +1,10 @@
 -- Public: what else is told where a walk ends: the talks behind the act that stands in the way, and a choice that isn't made yet.
-use Rattle.std.specs.Prelude.{ℕ, ◌+◌, ◌-◌, List, [], ◌∷◌, ◌++◌, codes, length, nat_lt, Bool, false, ◌&&◌, if◌then◌else◌, is_some, slice_get, Option, Some, None}
+use Rattle.std.specs.Prelude.{ℕ, ◌+◌, List, [], ◌∷◌, ◌++◌, codes, length, nat_lt, Bool, false, ◌&&◌, if◌then◌else◌, is_some, slice_get, Option, Some, None}
 use Rattle.rs_derive.specs.Moves.{Spot, arm_of}
 use Rattle.rs_explain.specs.declared.explaining.Ending.{Ending}
 use Rattle.rs_explain.specs.declared.explaining.Ending.TheVariants.{Blocked, Cut}
+use Rattle.rs_explain.specs.Walks.{WalkStep_data}
+use Rattle.rs_explain.specs.declared.obstacles.Obstacle.{Obstacle}
 use Rattle.rs_explain.specs.declared.obstacles.Obstacle.TheVariants as told
 use Rattle.rs_model.specs.FirstFailed.{or_later}
 use Rattle.rs_model.specs.declared.graph.Arm.{Arm}
@@ -13,21 +15,27 @@ use Rattle.rs_model.specs.declared.graph.Role.{Role}
 use Rattle.rs_model.specs.declared.machines.Act.{Act}
 use Rattle.rs_model.specs.declared.machines.Act.TheVariants as act
 use Rattle.rs_walk_texts.specs.Data.{WalkSource_data}
-use Rattle.rs_walk_texts.specs.Dues.{act_dues}
+use Rattle.rs_walk_texts.specs.Dues.{act_dues, due_line}
 use Rattle.rs_walk_texts.specs.Elsewhere.{goes}
 use Rattle.rs_walk_texts.specs.Heads.{placed_talk_text}
+use Rattle.rs_walk_texts.specs.Owing.{newest_talk, talks_owed}
 
--- the act that is owed and stands in the way: the oldest one, where the machine has ended, and the newest one, where it would owe too much
-abbrev pub owed_in_the_way : Spot → Ending → Option Act
-owed_in_the_way p (Blocked told.EndWhileOwing) = slice_get p.pending 0
-owed_in_the_way p (Blocked (told.ChoiceWhileOwing place)) = slice_get p.pending place
-owed_in_the_way p (Blocked (told.SendBeforeSend place)) = slice_get p.pending place
-owed_in_the_way p (Blocked (told.OwedSendOfOtherSort place)) = slice_get p.pending place
-owed_in_the_way p (Blocked (told.ReceiveBeforeReceive place)) = slice_get p.pending place
-owed_in_the_way p (Blocked (told.OwedReceiveOfOtherSort place)) = slice_get p.pending place
-owed_in_the_way p (Blocked (told.ReceiveBeforeOwedSend place)) = slice_get p.pending place
-owed_in_the_way p Cut = slice_get p.pending (length p.pending - 1)
+-- the act that is owed and stands in the way: the oldest one, where the machine has ended
+abbrev pub owed_in_the_way : Spot → Obstacle → Option Act
+owed_in_the_way p told.EndWhileOwing = slice_get p.pending 0
+owed_in_the_way p (told.ChoiceWhileOwing place) = slice_get p.pending place
+owed_in_the_way p (told.SendBeforeSend place) = slice_get p.pending place
+owed_in_the_way p (told.OwedSendOfOtherSort place) = slice_get p.pending place
+owed_in_the_way p (told.ReceiveBeforeReceive place) = slice_get p.pending place
+owed_in_the_way p (told.OwedReceiveOfOtherSort place) = slice_get p.pending place
+owed_in_the_way p (told.ReceiveBeforeOwedSend place) = slice_get p.pending place
 owed_in_the_way p _ = None
+
+-- the talks that are due at the end p of a walk: each that may stand behind the act in the way; where the machine would owe too much, the
+-- talk of the walk behind the newest act that it owes
+abbrev pub dues_text : WalkSource_data → Spot → List WalkStep_data → Spot → Ending → List ℕ
+dues_text source first steps p (Blocked o) = act_dues source (owed_in_the_way p o)
+dues_text source first steps p Cut = due_line source (newest_talk (talks_owed source first steps))
 
 -- of these arms one has the label, and there is another one
 abbrev pub is_one_of_several : List Arm → Label → Bool
@@ -63,6 +71,6 @@ abbrev pub choice_line : WalkSource_data → Option ℕ → List ℕ
 choice_line source None = []
 choice_line source (Some n) = codes "not chosen yet: " ++ placed_talk_text source.names source.protocol.nodes source.talks n ++ codes "\n"
 
--- the lines of both
-abbrev pub hints_text : WalkSource_data → Spot → Ending → List ℕ
-hints_text source p ending = act_dues source (owed_in_the_way p ending) ++ choice_line source (open_choice source p ending)
+-- the lines of both, where the walk from that spot ends at p
+abbrev pub hints_text : WalkSource_data → Spot → List WalkStep_data → Spot → Ending → List ℕ
+hints_text source first steps p ending = dues_text source first steps p ending ++ choice_line source (open_choice source p ending)

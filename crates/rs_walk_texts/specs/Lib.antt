@@ -10,3 +10,4 @@ pub mod Hints
 pub mod Stops
 pub mod Rounds
 pub mod OneWay
+pub mod Owing

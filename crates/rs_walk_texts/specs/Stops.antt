@@ -15,7 +15,6 @@ use Rattle.rs_walk_texts.specs.Alike.{label_of, nearest, nearest_text}
 use Rattle.rs_walk_texts.specs.Data.{WalkSource_data}
 use Rattle.rs_walk_texts.specs.Heads.{act_sort_name, acts_text, arm_sort_name, maybe_act_text, maybe_bare_text, maybe_head_text, owed_line, placed_head_text}
 use Rattle.rs_walk_texts.specs.Elsewhere.{elsewhere_at, elsewhere_text}
-use Rattle.rs_walk_texts.specs.Hints.{hints_text}
 use Rattle.rs_walk_texts.specs.Passed.{own_name, talks_of, talks_text}
 use Rattle.rs_walk_texts.specs.Walks.{above_at, act_of, state_at}
 use Rattle.rs_walk_texts.specs.declared.passed.TalkArm.{TalkArm}
@@ -176,12 +175,8 @@ protocol_line source p = codes "protocol: " ++ talks_text source (talks_of sourc
 abbrev pub why_line : WalkSource_data → Spot → Ending → ℕ → List ℕ
 why_line source p ending bound = codes "why: " ++ reason_text source p bound ending (elsewhere_at source p) ++ codes "\n"
 
--- what may help to find the mistake: two labels that look alike, the talks behind the act that stands in the way, and a choice that isn't made yet
-abbrev pub help_text : WalkSource_data → Spot → Ending → List ℕ
-help_text source p ending = nearest_text source.names (nearest source p ending) ++ hints_text source p ending
-
--- the lines behind a walk that ends at the spot: what is owed, where both stand, why it ends, and what may help to find the mistake
+-- the lines behind a walk that ends at the spot: what is owed, where both stand, why it ends, and two labels that look alike
 abbrev pub stop_text : WalkSource_data → Spot → Ending → ℕ → List ℕ
 stop_text source p ending bound =
     owed_line source.names p.pending ++ machine_line source p ++ protocol_line source p ++ why_line source p ending bound
-    ++ help_text source p ending
+    ++ nearest_text source.names (nearest source p ending)

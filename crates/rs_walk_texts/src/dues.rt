@@ -26,8 +26,8 @@ fn talk_of(
     }
 }
 
-// The line of the talk, where there is one.
-fn push_due_line(
+/// Writes the line of the talk, where there is one. Refused memory is the only error.
+pub(crate) fn push_due_line(
     text: &mut Text,
     source: &WalkSource,
     talk: Option<TalkArm>,

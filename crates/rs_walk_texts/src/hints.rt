@@ -1,19 +1,23 @@
 //! What else is told where a walk ends: the talks behind the act that stands in the way, and a choice that isn't made yet.
 
-ghost use Rattle.std.specs.Prelude.{◌≡◌, ◌++◌, ◌-◌, OnOk, Some, length, slice_get};
+ghost use Rattle.std.specs.Prelude.{◌≡◌, ◌++◌, OnOk, Some, length, slice_get};
+ghost use Rattle.rs_walk_texts.specs.Dues.{due_line};
 ghost use Rattle.rs_walk_texts.specs.Heads.{maybe_talk_text, placed_talk_text};
 ghost use Rattle.rs_walk_texts.specs.Hints as spec;
+ghost use Rattle.rs_walk_texts.specs.Owing.{newest_talk, talks_owed};
 
-use crate::dues::push_dues;
+use crate::dues::{push_due_line, push_dues};
 use crate::elsewhere::goes;
+use crate::owing::newest_talk;
 use crate::positions::{position_at, push_at};
 use crate::sources::{SpotRef, WalkSource};
 use crate::talks::push_talk;
 use rs_derive::arm_of;
-use rs_explain::{Ending, Obstacle};
+use rs_explain::{Ending, Obstacle, WalkStep};
 use rs_model::{Act, Arm, Label, Names, NoMemory, Node, Role};
 use rs_prefix::Pending;
 use rs_text::Text;
+use std::alloc::Global;
 
 // The act that is owed at the place, where there is one.
 fn owed_at(pending: &Pending, place: usize) -> Option<Act>
@@ -22,30 +26,19 @@ fn owed_at(pending: &Pending, place: usize) -> Option<Act>
     pending.as_slice().get(place).copied()
 }
 
-// The newest act that is owed, where there is one.
-fn newest_owed(pending: &Pending) -> Option<Act>
-    ensures { result ≡ slice_get pending.now (length pending.now - 1) }
-{
-    let acts = pending.as_slice();
-    acts.get(acts.len().saturating_sub(1)).copied()
-}
-
 // The act that is owed and stands in the way.
-fn owed_in_the_way(spot: &SpotRef, ending: Ending) -> Option<Act>
-    ensures { result ≡ spec.owed_in_the_way spot.now ending }
+fn owed_in_the_way(spot: &SpotRef, obstacle: Obstacle) -> Option<Act>
+    ensures { result ≡ spec.owed_in_the_way spot.now obstacle }
 {
-    match ending {
-        Ending::Blocked(Obstacle::EndWhileOwing) => owed_at(spot.pending, 0),
-        Ending::Blocked(Obstacle::ChoiceWhileOwing { place }) => owed_at(spot.pending, place),
-        Ending::Blocked(Obstacle::SendBeforeSend { place }) => owed_at(spot.pending, place),
-        Ending::Blocked(Obstacle::OwedSendOfOtherSort { place }) => owed_at(spot.pending, place),
-        Ending::Blocked(Obstacle::ReceiveBeforeReceive { place }) => owed_at(spot.pending, place),
-        Ending::Blocked(Obstacle::OwedReceiveOfOtherSort { place }) => {
-            owed_at(spot.pending, place)
-        }
-        Ending::Blocked(Obstacle::ReceiveBeforeOwedSend { place }) => owed_at(spot.pending, place),
-        Ending::Blocked(_) => None,
-        Ending::Cut => newest_owed(spot.pending),
+    match obstacle {
+        Obstacle::EndWhileOwing => owed_at(spot.pending, 0),
+        Obstacle::ChoiceWhileOwing { place }
+        | Obstacle::SendBeforeSend { place }
+        | Obstacle::OwedSendOfOtherSort { place }
+        | Obstacle::ReceiveBeforeReceive { place }
+        | Obstacle::OwedReceiveOfOtherSort { place }
+        | Obstacle::ReceiveBeforeOwedSend { place } => owed_at(spot.pending, place),
+        _ => None,
     }
 }
 
@@ -166,16 +159,51 @@ fn push_choice_line(
     }
 }
 
-/// Writes a line for each talk that may stand behind the act that stands in the way, and one for a choice that the machine
-/// hasn't made yet, where it sends as if it had. Refused memory is the only error.
-pub(crate) fn push_hints(
+// The line of the talk of the walk behind the newest act that is owed.
+fn push_newest_due<'a>(
+    alloc: Global,
     text: &mut Text,
     source: &WalkSource,
+    first: &SpotRef<'a>,
+    steps: &'a [WalkStep],
+) -> Result<(), NoMemory>
+    ensures { OnOk result (text.new ≡ text.old ++ due_line source.now (newest_talk (talks_owed source.now first.now steps.now))) }
+{
+    let talk = newest_talk(alloc, source, first, steps)?;
+    push_due_line(text, source, talk)
+}
+
+// The lines of the talks that are due at the end of a walk.
+fn push_dues_of_walk<'a>(
+    alloc: Global,
+    text: &mut Text,
+    source: &WalkSource,
+    first: &SpotRef<'a>,
+    steps: &'a [WalkStep],
     spot: &SpotRef,
     ending: Ending,
 ) -> Result<(), NoMemory>
-    ensures { OnOk result (text.new ≡ text.old ++ spec.hints_text source.now spot.now ending) }
+    ensures { OnOk result (text.new ≡ text.old ++ spec.dues_text source.now first.now steps.now spot.now ending) }
 {
-    push_dues(text, source, owed_in_the_way(spot, ending))?;
+    match ending {
+        Ending::Blocked(obstacle) => push_dues(text, source, owed_in_the_way(spot, obstacle)),
+        Ending::Cut => push_newest_due(alloc, text, source, first, steps),
+    }
+}
+
+/// Writes what may help to find the mistake, behind a walk from the first spot to the other one: a line for each talk that is due
+/// there, and one for a choice that the machine hasn't made yet, where it sends as if it had. Refused memory is the only error.
+pub fn push_hints<'a>(
+    alloc: Global,
+    text: &mut Text,
+    source: &WalkSource,
+    first: &SpotRef<'a>,
+    steps: &'a [WalkStep],
+    spot: &SpotRef,
+    ending: Ending,
+) -> Result<(), NoMemory>
+    ensures { OnOk result (text.new ≡ text.old ++ spec.hints_text source.now first.now steps.now spot.now ending) }
+{
+    push_dues_of_walk(alloc, text, source, first, steps, spot, ending)?;
     push_choice_line(text, source, open_choice(source, spot, ending))
 }

@@ -1,11 +1,14 @@
 //! Laws over the definitions that the contracts cite. The functions do nothing: the contract is the law.
-ghost use Rattle.std.specs.Prelude.{◌≡◌, ◌≢◌, ℕ, slice_get, Some, None};
+ghost use Rattle.std.specs.Prelude.{◌≡◌, ◌≢◌, ℕ, slice_get, List, Option, Some, None};
 ghost use Rattle.rs_model.specs.declared.graph.Label.{Label};
 ghost use Rattle.rs_project.specs.Graph.{Involves, MeetsFirst};
 ghost use Rattle.rs_walk_texts.specs.OneWay.{meeting};
+ghost use Rattle.rs_walk_texts.specs.Owing.{talks_owed};
 ghost use Rattle.rs_walk_texts.specs.Passed.{first_flagged, passed_talk, talks_of};
+ghost use Rattle.rs_walk_texts.specs.Walks.{talks_along};
 ghost use Rattle.rs_walk_texts.specs.declared.passed.TalkArm.{TalkArm};
 ghost use Rattle.rs_derive.specs.Moves.{Spot};
+ghost use Rattle.rs_explain.specs.Walks.{WalkStep_data};
 ghost use Rattle.rs_explain.specs.declared.explaining.Ending.{Ending};
 ghost use Rattle.rs_walk_texts.specs.Alike.{IsFirstOfLeast, nearest, pairs_at, slip_distance};
 ghost use Rattle.rs_walk_texts.specs.Data.{WalkSource_data};
@@ -27,4 +30,11 @@ pub fn talks_of_a_walk_lie_on_one_way()
     ensures { (source : WalkSource_data) (above : ℕ) (label : Label) (next talk : TalkArm) → Involves source.protocol source.machine.role next.number
         → first_flagged source.protocol.nodes (meeting source.protocol.nodes source.machine.role next.number) label (talks_of source above) ≢ None
         → passed_talk source above label (Some next) ≡ Some talk → MeetsFirst source.protocol source.machine.role talk.arm.next next.number }
+{}
+
+/// After a walk, the talk behind an act that is owed is one of those that the walk passes, which lie on one way of the protocol
+/// (`talks_of_a_walk_lie_on_one_way`).
+pub fn what_is_owed_after_a_walk_was_passed()
+    ensures { (source : WalkSource_data) (p : Spot) (steps : List WalkStep_data) (place : ℕ) (talk : Option TalkArm) → slice_get (talks_owed source p steps) place ≡ Some talk
+        → (k : ℕ) × (slice_get (talks_along source p steps) k ≡ Some talk) }
 {}

@@ -14,7 +14,6 @@ use crate::acts::{
 use crate::alike::{label_of, own_arms, push_nearest_line};
 use crate::elsewhere::{elsewhere_at, push_elsewhere};
 use crate::heads::{push_head_of, push_placed_head};
-use crate::hints::push_hints;
 use crate::passed::{push_own_name, push_talks, talks_of};
 use crate::sources::{SpotRef, WalkSource};
 use crate::walks::{act_of, arm_at};
@@ -535,21 +534,8 @@ fn push_why_line(
     text.push(b"\n")
 }
 
-// What may help to find the mistake.
-fn push_help(
-    text: &mut Text,
-    source: &WalkSource,
-    spot: &SpotRef,
-    ending: Ending,
-) -> Result<(), NoMemory>
-    ensures { OnOk result (text.new ≡ text.old ++ spec.help_text source.now spot.now ending) }
-{
-    push_nearest_line(text, source, spot, ending)?;
-    push_hints(text, source, spot, ending)
-}
-
 /// Writes the lines behind a walk that ends at the spot, where so many acts may be owed: what is owed, where the machine and
-/// the protocol stand, why it ends, and what may help to find the mistake. Refused memory is the only error.
+/// the protocol stand, why it ends, and two labels that look alike. Refused memory is the only error.
 pub fn push_stop(
     text: &mut Text,
     source: &WalkSource,
@@ -563,5 +549,5 @@ pub fn push_stop(
     push_machine_line(text, source, spot)?;
     push_protocol_line(text, source, spot)?;
     push_why_line(text, source, spot, ending, bound)?;
-    push_help(text, source, spot, ending)
+    push_nearest_line(text, source, spot, ending)
 }

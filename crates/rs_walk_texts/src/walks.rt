@@ -16,8 +16,8 @@ use rs_model::{Act, Arm, Names, NoMemory, State};
 use rs_text::Text;
 use std::alloc::Global;
 
-// The rule that applies at the spot.
-fn rule_of(source: &WalkSource, spot: &SpotRef) -> Option<Rule>
+/// The rule that applies at the spot.
+pub(crate) fn rule_of(source: &WalkSource, spot: &SpotRef) -> Option<Rule>
     ensures { result ≡ spec.rule_of source.now spot.now }
 {
     let machine = source.machine;
@@ -106,8 +106,12 @@ fn step_talk(
     )
 }
 
-// The spot before the step with the number.
-fn spot_before<'a>(first: &SpotRef<'a>, steps: &'a [WalkStep], number: usize) -> SpotRef<'a>
+/// The spot before the step with the number.
+pub(crate) fn spot_before<'a>(
+    first: &SpotRef<'a>,
+    steps: &'a [WalkStep],
+    number: usize,
+) -> SpotRef<'a>
     requires { number < length steps.now }
     ensures { result ≡ spec.spot_before first.now steps.now number }
 {
@@ -130,8 +134,8 @@ fn or_later(talk: Option<TalkArm>, later: Option<TalkArm>) -> Option<TalkArm>
     }
 }
 
-// Of each step of a walk from the spot the talk that it passes, so that the talks lie on one way.
-fn talks_along<'a>(
+/// Of each step of a walk from the spot the talk that it passes, so that the talks lie on one way.
+pub(crate) fn talks_along<'a>(
     alloc: Global,
     source: &WalkSource,
     first: &SpotRef<'a>,

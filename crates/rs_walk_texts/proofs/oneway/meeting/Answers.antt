@@ -1,4 +1,4 @@
-use Rattle.std.proofs.Common.{◌≡◌, ◌≤◌, ◌+◌, ◌∙◌, Bool, List, ap, ap₂, arith, length, suc, sym, ℕ}
+use Rattle.std.proofs.Common.{◌≡◌, ◌+◌, ◌∙◌, Bool, List, ap, arith, length, suc, sym, ℕ}
 use Rattle.rs_walk_texts.specs.OneWay.{spread_over, toward}
 use Rattle.rs_walk_texts.proofs.Toward.{meeting_is, spread_length}
 use Rattle.rs_walk_texts.proofs.oneway.meeting.Goals as goal

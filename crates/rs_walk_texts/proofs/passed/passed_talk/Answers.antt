@@ -1,4 +1,4 @@
-use Rattle.std.proofs.Common.{◌≡◌, ◌<◌, ◌∙◌, List, Option, Some, ap, ap₂, length, subst, sym, ℕ}
+use Rattle.std.proofs.Common.{◌<◌, ◌∙◌, List, Option, ap, ap₂, length, subst, sym, ℕ}
 use Rattle.rs_model.specs.Data.{Protocol_data}
 use Rattle.rs_model.specs.declared.graph.Node.{Node}
 use Rattle.rs_walk_texts.specs.Data.{WalkSource_data}

@@ -1,4 +1,4 @@
-use Rattle.std.proofs.Common.{append_assoc, ◌≡◌, ◌<◌, ◌+◌, ◌++◌, ◌∙◌, List, None, Option, ap, arith, drop, length, slice_index_or, sym, ℕ}
+use Rattle.std.proofs.Common.{append_assoc, ◌<◌, ◌+◌, ◌++◌, ◌∙◌, List, None, Option, ap, arith, drop, length, slice_index_or, sym, ℕ}
 use Rattle.rs_derive.specs.Moves.{Spot}
 use Rattle.rs_explain.specs.Walks.{WalkStep_data}
 use Rattle.rs_graph.proofs.Buckets.{got}

@@ -1,4 +1,4 @@
-use Rattle.std.proofs.Common.{◌≡◌, ◌∙◌, List, Option, ap, length}
+use Rattle.std.proofs.Common.{◌∙◌, List, Option, ap, length}
 use Rattle.rs_walk_texts.proofs.Toward.{along_length}
 use Rattle.rs_walk_texts.specs.declared.passed.TalkArm.{TalkArm}
 use Rattle.rs_walk_texts.proofs.walks.push_steps.Goals as goal

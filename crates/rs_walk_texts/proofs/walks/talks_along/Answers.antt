@@ -1,4 +1,4 @@
-use Rattle.std.proofs.Common.{◌≡◌, ◌<◌, ◌≤◌, ◌-◌, ◌∙◌, Option, ap, arith, length, slice_set, subst, sym, ℕ}
+use Rattle.std.proofs.Common.{◌<◌, ◌-◌, ◌∙◌, Option, ap, arith, length, slice_set, subst, sym}
 use Rattle.rs_derive.specs.Moves.{Spot}
 use Rattle.rs_explain.specs.Walks.{WalkStep_data}
 use Rattle.rs_graph.proofs.Buckets.{got}
