@@ -1,6 +1,6 @@
 -- Public: the order in which a run makes the acts of its transcripts: rounds, in each of which each role in order makes its next act if
 -- it can.
-use Rattle.std.specs.Prelude.{ℕ, zero, suc, ◌+◌, ◌-◌, nat_lt, List, [], ◌∷◌, ◌++◌, drop, length, map, replicate, if◌then◌else◌, Option, Some, None, slice_get, slice_index_or, slice_set}
+use Rattle.std.specs.Prelude.{ℕ, zero, suc, ◌+◌, ◌-◌, ◌==◌, nat_lt, List, [], ◌∷◌, ◌++◌, drop, length, map, replicate, if◌then◌else◌, Option, Some, None, slice_get, slice_index_or, slice_set}
 use Rattle.rs_model.specs.declared.machines.Act.{Act}
 use Rattle.rs_model.specs.declared.machines.Act.TheVariants as act
 use Rattle.rs_run_pictures.specs.declared.scenes.DrawnAct.{DrawnAct}
@@ -75,3 +75,8 @@ first_scene acts = record { left = acts; waiting = replicate (length acts) (repl
 -- acts, and each round of a run but the last draws at least one, so that none is left
 abbrev pub acts_in_rounds : (capacity : ℕ) → List (List Act) → List DrawnAct
 acts_in_rounds capacity acts = (rounds_for capacity (map (λ list. length list) acts) (first_scene acts)).drawn
+
+-- the acts of a role among those that are drawn
+abbrev pub acts_by : (role : ℕ) → List DrawnAct → List Act
+acts_by role [] = []
+acts_by role (a ∷ later) = if a.role == role then a.act ∷ acts_by role later else acts_by role later
