@@ -9,7 +9,7 @@ from typing import List
 from . import ask
 
 USAGE = """Usage: python -m rumpsteak WORD .. [FILE]
-  check, explain, verify, migrate, show, project, draw [ROLE], improve ROLE, run
+  check, explain, verify, migrate, show, project, draw [ROLE], draw --run, improve ROLE, run
 A text is read from FILE, or from standard input.
 """
 

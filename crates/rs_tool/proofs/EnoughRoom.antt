@@ -24,6 +24,11 @@ use Rattle.rs_answers.specs.declared.verdicts.Verdict.TheVariants.{Full}
 use Rattle.rs_answers.proofs.AcceptedSessions.{is_accepted}
 use Rattle.rs_tool.proofs.Headline.{no_run, refusal_is_no_run}
 use Rattle.rs_answers.proofs.OneReason.{one_session_derived}
+use Rattle.rs_answers.proofs.SomeSession.{Derived}
+use Rattle.rs_model.specs.declared.runs.Workers.TheVariants.{One}
+use Rattle.rs_run_pictures.specs.Draws.{DrawsRun}
+use Rattle.rs_run_pictures.proofs.OneRunPicture.{same_verdict}
+use Rattle.rs_runs.proofs.PoolAnswers.{some_with}
 
 -- what is told of an end with the verdict `Full` is told of a run in which no role could move
 stuck : (names : Names_data) (ms : List Machine_data) (ds : List Derivation_data) (options : RunOptions) (capacity : ℕ) (a : Answer_data) (o : Ending ℕ)
@@ -45,3 +50,11 @@ never_full options bytes d ps ms ds a within doc h f enough (runs.IsRun qs ns es
     stuck d.names ns es options (capacity_of options.ring (room_of es)) a tells.end
     (λ end p. never_stuck_shown by_draws session (actor_of options.seed) options.limit (capacity_of options.ring (room_of es)) end (is_accepted options.bound bytes d qs ns es within doc k g) room p)
     tells.plain tells.tells full
+
+-- the same of a run that is drawn, since it has the verdict of `run`
+pub drawn_never_full : (options : RunOptions) (bytes : List ℕ) (d : Document_data) (ps : List Projection_data) (ms : List Machine_data) (ds : List Derivation_data) (a : Answer_data) → IsBound options.bound
+    → SpellsDocument bytes d → HasMachines d ps ms
+    → AreCanonical options.bound ms ps ds → room_of ds ≤ capacity_of options.ring (room_of ds) → DrawsRun options d a → a.verdict ≡ Full → ⊥
+drawn_never_full options bytes d ps ms ds a within doc h f enough drawn full =
+    let told = some_with One options bytes d doc (Derived ps ms ds h f) in
+    never_full options bytes d ps ms ds told.0 within doc h f enough told.1 (sym (same_verdict options bytes d a told.0 doc drawn told.1) ∙ full)

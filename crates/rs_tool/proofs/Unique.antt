@@ -1,6 +1,5 @@
 -- Words and bytes have one answer.
-use Rattle.std.proofs.Common.{◌≡◌, ◌⊎◌, inl, inr, ℕ, ◌≤◌, ◌<◌, Option, None, arith, Bool, true, false, List, [], ◌∷◌, ◌++◌, Some, length, refl, sym, ap, subst, ◌∙◌}
-use Rattle.rs_model.specs.Data.{Names_data, Machine_data}
+use Rattle.std.proofs.Common.{◌≡◌, ◌⊎◌, inl, inr, ℕ, ◌≤◌, ◌<◌, Option, arith, Bool, true, false, List, ◌++◌, Some, length, refl, sym, ap, subst, ◌∙◌}
 use Rattle.rs_model.specs.declared.limits.TheConstants.{MOST_BYTES}
 use Rattle.rs_model.specs.declared.demos.Demo.{Demo}
 use Rattle.rs_global.proofs.Canonical.{canonical_text_is_one}

@@ -17,6 +17,7 @@ ghost use Rattle.rs_tool.specs.Hopeless.{SaysNoBoundHelps, SpellsHopelessMachine
 ghost use Rattle.rs_answers.specs.Derivations.{AreCanonical};
 ghost use Rattle.rs_answers.specs.Machines.{machines_of};
 ghost use Rattle.rs_runs.specs.Runs.{Runs, capacity_of};
+ghost use Rattle.rs_run_pictures.specs.Draws.{DrawsRun};
 ghost use Rattle.rs_answers.specs.Sessions.{HasMachines};
 ghost use Rattle.rs_model.specs.declared.runs.RunOptions.{RunOptions};
 ghost use Rattle.rs_answers.specs.declared.verdicts.Verdict.TheVariants.{Fine, Full, Refused, Stopped};
@@ -73,10 +74,15 @@ pub fn no_bound_helps_where_explain_says_so()
         → SpellsHopelessMachine bound bytes }
 {}
 
-/// A run whose queues hold as many messages as the room of the session says is never full.
+/// A run whose queues hold as many messages as the room of the session says is never full: neither that of `run` by one worker, nor
+/// the one that `draw --run` draws.
 pub fn runs_with_enough_room_are_never_full()
-    ensures { (options : RunOptions) (bytes : List ℕ) (document : Document_data) (projections : List Projection_data) (machines : List Machine_data) (derivations : List Derivation_data)
+    ensures run { (options : RunOptions) (bytes : List ℕ) (document : Document_data) (projections : List Projection_data) (machines : List Machine_data) (derivations : List Derivation_data)
         (answer : Answer_data)
         → IsBound options.bound → SpellsDocument bytes document → HasMachines document projections machines → AreCanonical options.bound machines projections derivations
         → room_of derivations ≤ capacity_of options.ring (room_of derivations) → Runs options document answer → answer.verdict ≡ Full → ⊥ }
+    ensures drawn { (options : RunOptions) (bytes : List ℕ) (document : Document_data) (projections : List Projection_data) (machines : List Machine_data) (derivations : List Derivation_data)
+        (answer : Answer_data)
+        → IsBound options.bound → SpellsDocument bytes document → HasMachines document projections machines → AreCanonical options.bound machines projections derivations
+        → room_of derivations ≤ capacity_of options.ring (room_of derivations) → DrawsRun options document answer → answer.verdict ≡ Full → ⊥ }
 {}
