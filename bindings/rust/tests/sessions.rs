@@ -82,7 +82,7 @@ fn a_shared_reference_is_enough_to_read_a_state() {
     assert_eq!(before, other.state());
     assert!(!one.has_ended() && before.peer() == Some("B"));
     a.send("last", ()).unwrap();
-    assert!(a.has_ended() && !(&b).has_ended());
+    assert!(a.has_ended() && !b.has_ended());
 }
 
 #[test]

@@ -60,6 +60,7 @@ pub fn arm(
 }
 
 /// The place of an arm with the label, if the role's state sends by one.
+#[inline(always)]
 fn place_of(endpoint: &Endpoint, label: u32) -> Option<u16>
     ensures some { IfSome result (λ place. HasArmFor endpoint.now place (numbered label)) }
     ensures none { IfNone result (HasNoArm endpoint.now label) }
@@ -70,7 +71,9 @@ fn place_of(endpoint: &Endpoint, label: u32) -> Option<u16>
     endpoint.place(Label(label as u16))
 }
 
-/// Sends the value by the arm at that place.
+/// Sends the value by the arm at that place. It is compiled once, with the endpoint's own send inside; its callers are compiled into
+/// the exports.
+#[inline(never)]
 fn post_at(endpoint: &mut Endpoint, place: u16, value: Value) -> CallStatus
     ensures { SendByTells endpoint.old place value endpoint.new result }
 {
@@ -82,6 +85,7 @@ fn post_at(endpoint: &mut Endpoint, place: u16, value: Value) -> CallStatus
 }
 
 /// Sends the value by the arm with the label.
+#[inline(always)]
 fn post(endpoint: &mut Endpoint, label: u32, value: Value) -> CallStatus
     ensures { SendTells endpoint.old label value endpoint.new result }
 {
@@ -92,6 +96,7 @@ fn post(endpoint: &mut Endpoint, label: u32, value: Value) -> CallStatus
 }
 
 /// Sends the value by the arm with the label.
+#[inline(always)]
 pub fn send(alloc: Global, endpoint: &mut EndpointHandle, label: u32, value: Value) -> CallStatus
     ensures { Changes endpoint.old.value endpoint.new.value ⊤ (λ before after. SendTells before.endpoint label value after.endpoint result × (after.last ≡ before.last)) result }
 {
