@@ -93,6 +93,7 @@ fault_verdict (on_document.Run options workers) bytes k at = refl
 fault_verdict (on_document.Improve options) bytes k at = refl
 fault_verdict (on_document.Explain bound) bytes k at = refl
 fault_verdict (on_document.Draw role) bytes k at = refl
+fault_verdict (on_document.DrawRun options) bytes k at = refl
 
 pub fault_is_no_run : (t : DocumentTask) (bytes : List ℕ) (k : TextKind) (at : ℕ) → IsNoRun (fault_answer_of t bytes k at)
 fault_is_no_run t bytes k at run = refusing_is_no_run ((fault_answer bytes k at).verdict) (fault_refuses bytes k at) (subst (λ (v : Verdict). IsOfRun (status_of v)) (fault_verdict t bytes k at) run)
