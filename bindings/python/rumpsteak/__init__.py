@@ -6,7 +6,7 @@ list of states, each of which sends to, or receives from, one other role.
 
     check(text), explain(text)    whether a text is safe, and why not
     improve(text, role)           lets a role send earlier
-    certify(text)                 searches when you build, so that a start only tests
+    certify(text), verify(text)   a certificate is made once, and tested in each build, without a search
     Session(text), its endpoints  threads or tasks of this process that talk
     Monitor(text, role)           programs that have queues of their own
     ask(word, .., text=text)      any other word of the program `rumpsteak`
@@ -14,7 +14,7 @@ list of states, each of which sends to, or receives from, one other role.
 From a shell: python -m rumpsteak check film.txt
 """
 
-from ._answers import Answer, Closed, Refused, Report, RumpsteakError, ask, certify, check, explain, improve
+from ._answers import Answer, Closed, Refused, Report, RumpsteakError, ask, certify, check, explain, improve, verify
 from ._library import CALLS as _CALLS
 from ._library import status_text
 from ._monitors import Departure, Monitor
@@ -24,7 +24,7 @@ from ._states import Arm, Sendable, State, Value
 __version__ = "0.1.0"
 __all__ = [
     "Answer", "Arm", "Closed", "Departure", "Endpoint", "Gone", "Message", "Monitor", "NotNow", "Refused", "Report", "RumpsteakError", "Sendable",
-    "Session", "State", "Value", "ask", "certify", "check", "explain", "improve", "status_text", "version",
+    "Session", "State", "Value", "ask", "certify", "check", "explain", "improve", "status_text", "verify", "version",
 ]
 for _each in (Answer, Arm, Closed, Departure, Endpoint, Gone, Message, Monitor, NotNow, Refused, Report, RumpsteakError, Session, State):
     _each.__module__ = __name__

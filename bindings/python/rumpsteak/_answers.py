@@ -38,6 +38,8 @@ class Refused(RumpsteakError):
         self.role: Optional[str] = None
         self.is_outdated = False
         lines = text.split("\n")
+        if lines[0].startswith("too large: candidates "):
+            self.role = lines[0].split()[-1]
         if status in (1, 4) and len(lines) > 1 and ": " in lines[1]:
             self.role, fault = lines[1].split(": ", 1)
             self.is_outdated = _DERIVATION_FAULT.fullmatch(fault) is not None
@@ -73,6 +75,8 @@ def bytes_of_text(text: Union[str, bytes]) -> bytes:
     if isinstance(text, os.PathLike) or (isinstance(text, str) and "\n" not in text and os.path.isfile(text)):
         name = os.fspath(text)
         raise ValueError("%r is the name of a file, and its text is wanted: read it by open(%r).read()" % (name, name))
+    if re.fullmatch(r"[\w./~-]+\.\w+", text):
+        raise ValueError("%r looks like the name of a file, and there is no such file; a text is wanted" % text)
     return text.encode()
 
 
@@ -85,7 +89,7 @@ def with_text_first(text: str, role: str) -> None:
 def ask(*words: str, text: Union[str, bytes] = "") -> Answer:
     """What the program `rumpsteak` prints if it is called with these words and reads this text, and its status.
 
-    For words without a function of their own, such as run, project, verify or show:
+    For words without a function of their own, such as run, project, draw or show:
 
     >>> print(ask("project", text="roles A, B protocol A->B:hello(nat). end").text.split(chr(10))[1])
     0 B!{hello(nat) 1}
@@ -100,7 +104,8 @@ def ask(*words: str, text: Union[str, bytes] = "") -> Answer:
 
 
 def check(text: str, bound: Optional[int] = None) -> Report:
-    """Checks the text's session: whether its machines can go wrong together. Raises Refused if they may.
+    """Checks the text's session: whether its machines can go wrong together. Raises Refused if they may. A certificate in the text is
+    ignored: `verify` tests it.
 
     No machine may put off more acts than the bound, which is 16 if none is given.
 
@@ -108,6 +113,17 @@ def check(text: str, bound: Optional[int] = None) -> Report:
     3
     """
     return _report(ask("check", *_within(bound), text=text))
+
+
+def verify(text: str) -> Report:
+    """Tests the certificate that the text has (the derivations, as `certify` makes them), and searches nothing: for a build, or a start, that
+    must not accept a text whose certificate is outdated. (`check` ignores a certificate, and searches for its own.) Raises Refused if a
+    role has no derivation, or one that is wrong; `is_outdated` then says whether it is one of another version of the text.
+
+    >>> verify(certify("roles A, B protocol A->B:hello(). end")).room
+    3
+    """
+    return _report(ask("verify", text=text))
 
 
 def explain(text: str, bound: Optional[int] = None) -> Report:

@@ -25,7 +25,7 @@ _REASONS = {
 def _own_kind(value: Sendable) -> int:
     """The kind of a value that the program's own queue carries: nothing converts it on its way, as a session does."""
     if isinstance(value, str):
-        raise TypeError("a queue of your own carries the str itself: where bytes are wanted, encode it")
+        raise TypeError("a queue of your own carries the str itself, which is no value of a message: encode it where bytes are wanted, and give an int where a number is")
     if value is not None and not isinstance(value, (int, bytes, bytearray, memoryview)):
         if not isinstance(value, (list, tuple)) or not all(type(each) is int and each in _NUMBERS for each in value):
             raise TypeError("a message has no value, or a bool, an int, bytes, or a list of ints from -2**63 to 2**63 - 1")

@@ -4,9 +4,10 @@ import asyncio
 import ctypes
 import threading
 import time
+import warnings
 from ctypes import byref, c_int64, c_size_t
 from types import TracebackType
-from typing import Dict, Iterator, List, NamedTuple, Optional, Tuple, Type
+from typing import Dict, Iterable, Iterator, List, NamedTuple, Optional, Tuple, Type
 
 from ._answers import Closed, RumpsteakError, bytes_of_text, refusal
 from ._library import (BOOL, BYTES, CALLS, CLOSED, EMPTY, FINE, FULL, GONE, HANDED_OUT, INT, KINDS, LIST, NAT, NO_MEMORY, UNIT, Handle, RawMessage,
@@ -64,7 +65,7 @@ class Session:
     def endpoint(self, role: str) -> "Endpoint":
         """The endpoint of the role, once. It lives on when the session is closed."""
         if role not in self.roles:
-            raise KeyError(role)
+            raise KeyError("the text has no role %s" % role)
         handle = Handle()
         with self._lock:
             status = CALLS["endpoint_of"](byref(self._handle), self.roles.index(role), byref(handle))
@@ -104,7 +105,8 @@ class Endpoint:
     sends to it waits for ever once the queue is full (so give a timeout, or use try_send, if peers may fail). The closed endpoint itself has
     no state any more: it raises Closed.
 
-    One thread uses an endpoint at a time. An endpoint closes itself at the end of a `with` block, or when nothing refers to it.
+    One thread uses an endpoint at a time. An endpoint closes itself at the end of a `with` block, or when nothing refers to it. If the block
+    ends without an exception before the role has ended, a RuntimeWarning says what the role still had to do.
     """
 
     def __init__(self, handle: Handle, role: str, roles: Tuple[str, ...], labels: Tuple[str, ...]) -> None:
@@ -185,8 +187,8 @@ class Endpoint:
             await asyncio.sleep(pause.next())
 
     def __iter__(self) -> Iterator[Message]:
-        """Receives messages for as long as the role's state receives. The loop also ends, with no error, where its body left out a send that was
-        due: `has_ended` tells."""
+        """Receives messages for as long as the role's state receives. The loop also ends if its body left out a send that was due: then
+        `has_ended` is False, and leaving the block `with end:` warns."""
         while self.state.receives:
             yield self.receive()
 
@@ -199,6 +201,10 @@ class Endpoint:
         return self
 
     def __exit__(self, kind: Optional[Type[BaseException]], error: Optional[BaseException], trace: Optional[TracebackType]) -> None:
+        with self._lock:
+            left = state_at(self._handle, "", self._roles, self._labels)
+        if error is None and left is not None and not left.ended:
+            warnings.warn("%s is given up before it has ended: its state is %s" % (self.role, left), RuntimeWarning, stacklevel=2)
         self.close()
 
     def __del__(self) -> None:
@@ -225,6 +231,8 @@ class Endpoint:
             if kind == BYTES:
                 data = bytes_of(value)  # type: ignore[arg-type]
                 return CALLS["send_bytes"](at, number, data, len(data))
+            if not isinstance(value, Iterable):
+                raise TypeError("a message has no value, or a bool, an int, a str, bytes, or a list of ints: this is a %s" % type(value).__name__)
             numbers: List[int] = list(value)  # type: ignore[arg-type]
             if any(kind_of(it) not in (NAT, INT) for it in numbers):
                 raise TypeError("a list of a message has numbers")

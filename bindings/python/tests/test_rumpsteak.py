@@ -57,6 +57,36 @@ class Answers(unittest.TestCase):
         for word in rumpsteak.check, rumpsteak.explain:
             self.assertRaises(Refused, word, AHEAD)
 
+    def test_a_certificate_is_verified_and_an_old_one_refused(self):
+        certified = rumpsteak.certify(RING)
+        self.assertEqual(rumpsteak.verify(certified).room, rumpsteak.check(RING).room)
+        with self.assertRaises(Refused) as caught:
+            rumpsteak.verify(RING)
+        self.assertFalse(caught.exception.is_outdated)
+        other = certified.replace("B->C:x(nat)", "B->C:x(int)")
+        with self.assertRaises(Refused) as caught:
+            rumpsteak.verify(other.replace("C!x(nat)", "C!x(int)", 1))
+        self.assertTrue(caught.exception.is_outdated)
+        self.assertIn("certify the text again", str(caught.exception))
+
+    def test_names_of_missing_files_are_no_texts(self):
+        for name in "nosuch.txt", "./films/nosuch.txt":
+            self.assertRaises(ValueError, rumpsteak.check, name)
+
+    def test_a_role_that_leaves_early_is_warned_of(self):
+        session = Session(RING)
+        with self.assertWarns(RuntimeWarning) as caught, session.endpoint("A"):
+            pass
+        self.assertIn("A is given up before it has ended: its state is B!{x(nat)}", str(caught.warning))
+        with self.assertRaises(KeyError) as missing:
+            session.endpoint("D")
+        self.assertIn("the text has no role D", str(missing.exception))
+
+    def test_values_of_other_types_are_refused(self):
+        end = Session(VALUES).endpoint("A")
+        for value in 1.5, object():
+            self.assertRaises(TypeError, end.send, "numbers", value)
+
     def test_statuses_are_sentences(self):
         self.assertEqual(rumpsteak.status_text(19), "the queue is full")
         self.assertEqual([rumpsteak.status_text(status) for status in (7, -1, 1 << 32)], ["status 7", "status -1", "status 4294967296"])
@@ -87,9 +117,9 @@ class Answers(unittest.TestCase):
                     with self.assertRaises(ValueError) as caught:
                         call(name)
                     self.assertIn("read it by open(%r).read()" % path, str(caught.exception))
-            with self.assertRaises(Refused) as caught:
+            with self.assertRaises(ValueError) as caught:
                 rumpsteak.check(path + ".old")
-            self.assertEqual(caught.exception.kind, "malformed")
+            self.assertIn("there is no such file", str(caught.exception))
             with open(path) as file:
                 rumpsteak.check(file.read())
 

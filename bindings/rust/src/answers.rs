@@ -125,6 +125,20 @@ pub fn certify(text: &str) -> Result<String, Refusal> {
     }
 }
 
+/// Tests the certificate that the text has (the derivations, as [`certify`] makes them), and searches nothing: for a build, or a start,
+/// that must not accept a text whose certificate is outdated. ([`check`] ignores a certificate, and searches for its own.) If a role has no
+/// derivation, or a wrong one, the text is refused; [`Refusal::is_outdated`] says whether it is one of another version of the text.
+///
+/// ```
+/// let text = "roles A, B protocol B->A:x(). A->B:y(). end machine A: B!y(). B?x(). end";
+/// assert!(rumpsteak::verify(&rumpsteak::certify(text)?).is_ok());
+/// assert!(rumpsteak::verify(text).is_err());
+/// # Ok::<(), rumpsteak::Refusal>(())
+/// ```
+pub fn verify(text: &str) -> Result<Report, Refusal> {
+    report(ask(&["verify"], text))
+}
+
 /// Moves sends of the role ahead of its receives, as often as `swaps` says: the document with the machine that results, and with a
 /// derivation of each role.
 ///

@@ -11,7 +11,7 @@
 //! |---|---|
 //! | to know whether a text is safe, and why not | [`check`], [`explain`] |
 //! | to let a role send earlier | [`improve`] |
-//! | to search when you build, and only test the result at the start | [`certify`] |
+//! | to search once, and only test the stored certificate in each build | [`certify`], [`verify`] |
 //! | threads of this process that talk | [`Session`], [`Endpoint`] |
 //! | programs that have queues of their own | [`Monitor`] |
 //! | any other word of the program `rumpsteak` | [`ask`] |
@@ -72,7 +72,7 @@ mod sessions;
 mod states;
 mod values;
 
-pub use answers::{ask, certify, check, check_within, explain, explain_within, improve, status_text, Answer, Refusal, RefusalKind, Report};
+pub use answers::{ask, certify, check, check_within, explain, explain_within, improve, status_text, verify, Answer, Refusal, RefusalKind, Report};
 pub use endpoints::{ActError, Endpoint, Message, OwnedMessage, TrySendError};
 pub use monitors::{Departure, Monitor, Reason};
 pub use names::{AsLabel, AsRole, Label, Role};
